@@ -4,7 +4,7 @@ use Rattle.std.proofs.lemmas.List.{map-append}
 use Rattle.std.proofs.Math.Bool.{or-false}
 use Rattle.nbd_wire.specs.declared.commands.TheConstants as commands
 use Rattle.nbd_wire.specs.declared.message.Message.{Message}
-use Rattle.nbd_wire.specs.declared.message.Message.TheVariants.{Greeting, ClientFlags, Choice, Answer, Exported, Request, Simple, Chunk}
+use Rattle.nbd_wire.specs.declared.message.Message.TheVariants.{Greeting, ClientFlags, Choice, Answer, Exported, Request, Simple, Chunk, ExtendedRequest, ExtendedChunk}
 use Rattle.nbd_wire.specs.declared.profile.Profile.{Profile}
 use Rattle.nbd_wire.specs.protocol.Marks.{Item, Byte, Starts, Completes, Serves, completed_messages}
 use Rattle.nbd_wire.specs.protocol.Operations as definitions
@@ -17,9 +17,9 @@ use Rattle.nbd_state.specs.declared.asked.Outcome.{Outcome}
 use Rattle.nbd_state.specs.declared.asked.Outcome.TheVariants.{Failure, Pending, Success}
 use Rattle.nbd_laws.proofs.requests.OutstandingLemmas.{AreDistinct, Free, both_true, distinct_complete, not_true_is_false}
 use Rattle.nbd_laws.proofs.runs.ProfileLemmas.{at_base}
-use Rattle.nbd_explain.specs.Named.{AreNamed, IsEnding, is_numbered, message_of}
+use Rattle.nbd_explain.specs.Named.{AreNamed, IsEnding, is_numbered, message_of, plain}
 use Rattle.nbd_explain.specs.Named.AreNamed.{none as no_names, other, request}
-use Rattle.nbd_explain.specs.internal.Fates.{AreLines, EndsWith, fate, has_cookie, outcome_by, reply_in}
+use Rattle.nbd_explain.specs.internal.Fates.{AreLines, EndsWith, fate, fate_by, has_cookie, outcome_by, reply_in}
 use Rattle.nbd_explain.specs.internal.Fates.AreLines.{named, none}
 
 -- the reply of a request: what has come of it, and what comes of it in these messages
@@ -39,7 +39,7 @@ told messages e = (request_of e, outcome_with (whole_reply messages e))
 
 -- the numbered requests of these messages, each with what became of it
 abbrev told_if : Message → Option Outcome → List (Message × definitions.Outcome)
-told_if m (Some o) = (m, outcome_of o) ∷ []
+told_if m (Some o) = (plain m, outcome_of o) ∷ []
 told_if m None = []
 
 abbrev all_told : List Message → List (Message × definitions.Outcome)
@@ -134,15 +134,15 @@ module _ (m : Message) (later : List Message) where
         ap (λ o. map (told later) (reply_to o core m).entries) found ∙ r.2
 
 -- a new request
-requested : (b : Bool) (core : Core) (e : Operation) (later : List Message) → e.replies ≡ [] →
+requested : (b : Bool) (core : Core) (m : Message) (e : Operation) (later : List Message) → plain m ≡ request_of e → e.replies ≡ [] →
     map (told later) (core_with_request b core e).entries ++ all_told later
-    ≡ map (told later) core.entries ++ (told_if (request_of e) (if b then None else Some (outcome_by (reply_in e.cookie later))) ++ all_told later)
-requested true core e later h = refl
-requested false core e later h =
+    ≡ map (told later) core.entries ++ (told_if m (if b then None else Some (outcome_by (reply_in e.cookie later))) ++ all_told later)
+requested true core m e later same h = refl
+requested false core m e later same h =
     let outcome_is : outcome_with (whole_reply later e) ≡ outcome_of (outcome_by (reply_in e.cookie later)) =
     ap (λ r. outcome_with (r ++ (if any ends_reply r then [] else reply_in e.cookie later))) h ∙ sym (same_outcome (reply_in e.cookie later)) in
     ap (λ l. l ++ all_told later) (map-append (told later) core.entries (e ∷ [])) ∙ append_assoc (map (told later) core.entries) (told later e ∷ []) (all_told later)
-    ∙ ap (λ o. map (told later) core.entries ++ ((request_of e, o) ∷ all_told later)) outcome_is
+    ∙ (λ i. map (told later) core.entries ++ ((sym same i, outcome_is i) ∷ all_told later))
 
 step : (core : Core) (phase : Phase) (m : Message) (later : List Message) → MayComplete core phase m → AreDistinct core.entries →
     map (told later) (complete core m).entries ++ all_told later ≡ map (told (m ∷ later)) core.entries ++ all_told (m ∷ later)
@@ -153,12 +153,17 @@ step core phase (Choice id p) later ok d = ap (λ l. l ++ all_told later) (sym (
 step core phase (Answer option kind p) later ok d = ap (λ l. l ++ all_told later) (sym (all_unheard (Answer option kind p) later (λ cookie. refl) core.entries))
 step core phase (Exported size flags padded) later ok d = ap (λ l. l ++ all_told later) (sym (all_unheard (Exported size flags padded) later (λ cookie. refl) core.entries))
 step core phase (Request flags command cookie offset len p) later ok d =
-    requested (command == commands.DISC) core _ later refl
+    requested (command == commands.DISC) core (Request flags command cookie offset len p) _ later refl refl
     ∙ ap (λ l. l ++ all_told (Request flags command cookie offset len p ∷ later)) (sym (all_unheard (Request flags command cookie offset len p) later (λ cookie. refl) core.entries))
+step core phase (ExtendedRequest flags command cookie offset len p) later ok d =
+    requested (command == commands.DISC) core (ExtendedRequest flags command cookie offset len p) _ later refl refl
+    ∙ ap (λ l. l ++ all_told (ExtendedRequest flags command cookie offset len p ∷ later)) (sym (all_unheard (ExtendedRequest flags command cookie offset len p) later (λ cookie. refl) core.entries))
 step core (Transmission export) (Simple error cookie p) later ok d = ap (λ l. l ++ all_told later) (answered (Simple error cookie p) later cookie refl core ok.0 d ok.2)
 step core phase (Simple error cookie p) later ok d = absurd ok
 step core (Transmission export) (Chunk flags kind cookie p) later ok d = ap (λ l. l ++ all_told later) (answered (Chunk flags kind cookie p) later cookie refl core ok.0 d ok.2)
 step core phase (Chunk flags kind cookie p) later ok d = absurd ok
+step core (Transmission export) (ExtendedChunk flags kind cookie offset p) later ok d = ap (λ l. l ++ all_told later) (answered (ExtendedChunk flags kind cookie offset p) later cookie refl core ok.0 d ok.2)
+step core phase (ExtendedChunk flags kind cookie offset p) later ok d = absurd ok
 
 -- a request as it stands
 abbrev as_it_is : Operation → Message × definitions.Outcome
@@ -197,12 +202,16 @@ reported {profile} items run =
     ∙ followed (start_of profile) items run.obeys tt
 
 -- a message with a fate has a number
-has_fate : (m : Message) (later : List Message) → is_some (fate m later) ≡ is_numbered m
-has_fate (Request flags command cookie offset len p) later = go (command == commands.DISC)
+has_fate_by : (command cookie : ℕ) (later : List Message) → is_some (fate_by command cookie later) ≡ not (command == commands.DISC)
+has_fate_by command cookie later = go (command == commands.DISC)
   where
     go : (b : Bool) → is_some (if b then None else Some (outcome_by (reply_in cookie later))) ≡ not b
     go true = refl
     go false = refl
+
+has_fate : (m : Message) (later : List Message) → is_some (fate m later) ≡ is_numbered m
+has_fate (Request flags command cookie offset len p) later = has_fate_by command cookie later
+has_fate (ExtendedRequest flags command cookie offset len p) later = has_fate_by command cookie later
 has_fate m later = refl
 
 -- lines that say what became of the messages say what the requests of a report state
@@ -218,10 +227,9 @@ named_by (named m later words ending rest feed end tail) asked e = go (fate m la
     go None f end asked e ih = subst (λ t. AreNamed (m ∷ later) asked (text t)) (sym end) (other m later asked words rest (sym (has_fate m later) ∙ ap is_some f) feed (ih asked e))
     go (Some o) f end [] e ih = absurd (cc)
     go (Some o) f end (a ∷ asked) e ih =
-        let first : stated a ≡ (m, outcome_of o) = cc in
+        let first : stated a ≡ (plain m, outcome_of o) = cc in
         let others : map stated asked ≡ all_told later = cc in
-        subst (λ x. AreNamed (x ∷ later) (a ∷ asked) (text ending)) (ap (λ p. p.0) first)
-        (request a later asked words ending rest feed (subst (λ x. IsEnding x ending) (sym (ap (λ p. p.1) first)) end) (ih asked others))
+        request a m later asked words ending rest (sym (ap (λ p. p.0) first)) feed (subst (λ x. IsEnding x ending) (sym (ap (λ p. p.1) first)) end) (ih asked others)
 
 -- and so does the report of a run with open bytes in which the messages complete
 pub named_by_report : {profile : Profile} {messages : List Message} {lines : List ℕ} → AreLines messages lines → (items : List Item) {client server : List ℕ} → IsRunBut profile items client server → completed_messages items ≡ messages →

@@ -4,12 +4,12 @@ use Rattle.std.specs.List.{list_any}
 use Rattle.std.specs.Io.KnownBytes.{Appends, Keeps}
 use Rattle.nbd_wire.specs.declared.commands.TheConstants as commands
 use Rattle.nbd_wire.specs.declared.message.Message.{Message}
-use Rattle.nbd_wire.specs.declared.message.Message.TheVariants.{Request}
+use Rattle.nbd_wire.specs.declared.message.Message.TheVariants.{Request, ExtendedRequest}
 use Rattle.nbd_wire.specs.declared.profile.Profile.{Profile}
 use Rattle.nbd_wire.specs.protocol.Marks.{Item, completed_messages}
 use Rattle.nbd_wire.specs.protocol.Operations.{Outcome, Success, Failure, Pending}
 use Rattle.nbd_wire.specs.protocol.Reports.{Asked, report}
-use Rattle.nbd_wire.specs.protocol.Rules.{IsRunBut}
+use Rattle.nbd_wire.specs.protocol.Rules.{IsRunBut, written}
 use Rattle.nbd_capture.specs.Capture.{Chunk, IsCaptureText}
 use Rattle.nbd_capture.specs.Lines.{line_feed}
 use Rattle.nbd_lines.specs.declared.fault.RunFault.{RunFault}
@@ -20,11 +20,18 @@ use Rattle.nbd_tool.specs.Shown.{IsShown}
 -- a request with a number: each but DISC
 abbrev pub is_numbered : Message → Bool
 is_numbered (Request flags command cookie offset length payload) = not (command == commands.DISC)
+is_numbered (ExtendedRequest flags command cookie offset length payload) = not (command == commands.DISC)
 is_numbered _ = false
 
--- the message of a request that a report states
+-- the message of a request that a report states, if it has no extended header
 abbrev pub message_of : Asked → Message
 message_of a = Request a.flags a.command a.cookie a.offset a.length a.payload
+
+-- a request without its extended header, and with the payload of a WRITE alone
+abbrev pub plain : Message → Message
+plain (ExtendedRequest flags command cookie offset length payload) =
+    Request flags command cookie offset length (written command payload)
+plain m = m
 
 -- a line feed stands in the text
 abbrev pub has_feed : List ℕ → Bool
@@ -40,9 +47,9 @@ IsEnding Failure text = (error : List ℕ) × (text ≡ codes ": failure, " ++ e
 -- requests state it
 pub data AreNamed : List Message → List Asked → List ℕ → Type 0 where
   none : AreNamed [] [] []
-  request : (a : Asked) (later : List Message) (asked : List Asked) (words ending rest : List ℕ)
-      → has_feed words ≡ false → IsEnding a.outcome ending → AreNamed later asked rest
-      → AreNamed (message_of a ∷ later) (a ∷ asked) (words ++ (ending ++ (codes "\n" ++ rest)))
+  request : (a : Asked) (m : Message) (later : List Message) (asked : List Asked) (words ending rest : List ℕ)
+      → plain m ≡ message_of a → has_feed words ≡ false → IsEnding a.outcome ending → AreNamed later asked rest
+      → AreNamed (m ∷ later) (a ∷ asked) (words ++ (ending ++ (codes "\n" ++ rest)))
   other : (m : Message) (later : List Message) (asked : List Asked) (words rest : List ℕ)
       → is_numbered m ≡ false → has_feed words ≡ false → AreNamed later asked rest
       → AreNamed (m ∷ later) asked (words ++ (codes "\n" ++ rest))

@@ -44,6 +44,11 @@ fn fate_of(message: &Message, replies: &BTreeMap<u64, Reply>) -> Option<Outcome>
             command,
             cookie,
             ..
+        }
+        | Message::ExtendedRequest {
+            command,
+            cookie,
+            ..
         } if *command != commands::DISC => Some(outcome_of(reply_in(replies, *cookie))),
         _ => None,
     }
@@ -99,7 +104,9 @@ fn cookie_of(message: &Message) -> Option<u64>
     ensures { result ≡ cookie_of message.now }
 {
     match message {
-        Message::Simple { cookie, .. } | Message::Chunk { cookie, .. } => Some(*cookie),
+        Message::Simple { cookie, .. }
+        | Message::Chunk { cookie, .. }
+        | Message::ExtendedChunk { cookie, .. } => Some(*cookie),
         _ => None,
     }
 }
@@ -111,7 +118,9 @@ fn ends_reply(message: &Message) -> bool
 {
     match message {
         Message::Simple { .. } => true,
-        Message::Chunk { flags, .. } => has(*flags, chunks::DONE),
+        Message::Chunk { flags, .. } | Message::ExtendedChunk { flags, .. } => {
+            has(*flags, chunks::DONE)
+        }
         _ => false,
     }
 }
@@ -123,7 +132,9 @@ fn is_failing(message: &Message) -> bool
 {
     match message {
         Message::Simple { error, .. } => *error != 0,
-        Message::Chunk { kind, .. } => *kind >= chunks::FIRST_ERROR,
+        Message::Chunk { kind, .. } | Message::ExtendedChunk { kind, .. } => {
+            *kind >= chunks::FIRST_ERROR
+        }
         _ => false,
     }
 }

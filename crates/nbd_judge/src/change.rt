@@ -60,7 +60,7 @@ fn served(one: &Asked, part: Option<Part>) -> Span
         },
         None => Span {
             offset: one.offset,
-            size: u64::from(one.length),
+            size: one.length,
         },
     }
 }

@@ -115,7 +115,7 @@ fn piece_difference<C: Contents>(piece: &Piece, contents: &mut C) -> Option<u64>
 {
     match piece {
         Piece::Bytes { offset, bytes } => contents.differs(*offset, bytes.as_slice()),
-        Piece::Hole { offset, size } => contents.differs_zero(*offset, *size as u64),
+        Piece::Hole { offset, size } => contents.differs_zero(*offset, *size),
     }
 }
 

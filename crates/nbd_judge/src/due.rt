@@ -52,7 +52,7 @@ pub fn inside(transcript: &Transcript, one: &Asked) -> Span
     if one.has_inside() && one.offset < size {
         Span {
             offset: one.offset,
-            size: u64::from(one.length).min(size - one.offset),
+            size: one.length.min(size - one.offset),
         }
     } else {
         Span { offset: 0, size: 0 }

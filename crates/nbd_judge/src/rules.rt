@@ -59,7 +59,8 @@ fn sentence_of(fault: WireFault) -> &'static str {
             "An option reply repeats the number of the option that the client chose.",
         WireFault::BadReplyKind =>
             "An option is answered only by the kinds of reply that it takes.",
-        WireFault::OutOfProfile => "The server granted an option that nbdcheck does not follow.",
+        WireFault::OutOfProfile =>
+            "The server granted an option that nbdcheck does not follow, or an extended header says more than it follows.",
         WireFault::BadReplyPayload =>
             "The data of an option reply has the form of its kind, an info on the export has HAS_FLAGS, and block sizes are such as a server may announce.",
         WireFault::MissingExportInfo =>
@@ -86,6 +87,8 @@ fn sentence_of(fault: WireFault) -> &'static str {
         WireFault::BadDisconnect => "DISC has neither an offset nor a length.",
         WireFault::IncompleteStatus =>
             "The reply to a BLOCK_STATUS that succeeds has the status of each metadata context in force.",
+        WireFault::BadReplyOffset =>
+            "A chunk with an extended header has the offset of the request that it answers.",
         WireFault::Unfinished => "The capture has each message that began to its last byte.",
     }
 }
@@ -104,6 +107,7 @@ fn section_of(fault: WireFault) -> &'static str {
         WireFault::OutOfProfile
         | WireFault::ExportTooLarge
         | WireFault::SuccessOfImproper
+        | WireFault::BadReplyOffset
         | WireFault::Unfinished => CHOICE,
         WireFault::BadReplyPayload =>
             "proto.md, \"Option reply types\", \"Transmission flags\", \"Size constraints\"",

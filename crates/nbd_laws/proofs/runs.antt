@@ -4,6 +4,7 @@ pub mod BegunLemmas
 pub mod BlockLemmas
 pub mod CanonLemmas
 pub mod FollowLemmas
+pub mod GrantedLemmas
 pub mod CutLemmas
 pub mod NegotiationLemmas
 pub mod OpenByteLemmas

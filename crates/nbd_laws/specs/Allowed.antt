@@ -66,11 +66,11 @@ MayAnswer profile option payload info kind answer =
 abbrev pub IsFreshFor : ℕ → Selection → Context → Type 0
 IsFreshFor option selection context = option ≡ options.SET_META_CONTEXT → has_id selection.contexts context.id ≡ false
 
--- an option reply of success to a proper LIST_META_CONTEXT or SET_META_CONTEXT, where this was selected before it: an
--- empty ACK, or a context (proto.md, "Option types", "Option reply types")
+-- an option reply of success to a proper LIST_META_CONTEXT, SET_META_CONTEXT or EXTENDED_HEADERS, where this was
+-- selected before it: an empty ACK, or to the first two a context (proto.md, "Option types", "Option reply types")
 abbrev pub MayTell : Selection → (option : ℕ) (payload : List ℕ) (kind : ℕ) (answer : List ℕ) → Type 0
 MayTell selection option payload kind answer =
-    ((option ≡ options.LIST_META_CONTEXT) ⊎ (option ≡ options.SET_META_CONTEXT))
+    ((option ≡ options.LIST_META_CONTEXT) ⊎ (option ≡ options.SET_META_CONTEXT) ⊎ (option ≡ options.EXTENDED_HEADERS))
     × IsTrue (is_proper_option option payload)
     × ((kind ≡ answers.ACK) × (answer ≡ [])
     ⊎ (kind ≡ answers.META_CONTEXT) × IsTrue (takes_contexts option payload)
@@ -139,12 +139,14 @@ IsStatus e status =
 abbrev pub IsFailure : Operation → Failure → Type 0
 IsFailure e failure = (x : ℕ) → failure.offset ≡ Some x → IsTrue (is_in e.offset e.length x)
 
--- the payload of a chunk has the form of its type: NONE is empty and the last of its reply, a content
--- chunk, a status chunk and an error chunk fit the request; in Wide an error chunk of an unknown type has the form of
--- ERROR (proto.md, "Structured reply types")
-abbrev pub IsChunk : Profile → Exporting → Operation → (flags kind : ℕ) (payload : List ℕ) → Type 0
-IsChunk profile export e flags kind payload =
+-- the payload of a chunk has the form of its type: NONE is empty and the last of its reply, and content, an error and,
+-- without an extended header, a status fit the request; in Wide an error chunk of an unknown type has the form of ERROR
+-- (proto.md, "Structured reply types")
+abbrev pub IsChunk : Profile → (extended : Bool) → Exporting → Operation → (flags kind : ℕ) (payload : List ℕ)
+    → Type 0
+IsChunk profile extended export e flags kind payload =
     (kind ≡ chunks.NONE) × (payload ≡ []) × IsTrue (has flags chunks.DONE)
     ⊎ ((piece : Piece) × (content_of kind payload ≡ Some piece) × IsContent export e piece)
     ⊎ ((failure : Failure) × (failure_of (read_as profile kind) payload ≡ Some failure) × IsFailure e failure)
-    ⊎ (kind ≡ chunks.BLOCK_STATUS) × ((status : Status) × (status_of payload ≡ Some status) × IsStatus e status)
+    ⊎ (extended ≡ false) × (kind ≡ chunks.BLOCK_STATUS)
+    × ((status : Status) × (status_of payload ≡ Some status) × IsStatus e status)

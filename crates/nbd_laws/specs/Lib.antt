@@ -4,6 +4,7 @@ pub mod Awaited
 pub mod Bytes
 pub mod Cuts
 pub mod Explaining
+pub mod Granting
 pub mod Marking
 pub mod Moments
 pub mod Negotiating

@@ -13,7 +13,7 @@ use Rattle.nbd_wire.specs.protocol.Operations.{is_error_chunk}
 use Rattle.nbd_wire.specs.declared.chunks.TheConstants as chunks
 use Rattle.nbd_wire.specs.declared.magics.TheConstants as magics
 use Rattle.nbd_wire.specs.protocol.Captures.{ArePairs}
-use Rattle.nbd_wire.specs.protocol.Negotiation.{is_on_contexts}
+use Rattle.nbd_wire.specs.protocol.Negotiation.{extends}
 use Rattle.nbd_wire.specs.protocol.Reading.{by_tests, Reader, fresh_of, reads}
 use Rattle.nbd_wire.specs.protocol.Marks.{pairs, without_service}
 use Rattle.nbd_wire.specs.protocol.Reports.{Asked, Report, asked_at, due_in, report}
@@ -57,11 +57,11 @@ BaseIsWide = (capture : List Pair) (order : List Entry) (initial : Start)
     (explained : IsExplainedOf Base capture order initial) → All AnnouncesAllowed (completed_messages explained.items)
     → IsExplainedOf Wide capture order initial
 
--- a server's bytes hold the head of an answer of success to an option on metadata contexts
-abbrev pub IsContextHead : Phase → List ℕ → Type 0
-IsContextHead (Answering option payload info) bytes =
-    IsTrue (is_on_contexts option) × (head_lengths.ANSWER ≤ length bytes) × (is_error (number_at 12 4 bytes) ≡ false)
-IsContextHead phase bytes = ⊥
+-- a server's bytes hold the head of an answer of success to an option that Wide alone follows
+abbrev pub IsExtendingHead : Phase → List ℕ → Type 0
+IsExtendingHead (Answering option payload info) bytes =
+    IsTrue (extends option) × (head_lengths.ANSWER ≤ length bytes) × (is_error (number_at 12 4 bytes) ≡ false)
+IsExtendingHead phase bytes = ⊥
 
 -- a server's bytes are a whole answer that announces block sizes which a server may not announce
 abbrev pub IsFalseAnnouncement : Phase → List ℕ → Type 0
@@ -71,17 +71,23 @@ IsFalseAnnouncement (Answering option payload info) bytes =
     × (are_allowed sizes ≡ false))
 IsFalseAnnouncement phase bytes = ⊥
 
--- a server's bytes are a whole chunk of an error's type that is neither ERROR nor ERROR_OFFSET
+-- bytes that begin with this number are a message of this length, and a chunk of an error's type that is neither ERROR
+-- nor ERROR_OFFSET
+abbrev pub IsUnknownErrorOf : (magic len : ℕ) → List ℕ → Type 0
+IsUnknownErrorOf magic len bytes =
+    IsTrue (begins magic bytes) × (length bytes ≡ len) × IsTrue (is_error_chunk (number_at 6 2 bytes))
+    × (number_at 6 2 bytes ≢ chunks.ERROR) × (number_at 6 2 bytes ≢ chunks.ERROR_OFFSET)
+
+-- a server's bytes are such a chunk, with an extended header or not
 abbrev pub IsUnknownError : Phase → List ℕ → Type 0
 IsUnknownError (Transmission export) bytes =
-    IsTrue (begins magics.CHUNK_MAGIC bytes) × (length bytes ≡ head_lengths.CHUNK + number_at 16 4 bytes)
-    × IsTrue (is_error_chunk (number_at 6 2 bytes))
-    × (number_at 6 2 bytes ≢ chunks.ERROR) × (number_at 6 2 bytes ≢ chunks.ERROR_OFFSET)
+    IsUnknownErrorOf magics.CHUNK_MAGIC (head_lengths.CHUNK + number_at 16 4 bytes) bytes
+    ⊎ IsUnknownErrorOf magics.EXTENDED_CHUNK_MAGIC (head_lengths.EXTENDED_CHUNK + number_at 24 8 bytes) bytes
 IsUnknownError phase bytes = ⊥
 
 -- the profiles may take these bytes of the server differently
 abbrev pub IsParting : Phase → List ℕ → Type 0
-IsParting phase bytes = IsContextHead phase bytes ⊎ IsFalseAnnouncement phase bytes ⊎ IsUnknownError phase bytes
+IsParting phase bytes = IsExtendingHead phase bytes ⊎ IsFalseAnnouncement phase bytes ⊎ IsUnknownError phase bytes
 
 -- from this reader on, no byte of the server makes its bytes such
 abbrev pub NothingFrom : Reader → List Pair → Type 0

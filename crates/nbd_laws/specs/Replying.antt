@@ -5,7 +5,7 @@ use Rattle.std.specs.Prelude.{◌≡◌, ◌⊎◌, ℕ, List, [], ◌∷◌, �
 use Rattle.nbd_wire.specs.declared.chunks.TheConstants as chunks
 use Rattle.nbd_wire.specs.declared.commands.TheConstants as commands
 use Rattle.nbd_wire.specs.declared.message.Message.{Message}
-use Rattle.nbd_wire.specs.declared.message.Message.TheVariants.{Simple, Chunk}
+use Rattle.nbd_wire.specs.declared.message.Message.TheVariants.{Simple, Chunk, ExtendedChunk}
 use Rattle.nbd_wire.specs.declared.payloads.Failure.{Failure}
 use Rattle.nbd_wire.specs.declared.payloads.Piece.{Piece}
 use Rattle.nbd_wire.specs.declared.profile.Profile.{Profile}
@@ -22,13 +22,14 @@ use Rattle.nbd_wire.specs.protocol.Transmission.{read_as}
 
 -- a chunk to this request: an empty one with DONE, content of a READ, an error in its range, or the status of a context
 -- that is in force for a BLOCK_STATUS
-abbrev pub FitsRequest : Profile → Operation → (flags kind : ℕ) (payload : List ℕ) → Type 0
-FitsRequest profile e flags kind payload =
+abbrev pub FitsRequest : Profile → (extended : Bool) → Operation → (flags kind : ℕ) (payload : List ℕ) → Type 0
+FitsRequest profile extended e flags kind payload =
     (kind ≡ chunks.NONE) × (payload ≡ []) × IsTrue (has flags chunks.DONE)
     ⊎ ((piece : Piece) × (content_of kind payload ≡ Some piece) × (e.command ≡ commands.READ))
     ⊎ ((failure : Failure) × (failure_of (read_as profile kind) payload ≡ Some failure)
     × ((x : ℕ) → failure.offset ≡ Some x → IsTrue (is_in e.offset e.length x)))
-    ⊎ (kind ≡ chunks.BLOCK_STATUS) × ((status : Status) × (status_of payload ≡ Some status) × IsStatus e status)
+    ⊎ (extended ≡ false) × (kind ≡ chunks.BLOCK_STATUS)
+    × ((status : Status) × (status_of payload ≡ Some status) × IsStatus e status)
 
 -- where the last message of the reply to a BLOCK_STATUS has come, none states a failure and the length is not 0, each
 -- context in force has its status (proto.md, "Structured reply types")
@@ -37,13 +38,18 @@ TellsAllAtEnd e m = IsTrue (ends_reply m) → has_failed (with_reply e m) ≡ fa
     → e.command ≡ commands.BLOCK_STATUS → e.length ≢ 0 → IsTrue (tells_all (statuses (with_reply e m)) e.contexts)
 
 -- a simple reply comes alone, not to a READ where structured replies are in force, and not as the success of a
--- BLOCK_STATUS of a context in force; a chunk needs structured replies
+-- BLOCK_STATUS of a context in force; a chunk needs structured replies, and one with an extended header has the offset
+-- of its request
 abbrev pub IsReplyAfter : Profile → (structured : Bool) → Operation → (prefix : List Message) → Message → Type 0
 IsReplyAfter profile structured e prefix (Simple error cookie payload) =
     (prefix ≡ []) × (e.command ≡ commands.READ → structured ≡ false) × (IsTrue (asks_status e) → error ≢ 0)
 IsReplyAfter profile structured e prefix (Chunk flags kind cookie payload) =
-    (structured ≡ true) × FitsRequest profile (record e { replies = prefix }) flags kind payload
+    (structured ≡ true) × FitsRequest profile false (record e { replies = prefix }) flags kind payload
     × TellsAllAtEnd (record e { replies = prefix }) (Chunk flags kind cookie payload)
+IsReplyAfter profile structured e prefix (ExtendedChunk flags kind cookie offset payload) =
+    (structured ≡ true) × FitsRequest profile true (record e { replies = prefix }) flags kind payload
+    × TellsAllAtEnd (record e { replies = prefix }) (ExtendedChunk flags kind cookie offset payload)
+    × (offset ≡ e.offset)
 IsReplyAfter profile structured e prefix _ = ⊥
 
 -- a reply between others: it has the request's cookie, and none comes after the one that ends the reply

@@ -34,8 +34,8 @@ Names id payload name =
     ⊎ (id ≡ options.GO) × ((count : ℕ) × HasGoForm name count payload)
 
 -- these contexts were selected by the last SET_META_CONTEXT: an ACK ended its answer, which told just them, it was for
--- the export that the last option names, and structured replies were in force when that was chosen (proto.md, "Metadata
--- querying", "Option types")
+-- the export that the last option names, and structured replies were in force when that was chosen, by an ACK to
+-- STRUCTURED_REPLY or EXTENDED_HEADERS (proto.md, "Metadata querying", "Option types")
 pub record AreSelected (messages : List Message) (contexts : List Context) : Type 0 where
   pub early : List Message
   pub asked : List ℕ
@@ -54,7 +54,9 @@ pub record AreSelected (messages : List Message) (contexts : List Context) : Typ
   pub names : Names id payload name
   pub before : List Message
   pub after : List Message
-  pub structured : early ++ between ≡ before ++ Answer options.STRUCTURED_REPLY answers.ACK [] ∷ after
+  pub granting : ℕ
+  pub grants : (granting ≡ options.STRUCTURED_REPLY) ⊎ (granting ≡ options.EXTENDED_HEADERS)
+  pub structured : early ++ between ≡ before ++ Answer granting answers.ACK [] ∷ after
 
 -- each of these requests was asked while these contexts were in force
 abbrev pub AreAskedWith : List Context → List Operation → Type 0

@@ -1,6 +1,7 @@
 //! Laws over the definitions of nbd_wire: each is the contract of a function that does nothing.
 ghost use Rattle.nbd_laws.specs.Soundness.{ReportsAreSound};
 ghost use Rattle.nbd_laws.specs.Announcing.{SizesAreAnnounced};
+ghost use Rattle.nbd_laws.specs.Granting.{HeadersAreGranted};
 ghost use Rattle.nbd_laws.specs.Bytes.{OpenBytesEndRuns, RunsHoldEachSide};
 ghost use Rattle.nbd_laws.specs.Prefixes.{CompletionsStandAfterBytes, PrefixesAreRuns, NoProperPrefix, StartsStandBeforeBytes};
 ghost use Rattle.nbd_laws.specs.Cuts.{CutsDoNotCount};
@@ -175,6 +176,12 @@ pub fn contexts_are_selected()
 /// none otherwise.
 pub fn sizes_are_announced()
     ensures { SizesAreAnnounced }
+{}
+
+/// Extended headers are in force where an ACK answered EXTENDED_HEADERS before, and nowhere else: no error, no other option and no
+/// later answer begins or ends them.
+pub fn headers_are_granted()
+    ensures { HeadersAreGranted }
 {}
 
 /// The metadata contexts stay as they are in transmission: each request was asked while those were in force that are at the end.

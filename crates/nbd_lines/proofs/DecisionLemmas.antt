@@ -10,13 +10,14 @@ use Rattle.hex.specs.Hex.{decode_of}
 use Rattle.hex.specs.declared.error.FromHexError.{FromHexError}
 use Rattle.nbd_wire.specs.declared.message.Message.{Message}
 use Rattle.nbd_wire.specs.declared.message.Message.TheVariants as messages
+use Rattle.nbd_wire.specs.protocol.Sendable.{carries_payload}
 use Rattle.nbd_wire.specs.codec.Fits.{FitsItsHead}
 use Rattle.nbd_wire.specs.declared.commands.TheConstants.{WRITE}
 use Rattle.nbd_capture.specs.Capture.{hash, space}
 use Rattle.nbd_capture.proofs.TotalTextLemmas.{Decided}
 use Rattle.nbd_lines.specs.declared.forms.Field.{Field}
 use Rattle.nbd_lines.specs.declared.forms.Form.{Form}
-use Rattle.nbd_lines.specs.declared.forms.Form.TheVariants.{Greeting, ClientFlags, Choice, Answer, Exported, Request, Simple, Chunk}
+use Rattle.nbd_lines.specs.declared.forms.Form.TheVariants.{Greeting, ClientFlags, Choice, Answer, Exported, Request, Simple, Chunk, ExtendedRequest, ExtendedChunk}
 use Rattle.nbd_lines.specs.Line.{AreWithin, IsEnd, IsMessageLine, equals, numbers_text, payload_words}
 use Rattle.nbd_lines.specs.Line.IsEnd.{nothing}
 use Rattle.nbd_lines.specs.internal.Reading.{BeginsNumber, BeginsNumbers, EndsWord, IsSpaceless, ReadsNumber, ReadsNumbers}
@@ -196,6 +197,8 @@ built-form Exported ns bytes = refl
 built-form Request ns bytes = refl
 built-form Simple ns bytes = refl
 built-form Chunk ns bytes = refl
+built-form ExtendedRequest ns bytes = refl
+built-form ExtendedChunk ns bytes = refl
 
 bit : (n : ℕ) → n ≤ 1 → (if nat_eq n 1 then 1 else 0) ≡ n
 bit zero h = refl
@@ -218,6 +221,8 @@ built-numbers Exported ns bytes w = ap (λ n. nth 0 ns ∷ nth 1 ns ∷ n ∷ []
 built-numbers Request ns bytes w = listed-within (fields Request) ns w
 built-numbers Simple ns bytes w = listed-within (fields Simple) ns w
 built-numbers Chunk ns bytes w = listed-within (fields Chunk) ns w
+built-numbers ExtendedRequest ns bytes w = listed-within (fields ExtendedRequest) ns w
+built-numbers ExtendedChunk ns bytes w = listed-within (fields ExtendedChunk) ns w
 
 built-payload : (f : Form) (ns bytes end : List ℕ) → IsEnd (has_payload f) bytes end → payload_of (built f ns bytes) ≡ bytes
 unfolding built EndsSo
@@ -229,6 +234,8 @@ built-payload Answer ns bytes end e = refl
 built-payload Request ns bytes end e = refl
 built-payload Simple ns bytes end e = refl
 built-payload Chunk ns bytes end e = refl
+built-payload ExtendedRequest ns bytes end e = refl
+built-payload ExtendedChunk ns bytes end e = refl
 
 abbrev End : Bool → List ℕ → Type 0
 End p text = ((bytes : List ℕ) × IsEnd p bytes text) ⊎ ((bytes : List ℕ) → IsEnd p bytes text → ⊥)
@@ -256,6 +263,8 @@ fits_or_not (messages.Exported size flags padded) = inl tt
 fits_or_not (messages.Request flags command cookie offset len bytes) = both (less (length bytes) (2 ^ 32)) (cases_eq (length bytes) (if command == WRITE then len else 0))
 fits_or_not (messages.Simple error cookie bytes) = less (length bytes) (2 ^ 32)
 fits_or_not (messages.Chunk flags kind cookie bytes) = less (length bytes) (2 ^ 32)
+fits_or_not (messages.ExtendedRequest flags command cookie offset len bytes) = both (less (length bytes) (2 ^ 32)) (cases_eq (length bytes) (if carries_payload flags command then len else 0))
+fits_or_not (messages.ExtendedChunk flags kind cookie offset bytes) = less (length bytes) (2 ^ 32)
 
 abbrev Message_on : List ℕ → Type 0
 Message_on line = ((m : Message) × IsMessageLine line m × FitsItsHead m) ⊎ ((m : Message) → IsMessageLine line m → FitsItsHead m → ⊥)

@@ -6,7 +6,7 @@ use Rattle.std.specs.List.{AllByRecursion}
 use Rattle.hex.specs.Hex.{IsBytes}
 use Rattle.nbd_wire.specs.declared.message.Message.{Message}
 use Rattle.nbd_wire.specs.declared.message.Message.TheVariants as messages
-use Rattle.nbd_wire.specs.declared.magics.TheConstants.{ANSWER_MAGIC, CHUNK_MAGIC, GREETING_MAGIC, OPTION_MAGIC, REQUEST_MAGIC, SIMPLE_MAGIC}
+use Rattle.nbd_wire.specs.declared.magics.TheConstants.{ANSWER_MAGIC, CHUNK_MAGIC, GREETING_MAGIC, OPTION_MAGIC, REQUEST_MAGIC, SIMPLE_MAGIC, EXTENDED_REQUEST_MAGIC, EXTENDED_CHUNK_MAGIC}
 use Rattle.nbd_wire.specs.protocol.Encoding.{AreBytes, enc, head, tail}
 use Rattle.nbd_wire.proofs.NumberLemmas.{slice_index-byte}
 use Rattle.nbd_wire.specs.protocol.Sendable.{IsSendable}
@@ -56,6 +56,10 @@ head_bytes (messages.Request flags command cookie offset len bytes) =
     join (join (join (join (join (big 4 REQUEST_MAGIC) (big 2 flags)) (big 2 command)) (big 8 cookie)) (big 8 offset)) (big 4 len)
 head_bytes (messages.Simple error cookie bytes) = join (join (big 4 SIMPLE_MAGIC) (big 4 error)) (big 8 cookie)
 head_bytes (messages.Chunk flags kind cookie bytes) = join (join (join (join (big 4 CHUNK_MAGIC) (big 2 flags)) (big 2 kind)) (big 8 cookie)) (big 4 (length bytes))
+head_bytes (messages.ExtendedRequest flags command cookie offset len bytes) =
+    join (join (join (join (join (big 4 EXTENDED_REQUEST_MAGIC) (big 2 flags)) (big 2 command)) (big 8 cookie)) (big 8 offset)) (big 8 len)
+head_bytes (messages.ExtendedChunk flags kind cookie offset bytes) =
+    join (join (join (join (join (big 4 EXTENDED_CHUNK_MAGIC) (big 2 flags)) (big 2 kind)) (big 8 cookie)) (big 8 offset)) (big 8 (length bytes))
 
 tail_bytes : (m : Message) → AreBytes (payload_of m) → AreBytes (tail m)
 unfolding tail
@@ -67,6 +71,8 @@ tail_bytes (messages.Exported size flags padded) b = padding padded
 tail_bytes (messages.Request flags command cookie offset len bytes) b = b
 tail_bytes (messages.Simple error cookie bytes) b = b
 tail_bytes (messages.Chunk flags kind cookie bytes) b = b
+tail_bytes (messages.ExtendedRequest flags command cookie offset len bytes) b = b
+tail_bytes (messages.ExtendedChunk flags kind cookie offset bytes) b = b
 
 enc_bytes : (m : Message) → IsSendable m → IsBytes (enc m)
 unfolding enc

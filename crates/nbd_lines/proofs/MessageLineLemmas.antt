@@ -11,19 +11,19 @@ use Rattle.nbd_capture.specs.Capture.{AreDigits}
 use Rattle.nbd_capture.proofs.DigitLemmas.{decodes}
 use Rattle.nbd_lines.specs.declared.forms.Field.{Field}
 use Rattle.nbd_lines.specs.declared.forms.Form.{Form}
-use Rattle.nbd_lines.specs.declared.forms.Form.TheVariants.{Greeting, ClientFlags, Choice, Answer, Exported, Request, Simple, Chunk}
+use Rattle.nbd_lines.specs.declared.forms.Form.TheVariants.{Greeting, ClientFlags, Choice, Answer, Exported, Request, Simple, Chunk, ExtendedRequest, ExtendedChunk}
 use Rattle.nbd_lines.specs.Line.{IsEnd, IsMessageLine, numbers_text, payload_words}
 use Rattle.nbd_lines.specs.Line.IsEnd.{nothing, payload}
 use Rattle.nbd_lines.specs.internal.Reading.{BeginsNumbers, EndsWord, ReadsNumbers}
 use Rattle.nbd_lines.specs.Table.{payload_of, fields, has_payload, line_form, numbers, words}
 use Rattle.nbd_lines.proofs.NumberLemmas.{one_list}
 
--- the first and the third letter of a line state its form
+-- the first, the third and the fifth letter of a line state its form
 unfoldable pub form_by : List ℕ → Form
 form_by text =
     if get_or text 0 0 == 67
-    then (if get_or text 2 0 == 99 then ClientFlags else (if get_or text 2 0 == 111 then Choice else Request))
-    else (if get_or text 2 0 == 103 then Greeting else (if get_or text 2 0 == 97 then Answer else (if get_or text 2 0 == 101 then Exported else (if get_or text 2 0 == 115 then Simple else Chunk))))
+    then (if get_or text 2 0 == 99 then ClientFlags else (if get_or text 2 0 == 111 then Choice else (if get_or text 2 0 == 101 then ExtendedRequest else Request)))
+    else (if get_or text 2 0 == 103 then Greeting else (if get_or text 2 0 == 97 then Answer else (if get_or text 2 0 == 101 then (if get_or text 4 0 == 112 then Exported else ExtendedChunk) else (if get_or text 2 0 == 115 then Simple else Chunk))))
 
 pub form_by-words : (f : Form) (rest : List ℕ) → form_by (words f ++ rest) ≡ f
 unfolding form_by
@@ -35,6 +35,8 @@ form_by-words Exported rest = refl
 form_by-words Request rest = refl
 form_by-words Simple rest = refl
 form_by-words Chunk rest = refl
+form_by-words ExtendedRequest rest = refl
+form_by-words ExtendedChunk rest = refl
 
 -- a line begins with the words of one form
 pub one_form : (f g : Form) (x y : List ℕ) → words f ++ x ≡ words g ++ y → (f ≡ g) × (x ≡ y)
@@ -92,6 +94,8 @@ built Exported ns bytes = messages.Exported (nth 0 ns) (nth 1 ns) (nat_eq (nth 2
 built Request ns bytes = messages.Request (nth 0 ns) (nth 1 ns) (nth 2 ns) (nth 3 ns) (nth 4 ns) bytes
 built Simple ns bytes = messages.Simple (nth 0 ns) (nth 1 ns) bytes
 built Chunk ns bytes = messages.Chunk (nth 0 ns) (nth 1 ns) (nth 2 ns) bytes
+built ExtendedRequest ns bytes = messages.ExtendedRequest (nth 0 ns) (nth 1 ns) (nth 2 ns) (nth 3 ns) (nth 4 ns) bytes
+built ExtendedChunk ns bytes = messages.ExtendedChunk (nth 0 ns) (nth 1 ns) (nth 2 ns) (nth 3 ns) bytes
 
 built-parts : (m : Message) → built (line_form m) (numbers m) (payload_of m) ≡ m
 unfolding built
@@ -104,6 +108,8 @@ built-parts (messages.Exported size flags false) = refl
 built-parts (messages.Request flags command cookie offset len bytes) = refl
 built-parts (messages.Simple error cookie bytes) = refl
 built-parts (messages.Chunk flags kind cookie bytes) = refl
+built-parts (messages.ExtendedRequest flags command cookie offset len bytes) = refl
+built-parts (messages.ExtendedChunk flags kind cookie offset bytes) = refl
 
 -- messages are their parts
 pub same_message : (a b : Message) → line_form a ≡ line_form b → numbers a ≡ numbers b → payload_of a ≡ payload_of b → a ≡ b
@@ -122,6 +128,8 @@ fields_small Exported = (omega arith, (omega arith, (omega arith, tt)))
 fields_small Request = (omega arith, (omega arith, (omega arith, (omega arith, (omega arith, tt)))))
 fields_small Simple = (omega arith, (omega arith, tt))
 fields_small Chunk = (omega arith, (omega arith, (omega arith, tt)))
+fields_small ExtendedRequest = (omega arith, (omega arith, (omega arith, (omega arith, (omega arith, tt)))))
+fields_small ExtendedChunk = (omega arith, (omega arith, (omega arith, (omega arith, tt))))
 
 -- a line as its parts: a form, its numbers and its payload
 pub record Spells (line : List ℕ) (f : Form) (ns bytes : List ℕ) : Type 0 where

@@ -22,7 +22,7 @@ use Rattle.nbd_lines.specs.declared.forms.Field.{Field}
 use Rattle.nbd_lines.specs.declared.forms.Name.{Name}
 use Rattle.nbd_lines.specs.declared.forms.Name.TheVariants as names
 use Rattle.nbd_lines.specs.declared.forms.Form.{Form}
-use Rattle.nbd_lines.specs.declared.forms.Form.TheVariants.{Greeting, ClientFlags, Choice, Answer, Exported, Request, Simple, Chunk}
+use Rattle.nbd_lines.specs.declared.forms.Form.TheVariants.{Greeting, ClientFlags, Choice, Answer, Exported, Request, Simple, Chunk, ExtendedRequest, ExtendedChunk}
 use Rattle.nbd_lines.specs.Line.{AreWithin, IsEnd, IsMessageLine, end_text, equals, message_line, number_text, numbers_text, payload_words}
 use Rattle.nbd_lines.specs.Line.IsEnd.{nothing, payload}
 use Rattle.nbd_lines.specs.Script.{IsScript, message_lines, shown_line}
@@ -46,6 +46,9 @@ sendable_within (messages.Request flags command cookie offset len bytes) s =
     (omega (arith, s.0), (omega (arith, s.1), (omega (arith, s.2), (omega (arith, s.3), (omega (arith, s.4), tt)))))
 sendable_within (messages.Simple error cookie bytes) s = (omega (arith, s.0), (omega (arith, s.1), tt))
 sendable_within (messages.Chunk flags kind cookie bytes) s = (omega (arith, s.0), (omega (arith, s.1), (omega (arith, s.2), tt)))
+sendable_within (messages.ExtendedRequest flags command cookie offset len bytes) s =
+    (omega (arith, s.0), (omega (arith, s.1), (omega (arith, s.2), (omega (arith, s.3), (omega (arith, s.4), tt)))))
+sendable_within (messages.ExtendedChunk flags kind cookie offset bytes) s = (omega (arith, s.0), (omega (arith, s.1), (omega (arith, s.2), (omega (arith, s.3), tt))))
 
 pub sendable_bytes : (m : Message) → IsSendable m → AreBytes (payload_of m)
 unfolding IsSendable
@@ -57,6 +60,8 @@ sendable_bytes (messages.Exported size flags padded) s = tt
 sendable_bytes (messages.Request flags command cookie offset len bytes) s = s.6
 sendable_bytes (messages.Simple error cookie bytes) s = s.2.1
 sendable_bytes (messages.Chunk flags kind cookie bytes) s = s.3.1
+sendable_bytes (messages.ExtendedRequest flags command cookie offset len bytes) s = s.6.1
+sendable_bytes (messages.ExtendedChunk flags kind cookie offset bytes) s = s.4.1
 
 carried_below : (carries : Bool) (n len : ℕ) → n ≡ (if carries then len else 0) → len < 2 ^ 32 → n < 2 ^ 32
 carried_below true n len e h = omega arith
@@ -72,6 +77,8 @@ sendable_fits (messages.Exported size flags padded) s = tt
 sendable_fits (messages.Request flags command cookie offset len bytes) s = (carried_below _ (length bytes) len s.5 s.4, s.5)
 sendable_fits (messages.Simple error cookie bytes) s = s.2.0
 sendable_fits (messages.Chunk flags kind cookie bytes) s = s.3.0
+sendable_fits (messages.ExtendedRequest flags command cookie offset len bytes) s = (s.6.0, s.5)
+sendable_fits (messages.ExtendedChunk flags kind cookie offset bytes) s = s.4.0
 
 printed_end : (p : Bool) (bytes : List ℕ) → AreBytes bytes → (p ≡ false → bytes ≡ []) → IsEnd p bytes (end_text p bytes)
 printed_end true bytes b none = payload (encode_lower bytes) bytes (spelled (encode_lower bytes) bytes (decode_of-encode_lower bytes (slice_index-byte bytes b)))
@@ -86,6 +93,8 @@ nothing_carried (messages.Exported size flags padded) e = refl
 nothing_carried (messages.Request flags command cookie offset len bytes) e = cc e
 nothing_carried (messages.Simple error cookie bytes) e = cc e
 nothing_carried (messages.Chunk flags kind cookie bytes) e = cc e
+nothing_carried (messages.ExtendedRequest flags command cookie offset len bytes) e = cc e
+nothing_carried (messages.ExtendedChunk flags kind cookie offset bytes) e = cc e
 
 -- a printed line stands for its message
 pub message_line_is_sendable : (m : Message) → IsSendable m → IsMessageLine (message_line m) m × FitsItsHead m
@@ -121,6 +130,8 @@ unbroken_words Exported = unbroken_by (words Exported) refl
 unbroken_words Request = unbroken_by (words Request) refl
 unbroken_words Simple = unbroken_by (words Simple) refl
 unbroken_words Chunk = unbroken_by (words Chunk) refl
+unbroken_words ExtendedRequest = unbroken_by (words ExtendedRequest) refl
+unbroken_words ExtendedChunk = unbroken_by (words ExtendedChunk) refl
 
 unbroken_name : (n : Name) → IsUnbroken (field_name n)
 unfolding has_no_feed

@@ -12,7 +12,7 @@ use Rattle.nbd_capture.proofs.ReadingLemmas.{IsFunctional, no_reading}
 use Rattle.nbd_lines.specs.declared.script.ScriptFault.{ScriptFault}
 use Rattle.nbd_lines.specs.declared.script.ScriptFault.TheVariants.{Line, Memory}
 use Rattle.nbd_lines.specs.declared.forms.Form.{Form}
-use Rattle.nbd_lines.specs.declared.forms.Form.TheVariants.{Greeting, ClientFlags, Choice, Answer, Exported, Request, Simple, Chunk}
+use Rattle.nbd_lines.specs.declared.forms.Form.TheVariants.{Greeting, ClientFlags, Choice, Answer, Exported, Request, Simple, Chunk, ExtendedRequest, ExtendedChunk}
 use Rattle.nbd_lines.specs.Faults.{IsScriptFault}
 use Rattle.nbd_lines.specs.Line.{IsMessageLine, numbers_text}
 use Rattle.nbd_lines.specs.Script.{IsFirstBadScriptLine, IsScript, IsScriptLine}
@@ -54,6 +54,8 @@ first_words Exported rest = inr refl
 first_words Request rest = inl refl
 first_words Simple rest = inr refl
 first_words Chunk rest = inr refl
+first_words ExtendedRequest rest = inl refl
+first_words ExtendedChunk rest = inr refl
 
 apart : (n : ℕ) → (n ≡ 0) ⊎ (n ≡ 35) ⊎ (n ≡ 111) → (n ≡ 67) ⊎ (n ≡ 83) → ⊥
 apart n a b = omega arith

@@ -4,7 +4,7 @@ use Rattle.nbd_wire.specs.declared.message.Message.{Message}
 use Rattle.nbd_wire.specs.declared.message.Message.TheVariants as messages
 use Rattle.nbd_lines.specs.declared.forms.Field.{Field}
 use Rattle.nbd_lines.specs.declared.forms.Form.{Form}
-use Rattle.nbd_lines.specs.declared.forms.Form.TheVariants.{Greeting, ClientFlags, Choice, Answer, Exported, Request, Simple, Chunk}
+use Rattle.nbd_lines.specs.declared.forms.Form.TheVariants.{Greeting, ClientFlags, Choice, Answer, Exported, Request, Simple, Chunk, ExtendedRequest, ExtendedChunk}
 use Rattle.nbd_lines.specs.declared.forms.Name.{Name}
 use Rattle.nbd_lines.specs.declared.forms.Name.TheVariants as names
 
@@ -18,6 +18,8 @@ words Exported = codes "S export"
 words Request = codes "C request"
 words Simple = codes "S simple"
 words Chunk = codes "S chunk"
+words ExtendedRequest = codes "C extended-request"
+words ExtendedChunk = codes "S extended-chunk"
 
 -- a field of this name that holds a number of so many bits
 abbrev pub field : Name → ℕ → Field
@@ -34,6 +36,9 @@ fields Request = field names.Flags 16 ∷ field names.Command 16 ∷ field names
     names.Length 32 ∷ []
 fields Simple = field names.Error 32 ∷ field names.Cookie 64 ∷ []
 fields Chunk = field names.Flags 16 ∷ field names.Kind 16 ∷ field names.Cookie 64 ∷ []
+fields ExtendedRequest = field names.Flags 16 ∷ field names.Command 16 ∷ field names.Cookie 64 ∷ field names.Offset 64 ∷
+    field names.Length 64 ∷ []
+fields ExtendedChunk = field names.Flags 16 ∷ field names.Kind 16 ∷ field names.Cookie 64 ∷ field names.Offset 64 ∷ []
 
 -- whether a payload stands after the numbers
 abbrev pub has_payload : Form → Bool
@@ -66,6 +71,8 @@ line_form (messages.Exported size flags padded) = Exported
 line_form (messages.Request flags command cookie offset len payload) = Request
 line_form (messages.Simple error cookie payload) = Simple
 line_form (messages.Chunk flags kind cookie payload) = Chunk
+line_form (messages.ExtendedRequest flags command cookie offset len payload) = ExtendedRequest
+line_form (messages.ExtendedChunk flags kind cookie offset payload) = ExtendedChunk
 
 -- the numbers of a message, in the order of its line; padded is 1, not padded 0
 abbrev pub numbers : Message → List ℕ
@@ -77,6 +84,9 @@ numbers (messages.Exported size flags padded) = size ∷ flags ∷ (if padded th
 numbers (messages.Request flags command cookie offset len payload) = flags ∷ command ∷ cookie ∷ offset ∷ len ∷ []
 numbers (messages.Simple error cookie payload) = error ∷ cookie ∷ []
 numbers (messages.Chunk flags kind cookie payload) = flags ∷ kind ∷ cookie ∷ []
+numbers (messages.ExtendedRequest flags command cookie offset len payload) =
+    flags ∷ command ∷ cookie ∷ offset ∷ len ∷ []
+numbers (messages.ExtendedChunk flags kind cookie offset payload) = flags ∷ kind ∷ cookie ∷ offset ∷ []
 
 -- the payload that a message carries, if its form has one
 abbrev pub payload_of : Message → List ℕ
@@ -85,4 +95,6 @@ payload_of (messages.Answer option kind payload) = payload
 payload_of (messages.Request flags command cookie offset len payload) = payload
 payload_of (messages.Simple error cookie payload) = payload
 payload_of (messages.Chunk flags kind cookie payload) = payload
+payload_of (messages.ExtendedRequest flags command cookie offset len payload) = payload
+payload_of (messages.ExtendedChunk flags kind cookie offset payload) = payload
 payload_of _ = []

@@ -14,6 +14,8 @@ pub enum Form {
     Request,
     Simple,
     Chunk,
+    ExtendedRequest,
+    ExtendedChunk,
 }
 
 /// The name of a field that holds a number.
@@ -53,13 +55,28 @@ const SHORT_FLAGS: Field = Field {
     most: U16,
 };
 
+const COMMAND: Field = Field {
+    name: Name::Command,
+    most: U16,
+};
+
+const KIND: Field = Field {
+    name: Name::Kind,
+    most: U16,
+};
+
 const COOKIE: Field = Field {
     name: Name::Cookie,
     most: U64,
 };
 
+const OFFSET: Field = Field {
+    name: Name::Offset,
+    most: U64,
+};
+
 /// Each form, once.
-pub(crate) static FORMS: [Form; 8] = [
+pub(crate) static FORMS: [Form; 10] = [
     Form::Greeting,
     Form::ClientFlags,
     Form::Choice,
@@ -68,6 +85,8 @@ pub(crate) static FORMS: [Form; 8] = [
     Form::Request,
     Form::Simple,
     Form::Chunk,
+    Form::ExtendedRequest,
+    Form::ExtendedChunk,
 ];
 
 static GREETING: [Field; 1] = [SHORT_FLAGS];
@@ -107,15 +126,9 @@ static EXPORTED: [Field; 3] = [
 
 static REQUEST: [Field; 5] = [
     SHORT_FLAGS,
-    Field {
-        name: Name::Command,
-        most: U16,
-    },
+    COMMAND,
     COOKIE,
-    Field {
-        name: Name::Offset,
-        most: U64,
-    },
+    OFFSET,
     Field {
         name: Name::Length,
         most: U32,
@@ -130,14 +143,20 @@ static SIMPLE: [Field; 2] = [
     COOKIE,
 ];
 
-static CHUNK: [Field; 3] = [
+static CHUNK: [Field; 3] = [SHORT_FLAGS, KIND, COOKIE];
+
+static EXTENDED_REQUEST: [Field; 5] = [
     SHORT_FLAGS,
-    Field {
-        name: Name::Kind,
-        most: U16,
-    },
+    COMMAND,
     COOKIE,
+    OFFSET,
+    Field {
+        name: Name::Length,
+        most: U64,
+    },
 ];
+
+static EXTENDED_CHUNK: [Field; 4] = [SHORT_FLAGS, KIND, COOKIE, OFFSET];
 
 impl Name {
     /// The name as it stands in a line.
@@ -174,6 +193,8 @@ impl Form {
             Form::Request => b"C request",
             Form::Simple => b"S simple",
             Form::Chunk => b"S chunk",
+            Form::ExtendedRequest => b"C extended-request",
+            Form::ExtendedChunk => b"S extended-chunk",
         }
     }
 
@@ -190,6 +211,8 @@ impl Form {
             Form::Request => &REQUEST,
             Form::Simple => &SIMPLE,
             Form::Chunk => &CHUNK,
+            Form::ExtendedRequest => &EXTENDED_REQUEST,
+            Form::ExtendedChunk => &EXTENDED_CHUNK,
         }
     }
 
@@ -199,7 +222,13 @@ impl Form {
     {
         match self {
             Form::Greeting | Form::ClientFlags | Form::Exported => false,
-            Form::Choice | Form::Answer | Form::Request | Form::Simple | Form::Chunk => true,
+            Form::Choice
+            | Form::Answer
+            | Form::Request
+            | Form::Simple
+            | Form::Chunk
+            | Form::ExtendedRequest
+            | Form::ExtendedChunk => true,
         }
     }
 }

@@ -23,6 +23,8 @@ pub fn form_of(message: &Message) -> Form
         Message::Request { .. } => Form::Request,
         Message::Simple { .. } => Form::Simple,
         Message::Chunk { .. } => Form::Chunk,
+        Message::ExtendedRequest { .. } => Form::ExtendedRequest,
+        Message::ExtendedChunk { .. } => Form::ExtendedChunk,
     }
 }
 
@@ -61,6 +63,21 @@ pub fn numbers_of(message: &Message) -> [u64; MOST_NUMBERS]
             cookie,
             ..
         } => [*flags as u64, *kind as u64, *cookie, 0, 0],
+        Message::ExtendedRequest {
+            flags,
+            command,
+            cookie,
+            offset,
+            length,
+            ..
+        } => [*flags as u64, *command as u64, *cookie, *offset, *length],
+        Message::ExtendedChunk {
+            flags,
+            kind,
+            cookie,
+            offset,
+            ..
+        } => [*flags as u64, *kind as u64, *cookie, *offset, 0],
     }
 }
 
@@ -73,7 +90,9 @@ pub fn payload_of(message: &Message) -> &[u8]
         | Message::Answer { payload, .. }
         | Message::Request { payload, .. }
         | Message::Simple { payload, .. }
-        | Message::Chunk { payload, .. } => payload.as_slice(),
+        | Message::Chunk { payload, .. }
+        | Message::ExtendedRequest { payload, .. }
+        | Message::ExtendedChunk { payload, .. } => payload.as_slice(),
         Message::Greeting { .. } | Message::ClientFlags { .. } | Message::Exported { .. } => &[],
     }
 }
@@ -125,6 +144,21 @@ pub fn message_of(form: Form, values: [u64; MOST_NUMBERS], payload: Bytes) -> Me
             flags: first as u16,
             kind: second as u16,
             cookie: third,
+            payload,
+        },
+        Form::ExtendedRequest => Message::ExtendedRequest {
+            flags: first as u16,
+            command: second as u16,
+            cookie: third,
+            offset: fourth,
+            length: fifth,
+            payload,
+        },
+        Form::ExtendedChunk => Message::ExtendedChunk {
+            flags: first as u16,
+            kind: second as u16,
+            cookie: third,
+            offset: fourth,
             payload,
         },
     }

@@ -104,7 +104,7 @@ impl Scene {
     // Adds a request, and what it leaves or reads.
     fn add(&mut self, work: &mut Work, source: &Source, one: &Asked) {
         let due = source.due(one, 0);
-        let length = u64::from(one.length);
+        let length = one.length;
         if one.touches(one.offset) {
             self.add_request(work, due, one.offset, length);
             self.add_patch(work, due, None, one.offset, length);

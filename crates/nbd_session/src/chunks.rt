@@ -1,7 +1,7 @@
 //! Chunks of structured replies (proto.md, "Structured reply chunk message", "Structured reply flags",
 //! "Structured reply types").
 
-ghost use Rattle.std.specs.Prelude.{◌≡◌, ◌+◌, ◌==◌, ◌&&◌, ◌||◌, ℕ, List, None, Option, false, length, not};
+ghost use Rattle.std.specs.Prelude.{◌≡◌, ◌+◌, ◌==◌, ◌&&◌, ◌||◌, List, None, Some, false, is_some, length, not};
 ghost use Rattle.nbd_wire.specs.declared.chunks.TheConstants as chunks;
 ghost use Rattle.nbd_wire.specs.declared.payloads.Piece.{Piece};
 ghost use Rattle.nbd_wire.specs.declared.command_flags.TheConstants as command_flags;
@@ -9,9 +9,10 @@ ghost use Rattle.nbd_wire.specs.protocol.Flags as flags;
 ghost use Rattle.nbd_wire.specs.protocol.Contexts.{Status};
 ghost use Rattle.nbd_wire.specs.protocol.Operations.{Operation, Exporting, has_failed, is_finished, is_proper, pieces};
 ghost use Rattle.nbd_wire.specs.protocol.States.{Core, in_force, with_reply};
-ghost use Rattle.nbd_wire.specs.declared.message.Message.TheVariants.{Chunk};
 ghost use Rattle.nbd_wire.specs.declared.fault.WireFault.TheVariants.{BadChunk, BadContent};
-ghost use Rattle.nbd_session.specs.internal.Asking.{done_by, finish_by, lacks_by};
+ghost use Rattle.nbd_session.specs.internal.Asking.{done_by, elsewhere_fault, finish_by, is_status, lacks_by};
+ghost use Rattle.nbd_session.specs.internal.Expecting.{chunk_fault_to};
+ghost use Rattle.nbd_state.specs.Heads.{chunk_of};
 ghost use Rattle.nbd_state.specs.Showing.{IsShown};
 ghost use Rattle.nbd_state.specs.Shows.{Shows, TellsThese};
 ghost use Rattle.nbd_state.specs.Spans.{span_of};
@@ -22,25 +23,54 @@ use crate::spans::{bytes_in, content_span, is_inside};
 use crate::statuses::status_fault;
 use nbd_state::{Asked, Exchange, Span, State};
 use nbd_wire::flags::has;
-use nbd_wire::{WireFault, chunks, command_flags, commands, content_of, failure_of, read_as};
+use nbd_wire::{
+    ChunkHead, WireFault, chunks, command_flags, commands, content_of, failure_of, read_as,
+};
 
 /// Why a whole chunk may not stand in the reply to its request.
 pub(crate) fn chunk_fault(
     state: &State,
-    flags: u16,
-    kind: u16,
+    head: &ChunkHead,
     payload: &[u8],
     exchange: &Exchange,
 ) -> Option<WireFault>
-    ensures { (core : Core) (export : Exporting) (e : Operation) (cookie : ℕ) → Shows state.now core →
+    ensures { (core : Core) (export : Exporting) (e : Operation) → Shows state.now core →
         e.contexts ≡ in_force core → IsShown export e exchange.now → is_finished e ≡ false →
-        result ≡ chunk_fault (kind == chunks.NONE) export e
-        (with_reply e (Chunk flags kind cookie payload.now)) flags (read_as core.profile kind) payload.now }
+        result ≡ chunk_fault_to core.profile export (Some e) head.now payload.now }
 {
-    if kind == chunks::BLOCK_STATUS {
-        return status_fault(state, flags, payload, exchange);
+    match payload_fault(state, head, payload, exchange) {
+        Some(fault) => Some(fault),
+        None => offset_fault(head.at, &exchange.asked),
     }
-    let done = has(flags, chunks::DONE);
+}
+
+// An extended header has the offset of its request (proto.md, "Reserved Magic values"; read from libnbd and qemu).
+fn offset_fault(at: Option<u64>, asked: &Asked) -> Option<WireFault>
+    ensures { result ≡ elsewhere_fault at asked.now.offset }
+{
+    match at {
+        Some(offset) if offset != asked.offset => Some(WireFault::BadReplyOffset),
+        _ => None,
+    }
+}
+
+// What is wrong with the payload of a chunk, or with the end of its reply.
+fn payload_fault(
+    state: &State,
+    head: &ChunkHead,
+    payload: &[u8],
+    exchange: &Exchange,
+) -> Option<WireFault>
+    ensures { (core : Core) (export : Exporting) (e : Operation) → Shows state.now core →
+        e.contexts ≡ in_force core → IsShown export e exchange.now → is_finished e ≡ false →
+        result ≡ chunk_fault (is_some head.now.at) (head.now.kind == chunks.NONE) export e
+        (with_reply e (chunk_of head.now payload.now)) head.now.flags (read_as core.profile head.now.kind) payload.now }
+{
+    let kind = head.kind;
+    if is_status(head) {
+        return status_fault(state, head.flags, payload, exchange);
+    }
+    let done = has(head.flags, chunks::DONE);
     if kind == chunks::NONE {
         return none_fault(state, payload, done, exchange);
     }
@@ -55,6 +85,13 @@ pub(crate) fn chunk_fault(
     } else {
         Some(WireFault::BadContent)
     }
+}
+
+// A chunk of a status. With an extended header there is none of its type (this project's choice).
+fn is_status(head: &ChunkHead) -> bool
+    ensures { result ≡ is_status head.now.at head.now.kind }
+{
+    head.at.is_none() && head.kind == chunks::BLOCK_STATUS
 }
 
 // A chunk without content is empty, and ends its reply.
@@ -117,7 +154,7 @@ fn fits_failure(offset: Option<u64>, asked: &Asked) -> bool
         result ≡ fits_failure e offset }
 {
     match offset {
-        Some(offset) => offset >= asked.offset && offset - asked.offset < u64::from(asked.length),
+        Some(offset) => offset >= asked.offset && offset - asked.offset < asked.length,
         None => true,
     }
 }
@@ -141,7 +178,7 @@ pub(crate) fn finish_fault(
         return None;
     }
     if asked.command == commands::READ
-        && bytes_in(&asked.pieces).saturating_add(more) != u64::from(asked.length)
+        && bytes_in(&asked.pieces).saturating_add(u128::from(more)) != u128::from(asked.length)
     {
         return Some(WireFault::IncompleteRead);
     }

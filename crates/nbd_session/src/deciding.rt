@@ -6,6 +6,7 @@ ghost use Rattle.nbd_wire.specs.protocol.States.{Core};
 ghost use Rattle.nbd_session.specs.internal.Counted.{decision_by_count};
 ghost use Rattle.nbd_wire.specs.protocol.Reading.{Bad, reading_by_decision};
 ghost use Rattle.nbd_session.specs.internal.Expecting.{HasHeadLength, HasReplyLength, IsExpectedOf, IsNoReply, IsPlaced, IsRefusedHead, IsWholeHead};
+ghost use Rattle.nbd_session.specs.internal.Leading.{request_head_length};
 ghost use Rattle.nbd_state.specs.Shows.{Shows};
 
 use crate::expected::Expected;
@@ -24,7 +25,7 @@ const MAGIC_LENGTH: usize = 4;
 /// is `OutOfTurn`.
 pub(crate) fn head_length(state: &State, side: Side, head: &[u8]) -> Result<usize, WireFault>
     ensures known { IfOk result (HasHeadLength state.now side head.now) }
-    ensures fits { IfOk result (λ n. n ≤ 28) }
+    ensures fits { IfOk result (λ n. n ≤ 32) }
     ensures refused { IfErr result (λ fault. (core : Core) (counted : ℕ) → Shows state.now core →
         reading_by_decision (decision_by_count counted core side head.now) head.now ≡ Bad fault) }
 {
@@ -37,14 +38,14 @@ pub(crate) fn head_length(state: &State, side: Side, head: &[u8]) -> Result<usiz
 // The length of a client's head.
 fn client_head_length(state: &State) -> Result<usize, WireFault>
     ensures known { IfOk result (λ n. (head : List ℕ) → HasHeadLength state.now Client head n) }
-    ensures fits { IfOk result (λ n. n ≤ 28) }
+    ensures fits { IfOk result (λ n. n ≤ 32) }
     ensures refused { IfErr result (λ fault. (core : Core) (counted : ℕ) (head : List ℕ) → Shows state.now core →
         reading_by_decision (decision_by_count counted core Client head) head ≡ Bad fault) }
 {
     match state.phase {
         Phase::Flags => Ok(head_lengths::CLIENT_FLAGS),
         Phase::Choosing => Ok(head_lengths::CHOICE),
-        Phase::Transmission(_) if !state.disconnected => Ok(head_lengths::REQUEST),
+        Phase::Transmission(_) if !state.disconnected => Ok(request_head_length(state.extended)),
         _ => Err(WireFault::OutOfTurn),
     }
 }
@@ -52,7 +53,7 @@ fn client_head_length(state: &State) -> Result<usize, WireFault>
 // The length of a server's head, as far as these bytes say.
 fn server_head_length(state: &State, head: &[u8]) -> Result<usize, WireFault>
     ensures known { IfOk result (HasHeadLength state.now Server head.now) }
-    ensures fits { IfOk result (λ n. n ≤ 28) }
+    ensures fits { IfOk result (λ n. n ≤ 32) }
     ensures refused { IfErr result (λ fault. (core : Core) (counted : ℕ) → Shows state.now core →
         reading_by_decision (decision_by_count counted core Server head.now) head.now ≡ Bad fault) }
 {
@@ -61,23 +62,35 @@ fn server_head_length(state: &State, head: &[u8]) -> Result<usize, WireFault>
         Phase::Naming => Ok(head_lengths::EXPORT),
         Phase::Aborting => Ok(head_lengths::ANSWER),
         Phase::Answering(_) => Ok(head_lengths::ANSWER),
-        Phase::Transmission(_) => reply_head_length(head),
+        Phase::Transmission(_) => reply_head_length(state.extended, head),
         _ => Err(WireFault::OutOfTurn),
     }
 }
 
+// The length of a request's head.
+fn request_head_length(extended: bool) -> usize
+    ensures { result ≡ request_head_length extended }
+{
+    if extended {
+        head_lengths::EXTENDED_REQUEST
+    } else {
+        head_lengths::REQUEST
+    }
+}
+
 // The length of a reply's head; until its magic number has come, the length of that.
-fn reply_head_length(head: &[u8]) -> Result<usize, WireFault>
-    ensures known { IfOk result (HasReplyLength head.now) }
-    ensures fits { IfOk result (λ n. n ≤ 28) }
-    ensures refused { IfErr result (IsNoReply head.now) }
+fn reply_head_length(extended: bool, head: &[u8]) -> Result<usize, WireFault>
+    ensures known { IfOk result (HasReplyLength extended head.now) }
+    ensures fits { IfOk result (λ n. n ≤ 32) }
+    ensures refused { IfErr result (IsNoReply extended head.now) }
 {
     if head.len() < MAGIC_LENGTH {
         return Ok(MAGIC_LENGTH);
     }
     match BigEndian::read_u32(head) {
-        magics::SIMPLE_MAGIC => Ok(head_lengths::SIMPLE),
-        magics::CHUNK_MAGIC => Ok(head_lengths::CHUNK),
+        magics::EXTENDED_CHUNK_MAGIC if extended => Ok(head_lengths::EXTENDED_CHUNK),
+        magics::SIMPLE_MAGIC if !extended => Ok(head_lengths::SIMPLE),
+        magics::CHUNK_MAGIC if !extended => Ok(head_lengths::CHUNK),
         _ => Err(WireFault::BadMagic),
     }
 }
@@ -114,7 +127,7 @@ fn decide_client(state: &State, head: &[u8]) -> Result<Expected, WireFault>
     match state.phase {
         Phase::Flags => client_flags(head, state.offered),
         Phase::Choosing => choice(head),
-        Phase::Transmission(_) => request(head),
+        Phase::Transmission(_) => request(state, head),
         _ => unreachable!(),
     }
 }

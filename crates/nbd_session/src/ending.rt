@@ -35,7 +35,7 @@ pub(crate) fn last_fault(state: &State, expected: &Expected, payload: &[u8]) -> 
         Expected::Simple { head, place, .. } => success_fault(head.error, &state.exchanges[*place]),
         Expected::Chunk { head, place } => {
             let exchange = &state.exchanges[*place];
-            chunk_fault(state, head.flags, head.kind, payload, exchange)
+            chunk_fault(state, head, payload, exchange)
         }
         _ => None,
     }

@@ -1,11 +1,14 @@
 //! The message that a side's bytes begin, as its head says.
 
-ghost use Rattle.std.specs.Prelude.{◌≡◌};
-ghost use Rattle.nbd_session.specs.internal.Expecting.{message_of, payload_length_of, place_answered};
+ghost use Rattle.std.specs.Prelude.{◌≡◌, ◌==◌, if◌then◌else◌};
+ghost use Rattle.nbd_wire.specs.declared.commands.TheConstants as commands;
+ghost use Rattle.nbd_wire.specs.protocol.Sendable.{carries_payload};
+ghost use Rattle.nbd_state.specs.Heads.{chunk_of};
+ghost use Rattle.nbd_session.specs.internal.Expecting.{message_of, payload_length_of, place_answered, request_with};
 
 use nbd_wire::{
-    AnswerHead, Bytes, ChoiceHead, ChunkHead, Message, RequestHead, SimpleHead, commands,
-    head_lengths,
+    AnswerHead, Bytes, ChoiceHead, ChunkHead, Message, RequestHead, SimpleHead, carries_payload,
+    commands, head_lengths,
 };
 
 /// A message whose head has come, and which may come at this point of the session.
@@ -33,7 +36,7 @@ pub(crate) enum Expected {
     Simple {
         head: SimpleHead,
         place: usize,
-        length: u32,
+        length: u64,
     },
     /// A chunk, and the index of its request.
     Chunk {
@@ -52,7 +55,7 @@ impl Expected {
             Expected::Choice(head) => head.length as usize,
             Expected::Answer { head, .. } => head.length as usize,
             Expected::Exported { padded, .. } => { if *padded { head_lengths::PADDING } else { 0 } }
-            Expected::Request(head) if head.command == commands::WRITE => head.length as usize,
+            Expected::Request(head) if carries(head) => head.length as usize,
             Expected::Request(_) => 0,
             Expected::Simple { length, .. } => *length as usize,
             Expected::Chunk { head, .. } => head.length as usize,
@@ -94,25 +97,70 @@ impl Expected {
                 flags,
                 padded,
             },
-            Expected::Request(head) => Message::Request {
-                flags: head.flags,
-                command: head.command,
-                cookie: head.cookie,
-                offset: head.offset,
-                length: head.length,
-                payload,
-            },
+            Expected::Request(head) => request_of(head, payload),
             Expected::Simple { head, .. } => Message::Simple {
                 error: head.error,
                 cookie: head.cookie,
                 payload,
             },
-            Expected::Chunk { head, .. } => Message::Chunk {
-                flags: head.flags,
-                kind: head.kind,
-                cookie: head.cookie,
-                payload,
-            },
+            Expected::Chunk { head, .. } => chunk_of(head, payload),
         }
+    }
+}
+
+// Whether a payload follows the head of a request.
+fn carries(head: &RequestHead) -> bool
+    ensures { result ≡ (if head.now.extended then carries_payload head.now.flags head.now.command
+        else (head.now.command == commands.WRITE)) }
+{
+    if head.extended {
+        carries_payload(head.flags, head.command)
+    } else {
+        head.command == commands::WRITE
+    }
+}
+
+// The request of this head. The length of one without an extended header has 32 bits.
+fn request_of(head: RequestHead, payload: Bytes) -> Message
+    ensures { result ≡ request_with head.extended head payload }
+{
+    if head.extended {
+        return Message::ExtendedRequest {
+            flags: head.flags,
+            command: head.command,
+            cookie: head.cookie,
+            offset: head.offset,
+            length: head.length,
+            payload,
+        };
+    }
+    Message::Request {
+        flags: head.flags,
+        command: head.command,
+        cookie: head.cookie,
+        offset: head.offset,
+        length: head.length.min(u64::from(u32::MAX)) as u32,
+        payload,
+    }
+}
+
+// The chunk of this head.
+fn chunk_of(head: ChunkHead, payload: Bytes) -> Message
+    ensures { result ≡ chunk_of head payload }
+{
+    match head.at {
+        Some(offset) => Message::ExtendedChunk {
+            flags: head.flags,
+            kind: head.kind,
+            cookie: head.cookie,
+            offset,
+            payload,
+        },
+        None => Message::Chunk {
+            flags: head.flags,
+            kind: head.kind,
+            cookie: head.cookie,
+            payload,
+        },
     }
 }

@@ -119,7 +119,7 @@ impl Held {
         ensures awaited { (st : Stands self.now) →
             length (rest_of (holding_of self.now) side) + result ≡ awaited st.reader side }
         ensures room { (incoming_of self.now side).expected ≡ None →
-            length (incoming_of self.now side).head + result ≤ 28 }
+            length (incoming_of self.now side).head + result ≤ 32 }
     {
         let incoming = self.incoming(side);
         match incoming.expected() {
@@ -134,7 +134,7 @@ impl Held {
     // Takes bytes of a side. An `Err` says that memory ran out; then no byte was taken.
     fn take(&mut self, side: Side, piece: &[u8]) -> Result<(), AllocError>
         requires room { (incoming_of self.old side).expected ≡ None →
-            length (incoming_of self.old side).head + length piece.now ≤ 28 }
+            length (incoming_of self.old side).head + length piece.now ≤ 32 }
         requires stretches { stretch_total side (stretches_of self.old.stretches.items) + length piece.now < 2 ^ 64 }
         requires fits { self.old.taken + length piece.now < 2 ^ 64 }
         ensures incoming { OnOk result (self.new ≡ record (with_incoming self.old side (incoming_with

@@ -13,8 +13,8 @@ use nbd_wire::{Bytes, Side};
 use std::alloc::{AllocError, Global};
 use std::marker::Model;
 
-/// The longest head of a message, a request's.
-const LONGEST_HEAD: usize = 28;
+/// The longest head of a message, an extended one.
+const LONGEST_HEAD: usize = 32;
 
 /// The bytes of a side after its last completed message: those of the head and, once the head is whole, what it says
 /// and the bytes after it.
@@ -39,7 +39,7 @@ impl Model for Incoming {
       payload = s.payload.items;
     } };
 
-    ghost invariant = { λ s. s.len ≤ 28 };
+    ghost invariant = { λ s. s.len ≤ 32 };
 }
 
 impl Incoming {
@@ -90,7 +90,7 @@ impl Incoming {
         side: Side,
         piece: &[u8],
     ) -> Result<(), AllocError>
-        requires room { self.old.expected ≡ None → length self.old.head + length piece.now ≤ 28 }
+        requires room { self.old.expected ≡ None → length self.old.head + length piece.now ≤ 32 }
         requires fits { stretch_total side (stretches_of stretches.old.items) + length piece.now < 2 ^ 64 }
         ensures bytes { OnOk result (self.new ≡ incoming_with self.old piece.now) }
         ensures stretches { OnOk result (stretches_of stretches.new.items ≡ stretches_with

@@ -151,7 +151,9 @@ fn is_followed(profile: Profile, option: u32) -> bool
 {
     match option {
         options::LIST | options::INFO | options::GO | options::STRUCTURED_REPLY => true,
-        options::LIST_META_CONTEXT | options::SET_META_CONTEXT => profile == Profile::Wide,
+        options::LIST_META_CONTEXT | options::SET_META_CONTEXT | options::EXTENDED_HEADERS => {
+            profile == Profile::Wide
+        }
         _ => false,
     }
 }

@@ -1,24 +1,29 @@
 //! Replies (proto.md, "Simple reply message", "Structured reply chunk message"), each as its head says.
 
-ghost use Rattle.std.specs.Prelude.{◌≡◌, ◌==◌, ◌&&◌, ◌||◌, ◌++◌, ℕ, List, IfErr, IfOk, None, Some, if◌then◌else◌, length};
+ghost use Rattle.std.specs.Prelude.{◌≡◌, ◌==◌, ◌&&◌, ◌||◌, ◌++◌, ℕ, List, IfErr, IfOk, None, Some, true, not, if◌then◌else◌, length};
 ghost use Rattle.nbd_wire.specs.declared.commands.TheConstants as commands;
 ghost use Rattle.nbd_wire.specs.protocol.Operations.{Exporting};
 ghost use Rattle.nbd_wire.specs.protocol.States.{Core};
 ghost use Rattle.nbd_wire.specs.protocol.States as definitions;
 ghost use Rattle.nbd_session.specs.internal.Counted.{operation_counted};
-ghost use Rattle.nbd_wire.specs.protocol.Decisions.{reply_with};
-ghost use Rattle.nbd_wire.specs.protocol.Transmission.{chunk_head_fault, simple_fault};
+ghost use Rattle.nbd_session.specs.internal.Leading.{chunk_fields, chunk_head_length, chunk_magic};
+ghost use Rattle.nbd_wire.specs.protocol.Decisions.{begins, reply_with};
+ghost use Rattle.nbd_wire.specs.protocol.Transmission.{simple_fault};
 ghost use Rattle.nbd_session.specs.internal.Asking.{is_simple_forbidden};
-ghost use Rattle.nbd_session.specs.internal.Expecting.{IsChunkOf, IsPlaced, IsPlaceOf, IsReplyHead, IsSimpleOf, expected_decision};
+ghost use Rattle.nbd_session.specs.internal.Expecting.{IsChunkOf, IsPlaced, IsPlaceOf, IsReplyHead, IsSimpleOf, expected_decision, head_fault_by, is_too_long};
 ghost use Rattle.nbd_state.specs.Shows.{Shows};
 
 use crate::expected::Expected;
 use nbd_state::{Asked, State};
-use nbd_wire::{ChunkHead, SimpleHead, WireFault, chunk_head, commands, head_lengths, simple_head};
+use nbd_wire::limits::LONGEST_PAYLOAD;
+use nbd_wire::{
+    ChunkHead, SimpleHead, WireFault, chunk_head, commands, extended_chunk_head, head_lengths,
+    simple_head,
+};
 
 /// A reply, as its head says; it began when `counted` numbered requests had completed.
 pub(crate) fn reply(state: &State, head: &[u8], counted: u64) -> Result<Expected, WireFault>
-    requires { IsReplyHead head.now }
+    requires { IsReplyHead state.now.extended head.now }
     ensures expected { IfOk result (λ expected. (core : Core) (export : Exporting) → Shows state.now core →
         core.phase ≡ definitions.Transmission export → (payload : List ℕ) →
         reply_with export (operation_counted counted core) core (head.now ++ payload)
@@ -29,10 +34,29 @@ pub(crate) fn reply(state: &State, head: &[u8], counted: u64) -> Result<Expected
         core.phase ≡ definitions.Transmission export →
         (reply_with export (operation_counted counted core) core head.now).head_fault ≡ Some fault) }
 {
-    if head.len() == head_lengths::SIMPLE {
-        simple(state, simple_head(head).unwrap(), counted)
+    if is_chunk(state.extended, head) {
+        chunk(state, read_chunk(state.extended, head), counted)
     } else {
-        chunk(state, chunk_head(head).unwrap(), counted)
+        simple(state, simple_head(head).unwrap(), counted)
+    }
+}
+
+// Of two lengths of a head the longer is a chunk's; with extended headers there is no simple reply.
+fn is_chunk(extended: bool, head: &[u8]) -> bool
+    ensures { result ≡ (extended || not (length head.now == 16)) }
+{
+    extended || head.len() != head_lengths::SIMPLE
+}
+
+// The head of a chunk, extended or not.
+fn read_chunk(extended: bool, head: &[u8]) -> ChunkHead
+    requires { (begins (chunk_magic extended) head.now ≡ true) × (length head.now ≡ chunk_head_length extended) }
+    ensures { result ≡ chunk_fields extended head.now }
+{
+    if extended {
+        extended_chunk_head(head).unwrap()
+    } else {
+        chunk_head(head).unwrap()
     }
 }
 
@@ -69,8 +93,11 @@ fn chunk(state: &State, head: ChunkHead, counted: u64) -> Result<Expected, WireF
         IsChunkOf export core (operation_counted counted core head.cookie) head expected) }
     ensures refused { IfErr result (λ fault. (core : Core) (export : Exporting) → Shows state.now core →
         core.phase ≡ definitions.Transmission export →
-        chunk_head_fault core.structured (operation_counted counted core head.cookie) ≡ Some fault) }
+        head_fault_by head.at core.structured (operation_counted counted core head.cookie) head.length ≡ Some fault) }
 {
+    if is_too_long(&head) {
+        return Err(WireFault::OutOfProfile);
+    }
     let Some(place) = place_of(state, head.cookie, counted) else {
         return Err(WireFault::UnknownCookie);
     };
@@ -78,6 +105,13 @@ fn chunk(state: &State, head: ChunkHead, counted: u64) -> Result<Expected, WireF
         return Err(WireFault::ChunkForbidden);
     }
     Ok(Expected::Chunk { head, place })
+}
+
+// A payload behind an extended header that is too large (this project's choice).
+fn is_too_long(head: &ChunkHead) -> bool
+    ensures { result ≡ is_too_long head.now.at head.now.length }
+{
+    head.at.is_some() && head.length > LONGEST_PAYLOAD
 }
 
 // The index of the outstanding request with this cookie, if the request had completed when the reply began.
@@ -105,7 +139,7 @@ fn is_simple_forbidden(state: &State, asked: &Asked, error: u32) -> bool
 }
 
 // How many bytes follow the head: those of a successful READ, and none otherwise.
-fn simple_length(asked: &Asked, error: u32) -> u32
+fn simple_length(asked: &Asked, error: u32) -> u64
     ensures { result ≡ (if (asked.now.command == commands.READ) && (error == 0) then asked.now.length else 0) }
 {
     if asked.command == commands::READ && error == 0 {

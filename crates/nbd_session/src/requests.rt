@@ -1,35 +1,66 @@
-//! Requests (proto.md, "Request message").
+//! Requests (proto.md, "Request message", "Reserved Magic values").
 
-ghost use Rattle.std.specs.Prelude.{◌≡◌, ◌==◌, ◌&&◌, ◌++◌, not, ℕ, List, IfErr, IfOk, Some, length};
-ghost use Rattle.nbd_wire.specs.declared.commands.TheConstants as commands;
-ghost use Rattle.nbd_wire.specs.protocol.States.{Core};
+ghost use Rattle.std.specs.Prelude.{◌≡◌, ◌++◌, ℕ, List, IfErr, IfOk, Some, length};
+ghost use Rattle.nbd_wire.specs.protocol.States.{Core, has_contexts};
 ghost use Rattle.nbd_wire.specs.protocol.Decisions.{request};
+ghost use Rattle.nbd_session.specs.internal.Asking.{is_bad_disconnect, is_beyond};
 ghost use Rattle.nbd_session.specs.internal.Expecting.{IsPlaced, expected_decision};
+ghost use Rattle.nbd_session.specs.internal.Leading.{request_head_length, request_head_of};
+ghost use Rattle.nbd_state.specs.Shows.{Shows};
 
 use crate::expected::Expected;
-use nbd_wire::{RequestHead, WireFault, commands, request_head};
+use nbd_state::State;
+use nbd_wire::limits::LONGEST_PAYLOAD;
+use nbd_wire::{
+    RequestHead, WireFault, carries_payload, commands, extended_request_head, request_head,
+};
 
 /// A request, as its head says.
-pub(crate) fn request(head: &[u8]) -> Result<Expected, WireFault>
-    requires { length head.now ≡ 28 }
-    ensures expected { IfOk result (λ expected. (now : Core) (payload : List ℕ) →
-        request now (head.now ++ payload) ≡ expected_decision now expected 28 payload) }
+pub(crate) fn request(state: &State, head: &[u8]) -> Result<Expected, WireFault>
+    requires { length head.now ≡ request_head_length state.now.extended }
+    ensures expected { IfOk result (λ expected. (now : Core) (payload : List ℕ) → Shows state.now now →
+        request now (head.now ++ payload) ≡ expected_decision now expected (length head.now) payload) }
     ensures placed { IfOk result (λ expected. (core : Core) → IsPlaced core expected) }
-    ensures refused { IfErr result (λ fault. (now : Core) → (request now head.now).head_fault ≡ Some fault) }
+    ensures refused { IfErr result (λ fault. (now : Core) → Shows state.now now →
+        (request now head.now).head_fault ≡ Some fault) }
 {
-    let Some(head) = request_head(head) else {
+    let Some(head) = read_head(state.extended, head) else {
         return Err(WireFault::BadMagic);
     };
+    if is_beyond(state, &head) {
+        return Err(WireFault::OutOfProfile);
+    }
     if is_bad_disconnect(&head) {
         return Err(WireFault::BadDisconnect);
     }
     Ok(Expected::Request(head))
 }
 
+// The head of a request, extended or not.
+fn read_head(extended: bool, head: &[u8]) -> Option<RequestHead>
+    requires { length head.now ≡ request_head_length extended }
+    ensures { result ≡ request_head_of extended head.now }
+{
+    if extended {
+        extended_request_head(head)
+    } else {
+        request_head(head)
+    }
+}
+
+// With an extended header: a payload that is too large, or a BLOCK_STATUS where a metadata context is in force. That
+// they are refused is this project's choice.
+fn is_beyond(state: &State, head: &RequestHead) -> bool
+    ensures { (core : Core) → Shows state.now core → result ≡ is_beyond (has_contexts core) head.now }
+{
+    head.extended
+        && (carries_payload(head.flags, head.command) && head.length > LONGEST_PAYLOAD
+            || state.has_contexts() && head.command == commands::BLOCK_STATUS)
+}
+
 // A DISC with an offset or a length.
 fn is_bad_disconnect(head: &RequestHead) -> bool
-    ensures { result ≡ ((head.now.command == commands.DISC)
-        && not ((head.now.offset == 0) && (head.now.length == 0))) }
+    ensures { result ≡ is_bad_disconnect head.now }
 {
     head.command == commands::DISC && !(head.offset == 0 && head.length == 0)
 }

@@ -19,23 +19,24 @@ pub(crate) fn content_span(content: &Content<'_>) -> Span
         },
         Content::Hole { offset, size } => Span {
             offset: *offset,
-            size: u64::from(*size),
+            size: *size,
         },
     }
 }
 
 /// Content lies in the range of this offset and length.
-pub(crate) fn is_inside(span: Span, offset: u64, length: u32) -> bool
+pub(crate) fn is_inside(span: Span, offset: u64, length: u64) -> bool
     ensures { result ≡ (nat_le offset span.offset && nat_le (span.offset + span.size) (offset + length)) }
 {
-    offset <= span.offset && ends_by(span.offset - offset, span.size, u64::from(length))
+    offset <= span.offset && ends_by(span.offset - offset, span.size, length)
 }
 
-/// The sizes of pieces, added up, or the largest number where they pass it.
-pub(crate) fn bytes_in(pieces: &[Piece]) -> u64
-    ensures { result ≡ min (total pieces.now) (2 ^ 64 - 1) }
+/// The sizes of pieces, added up, or the largest number where they pass it: above each length.
+pub(crate) fn bytes_in(pieces: &[Piece]) -> u128
+    ensures { result ≡ min (total pieces.now) (2 ^ 128 - 1) }
 {
-    pieces
-        .iter()
-        .fold(0, |sum, piece| sum.saturating_add(Span::of(piece).size))
+    pieces.iter().fold(
+        0,
+        |sum, piece| sum.saturating_add(u128::from(Span::of(piece).size)),
+    )
 }

@@ -26,7 +26,7 @@ pub(crate) fn status_fault(
 ) -> Option<WireFault>
     ensures { (core : Core) (export : Exporting) (e : Operation) (cookie : ℕ) → Shows state.now core →
         e.contexts ≡ in_force core → IsShown export e exchange.now → is_finished e ≡ false →
-        result ≡ chunk_fault false export e (with_reply e (Chunk flags chunks.BLOCK_STATUS cookie payload.now))
+        result ≡ chunk_fault false false export e (with_reply e (Chunk flags chunks.BLOCK_STATUS cookie payload.now))
         flags chunks.BLOCK_STATUS payload.now }
 {
     if !state.has_contexts() {
@@ -70,7 +70,7 @@ fn fits_range(asked: &Asked, descriptors: &[u8]) -> bool
 }
 
 // Whether all extents but the last are together shorter than this size, in bytes.
-fn last_begins_within(size: u32, descriptors: &[u8]) -> bool
+fn last_begins_within(size: u64, descriptors: &[u8]) -> bool
     ensures { result ≡ not (nat_le size (reach (but_last (extents_of descriptors.now)))) }
 {
     let mut left = size;
@@ -78,10 +78,11 @@ fn last_begins_within(size: u32, descriptors: &[u8]) -> bool
         return size > 0;
     };
     while let Some((next, later)) = first_extent(rest) {
-        if extent.length >= left {
+        let length = u64::from(extent.length);
+        if length >= left {
             return false;
         }
-        left -= extent.length;
+        left -= length;
         extent = next;
         rest = later;
     }
@@ -89,12 +90,12 @@ fn last_begins_within(size: u32, descriptors: &[u8]) -> bool
 }
 
 // Whether there is one extent, not longer than this size, in bytes.
-fn is_one_within(size: u32, descriptors: &[u8]) -> bool
+fn is_one_within(size: u64, descriptors: &[u8]) -> bool
     ensures { result ≡ ((length (extents_of descriptors.now) == 1)
         && nat_le (reach (extents_of descriptors.now)) size) }
 {
     match first_extent(descriptors) {
-        Some((extent, rest)) => first_extent(rest).is_none() && extent.length <= size,
+        Some((extent, rest)) => first_extent(rest).is_none() && u64::from(extent.length) <= size,
         None => false,
     }
 }

@@ -66,14 +66,15 @@ place_if_last false n j t e = refl
 
 -- a message of the negotiation changes the phase and what it says of the handshake
 pub negotiation_is_shown : (old new : State) (core next : Core) → Shows old core → export_in core.phase ≡ None → next.entries ≡ core.entries → next.shown ≡ core.shown → next.ended_at ≡ core.ended_at → new.exchanges ≡ old.exchanges → new.outstanding ≡ old.outstanding →
-    new.profile ≡ next.profile → new.phase ≡ phase_shown next.phase → new.offered ≡ next.offered → new.client_flags ≡ next.client_flags → new.structured ≡ next.structured → new.disconnected ≡ next.disconnected →
+    new.profile ≡ next.profile → new.phase ≡ phase_shown next.phase → new.offered ≡ next.offered → new.client_flags ≡ next.client_flags → new.structured ≡ next.structured → new.extended ≡ next.extended → new.disconnected ≡ next.disconnected →
     HasSelection new.selection next.selection → new.brings_contexts ≡ next.brings_contexts → new.sizing ≡ next.sizing → Shows new next
-negotiation_is_shown old new core next s n entries shown ended exchanges outstanding profile phase offered client_flags structured disconnected selection agreed sizing = record {
+negotiation_is_shown old new core next s n entries shown ended exchanges outstanding profile phase offered client_flags structured extended disconnected selection agreed sizing = record {
   profile_is = profile;
   phase_is = phase;
   offered_is = offered;
   client_flags_are = client_flags;
   structured_is = structured;
+  extended_is = extended;
   selection_is = selection;
   brings_contexts_is = agreed;
   sizing_is = sizing;
@@ -97,6 +98,7 @@ requested_shows old new core export e x s p r asked t h items places kept = reco
   offered_is = ap (λ (z : State). z.offered) kept ∙ s.offered_is;
   client_flags_are = ap (λ (z : State). z.client_flags) kept ∙ s.client_flags_are;
   structured_is = ap (λ (z : State). z.structured) kept ∙ s.structured_is;
+  extended_is = ap (λ (z : State). z.extended) kept ∙ s.extended_is;
   selection_is = subst (λ z. HasSelection z core.selection) (sym (ap (λ (z : State). z.selection) kept)) s.selection_is;
   brings_contexts_is = ap (λ (z : State). z.brings_contexts) kept ∙ s.brings_contexts_is;
   sizing_is = ap (λ (z : State). z.sizing) kept ∙ s.sizing_is;
@@ -140,6 +142,7 @@ replied_shows old mid new core export cookie place m x y r s p c g i step kept l
       offered_is = ap (λ (z : State). z.offered) made ∙ ap (λ (z : State). z.offered) kept ∙ s.offered_is;
       client_flags_are = ap (λ (z : State). z.client_flags) made ∙ ap (λ (z : State). z.client_flags) kept ∙ s.client_flags_are;
       structured_is = ap (λ (z : State). z.structured) made ∙ ap (λ (z : State). z.structured) kept ∙ s.structured_is;
+      extended_is = ap (λ (z : State). z.extended) made ∙ ap (λ (z : State). z.extended) kept ∙ s.extended_is;
       selection_is = subst (λ z. HasSelection z core.selection) (sym (ap (λ (z : State). z.selection) made ∙ ap (λ (z : State). z.selection) kept)) s.selection_is;
       brings_contexts_is = ap (λ (z : State). z.brings_contexts) made ∙ ap (λ (z : State). z.brings_contexts) kept ∙ s.brings_contexts_is;
       sizing_is = ap (λ (z : State). z.sizing) made ∙ ap (λ (z : State). z.sizing) kept ∙ s.sizing_is;

@@ -2,17 +2,17 @@
 use Rattle.std.proofs.Common.{◌≡◌, ℕ, ◌<◌, ◌||◌, ◌&&◌, ◌==◌, List, length, refl, sym, ◌∙◌, ap, subst, Option, Some, None, Bool}
 use Rattle.std.proofs.lemmas.Option.{slice_get_within}
 use Rattle.nbd_state.specs.Places.{place_at}
-use Rattle.nbd_laws.proofs.judge.AllowLemmas.{ask_allow}
+use Rattle.nbd_laws.proofs.judge.AllowLemmas.{ask_allow, extended_ask_allow}
 use Rattle.nbd_laws.specs.Allowed.{MayAsk}
 use Rattle.nbd_wire.specs.declared.commands.TheConstants as commands
 use Rattle.nbd_wire.specs.declared.message.Message.{Message}
-use Rattle.nbd_wire.specs.declared.message.Message.TheVariants.{Greeting, ClientFlags, Choice, Answer, Exported, Request, Simple, Chunk}
+use Rattle.nbd_wire.specs.declared.message.Message.TheVariants.{Greeting, ClientFlags, Choice, Answer, Exported, Request, ExtendedRequest, Simple, Chunk, ExtendedChunk}
 use Rattle.nbd_wire.specs.declared.sizes.Sizing.{Sizing}
 use Rattle.nbd_wire.specs.protocol.Sizes.{sizing_after, sizing_at}
 use Rattle.nbd_wire.specs.protocol.Options.{agrees, reply_phase, choice_phase, is_proper_option, next_phase, selection_after, selection_at, takes_contexts}
 use Rattle.nbd_wire.specs.protocol.Operations.{Exporting}
-use Rattle.nbd_wire.specs.protocol.Rules.{AnswersOne, MayComplete, complete, grants_structured}
-use Rattle.nbd_wire.specs.protocol.States.{Core, Phase, Greet, Flags, Choosing, Naming, Aborting, Answering, Ended, Transmission, export_in}
+use Rattle.nbd_wire.specs.protocol.Rules.{AnswersOne, MayComplete, complete, grants_extended, grants_structured}
+use Rattle.nbd_wire.specs.protocol.States.{Core, Phase, Greet, Flags, Choosing, Naming, Aborting, Answering, Ended, Transmission, export_in, has_contexts}
 use Rattle.nbd_state.specs.declared.state.Chosen.{Chosen}
 use Rattle.nbd_state.specs.declared.state.Phase as states
 use Rattle.nbd_state.specs.declared.state.Phase.TheVariants as shown
@@ -133,6 +133,18 @@ asked_in core (Answering asked given info) flags command cookie offset len paylo
 asked_in core Ended flags command cookie offset len payload ok = absurd ok
 asked_in core (Transmission export) flags command cookie offset len payload ok = (export, refl, ask_allow core command cookie offset len ok.0 ok.1)
 
+pub extended_asked_in : (core : Core) (p : Phase) (flags command cookie offset len : ℕ) (payload : List ℕ) → MayComplete core p (ExtendedRequest flags command cookie offset len payload) →
+    (export : Exporting) × (p ≡ Transmission export) × MayAsk (command == commands.DISC) core cookie offset len
+unfolding MayComplete
+extended_asked_in core Greet flags command cookie offset len payload ok = absurd ok
+extended_asked_in core Flags flags command cookie offset len payload ok = absurd ok
+extended_asked_in core Choosing flags command cookie offset len payload ok = absurd ok
+extended_asked_in core Naming flags command cookie offset len payload ok = absurd ok
+extended_asked_in core Aborting flags command cookie offset len payload ok = absurd ok
+extended_asked_in core (Answering asked given info) flags command cookie offset len payload ok = absurd ok
+extended_asked_in core Ended flags command cookie offset len payload ok = absurd ok
+extended_asked_in core (Transmission export) flags command cookie offset len payload ok = (export, refl, extended_ask_allow core (has_contexts core) flags command cookie offset len ok.0 ok.1)
+
 pub simple_in : (core : Core) (p : Phase) (error cookie : ℕ) (payload : List ℕ) → MayComplete core p (Simple error cookie payload) →
     (export : Exporting) × (p ≡ Transmission export) × AnswersOne core export cookie (Simple error cookie payload)
 unfolding MayComplete
@@ -157,6 +169,18 @@ chunk_in core (Answering asked given info) flags kind cookie payload ok = absurd
 chunk_in core Ended flags kind cookie payload ok = absurd ok
 chunk_in core (Transmission export) flags kind cookie payload ok = (export, refl, ok)
 
+pub extended_chunk_in : (core : Core) (p : Phase) (flags kind cookie offset : ℕ) (payload : List ℕ) → MayComplete core p (ExtendedChunk flags kind cookie offset payload) →
+    (export : Exporting) × (p ≡ Transmission export) × AnswersOne core export cookie (ExtendedChunk flags kind cookie offset payload)
+unfolding MayComplete
+extended_chunk_in core Greet flags kind cookie offset payload ok = absurd ok
+extended_chunk_in core Flags flags kind cookie offset payload ok = absurd ok
+extended_chunk_in core Choosing flags kind cookie offset payload ok = absurd ok
+extended_chunk_in core Naming flags kind cookie offset payload ok = absurd ok
+extended_chunk_in core Aborting flags kind cookie offset payload ok = absurd ok
+extended_chunk_in core (Answering asked given info) flags kind cookie offset payload ok = absurd ok
+extended_chunk_in core Ended flags kind cookie offset payload ok = absurd ok
+extended_chunk_in core (Transmission export) flags kind cookie offset payload ok = (export, refl, ok)
+
 module _ (old new : State) (core : Core) (s : Shows old core) where
   pub shows_greeted : (flags : ℕ) → MayComplete core core.phase (Greeting flags) → new ≡ record old { phase = shown.Flags; offered = flags } → Shows new (complete core (Greeting flags))
   unfolding complete
@@ -165,7 +189,7 @@ module _ (old new : State) (core : Core) (s : Shows old core) where
       negotiation_is_shown old new core (complete core (Greeting flags)) s r.0 refl refl refl (ap (λ (z : State). z.exchanges) made) (ap (λ (z : State). z.outstanding) made)
       (ap (λ (z : State). z.profile) made ∙ s.profile_is)
       (ap (λ (z : State). z.phase) made ∙ r.1) (ap (λ (z : State). z.offered) made) (ap (λ (z : State). z.client_flags) made ∙ s.client_flags_are)
-      (ap (λ (z : State). z.structured) made ∙ s.structured_is) (ap (λ (z : State). z.disconnected) made ∙ s.disconnected_is)
+      (ap (λ (z : State). z.structured) made ∙ s.structured_is) (ap (λ (z : State). z.extended) made ∙ s.extended_is) (ap (λ (z : State). z.disconnected) made ∙ s.disconnected_is)
       (subst (λ z. HasSelection z core.selection) (sym (ap (λ (z : State). z.selection) made)) s.selection_is) (ap (λ (z : State). z.brings_contexts) made ∙ s.brings_contexts_is) (ap (λ (z : State). z.sizing) made ∙ s.sizing_is)
 
   pub shows_flags : (flags : ℕ) → MayComplete core core.phase (ClientFlags flags) → new ≡ record old { phase = shown.Choosing; client_flags = flags } → Shows new (complete core (ClientFlags flags))
@@ -175,7 +199,7 @@ module _ (old new : State) (core : Core) (s : Shows old core) where
       negotiation_is_shown old new core (complete core (ClientFlags flags)) s r.0 refl refl refl (ap (λ (z : State). z.exchanges) made) (ap (λ (z : State). z.outstanding) made)
       (ap (λ (z : State). z.profile) made ∙ s.profile_is)
       (ap (λ (z : State). z.phase) made ∙ r.1) (ap (λ (z : State). z.offered) made ∙ s.offered_is) (ap (λ (z : State). z.client_flags) made)
-      (ap (λ (z : State). z.structured) made ∙ s.structured_is) (ap (λ (z : State). z.disconnected) made ∙ s.disconnected_is)
+      (ap (λ (z : State). z.structured) made ∙ s.structured_is) (ap (λ (z : State). z.extended) made ∙ s.extended_is) (ap (λ (z : State). z.disconnected) made ∙ s.disconnected_is)
       (subst (λ z. HasSelection z core.selection) (sym (ap (λ (z : State). z.selection) made)) s.selection_is) (ap (λ (z : State). z.brings_contexts) made ∙ s.brings_contexts_is) (ap (λ (z : State). z.sizing) made ∙ s.sizing_is)
 
   pub shows_chosen : (id : ℕ) (payload : List ℕ) (phase : states.Phase) (selection : Selection) (agreed : Bool) (sizing : Sizing) → MayComplete core core.phase (Choice id payload) → phase ≡ phase_shown (choice_phase id payload) →
@@ -186,18 +210,19 @@ module _ (old new : State) (core : Core) (s : Shows old core) where
       negotiation_is_shown old new core (complete core (Choice id payload)) s r.0 refl refl refl (ap (λ (z : State). z.exchanges) made) (ap (λ (z : State). z.outstanding) made)
       (ap (λ (z : State). z.profile) made ∙ s.profile_is)
       (ap (λ (z : State). z.phase) made ∙ is ∙ r.1) (ap (λ (z : State). z.offered) made ∙ s.offered_is) (ap (λ (z : State). z.client_flags) made ∙ s.client_flags_are)
-      (ap (λ (z : State). z.structured) made ∙ s.structured_is) (ap (λ (z : State). z.disconnected) made ∙ s.disconnected_is)
+      (ap (λ (z : State). z.structured) made ∙ s.structured_is) (ap (λ (z : State). z.extended) made ∙ s.extended_is) (ap (λ (z : State). z.disconnected) made ∙ s.disconnected_is)
       (subst (λ z. HasSelection z (selection_at id payload core.selection)) (sym (ap (λ (z : State). z.selection) made)) selected) (ap (λ (z : State). z.brings_contexts) made ∙ brings_contexts_is) (ap (λ (z : State). z.sizing) made ∙ sized)
 
-  pub shows_answered : (option kind : ℕ) (payload : List ℕ) (phase : states.Phase) (grants : Bool) (selection : Selection) (sizing : Sizing) → MayComplete core core.phase (Answer option kind payload) →
-      phase ≡ phase_shown (next_phase core.phase (Answer option kind payload)) → grants ≡ grants_structured option kind → HasSelection selection (selection_after core.phase kind payload core.selection) → sizing ≡ sizing_after kind payload core.sizing →
-      new ≡ record old { phase = phase; structured = old.structured || grants; selection = selection; sizing = sizing } → Shows new (complete core (Answer option kind payload))
+  pub shows_answered : (option kind : ℕ) (payload : List ℕ) (phase : states.Phase) (grants extends : Bool) (selection : Selection) (sizing : Sizing) → MayComplete core core.phase (Answer option kind payload) →
+      phase ≡ phase_shown (next_phase core.phase (Answer option kind payload)) → grants ≡ grants_structured option kind → extends ≡ grants_extended option kind → HasSelection selection (selection_after core.phase kind payload core.selection) → sizing ≡ sizing_after kind payload core.sizing →
+      new ≡ record old { phase = phase; structured = old.structured || grants; extended = old.extended || extends; selection = selection; sizing = sizing } → Shows new (complete core (Answer option kind payload))
   unfolding complete
-  shows_answered option kind payload phase grants selection sizing ok is granted selected sized made =
+  shows_answered option kind payload phase grants extends selection sizing ok is granted extended selected sized made =
       negotiation_is_shown old new core (complete core (Answer option kind payload)) s (answers core core.phase option kind payload ok) refl refl refl (ap (λ (z : State). z.exchanges) made) (ap (λ (z : State). z.outstanding) made)
       (ap (λ (z : State). z.profile) made ∙ s.profile_is)
       (ap (λ (z : State). z.phase) made ∙ is) (ap (λ (z : State). z.offered) made ∙ s.offered_is) (ap (λ (z : State). z.client_flags) made ∙ s.client_flags_are)
-      (ap (λ (z : State). z.structured) made ∙ ap (λ b. b || grants) s.structured_is ∙ ap (λ b. core.structured || b) granted) (ap (λ (z : State). z.disconnected) made ∙ s.disconnected_is)
+      (ap (λ (z : State). z.structured) made ∙ ap (λ b. b || grants) s.structured_is ∙ ap (λ b. core.structured || b) granted)
+      (ap (λ (z : State). z.extended) made ∙ ap (λ b. b || extends) s.extended_is ∙ ap (λ b. core.extended || b) extended) (ap (λ (z : State). z.disconnected) made ∙ s.disconnected_is)
       (subst (λ z. HasSelection z (selection_after core.phase kind payload core.selection)) (sym (ap (λ (z : State). z.selection) made)) selected) (ap (λ (z : State). z.brings_contexts) made ∙ s.brings_contexts_is) (ap (λ (z : State). z.sizing) made ∙ sized)
 
   pub shows_exported : (size flags : ℕ) (padded : Bool) (phase : states.Phase) → MayComplete core core.phase (Exported size flags padded) → phase ≡ shown.Transmission (record { size = size; flags = flags }) → new ≡ record old { phase = phase } → Shows new (complete core (Exported size flags padded))
@@ -207,7 +232,7 @@ module _ (old new : State) (core : Core) (s : Shows old core) where
       negotiation_is_shown old new core (complete core (Exported size flags padded)) s r.0 refl refl refl (ap (λ (z : State). z.exchanges) made) (ap (λ (z : State). z.outstanding) made)
       (ap (λ (z : State). z.profile) made ∙ s.profile_is)
       (ap (λ (z : State). z.phase) made ∙ is ∙ r.1) (ap (λ (z : State). z.offered) made ∙ s.offered_is) (ap (λ (z : State). z.client_flags) made ∙ s.client_flags_are)
-      (ap (λ (z : State). z.structured) made ∙ s.structured_is) (ap (λ (z : State). z.disconnected) made ∙ s.disconnected_is)
+      (ap (λ (z : State). z.structured) made ∙ s.structured_is) (ap (λ (z : State). z.extended) made ∙ s.extended_is) (ap (λ (z : State). z.disconnected) made ∙ s.disconnected_is)
       (subst (λ z. HasSelection z core.selection) (sym (ap (λ (z : State). z.selection) made)) s.selection_is) (ap (λ (z : State). z.brings_contexts) made ∙ s.brings_contexts_is) (ap (λ (z : State). z.sizing) made ∙ s.sizing_is)
 
 -- what is said of the message that was matched
@@ -218,6 +243,11 @@ shows_same {new} core m n e s = subst (λ x. Shows new (complete core x)) (sym e
 pub transmits : (state : State) (flags command cookie offset len : ℕ) (payload : List ℕ) → MayTake state (Request flags command cookie offset len payload) → IsTransmitting state.phase
 transmits state flags command cookie offset len payload t =
     let a = asked_in t.core t.core.phase flags command cookie offset len payload t.completes in
+    (export_shown a.0, t.shows.phase_is ∙ ap phase_shown a.1)
+
+pub extended_transmits : (state : State) (flags command cookie offset len : ℕ) (payload : List ℕ) → MayTake state (ExtendedRequest flags command cookie offset len payload) → IsTransmitting state.phase
+extended_transmits state flags command cookie offset len payload t =
+    let a = extended_asked_in t.core t.core.phase flags command cookie offset len payload t.completes in
     (export_shown a.0, t.shows.phase_is ∙ ap phase_shown a.1)
 
 -- the request that a reply answers has its exchange
@@ -234,4 +264,9 @@ answered_simple state error cookie payload place t g =
 pub answered_chunk : (state : State) (flags kind cookie : ℕ) (payload : List ℕ) (place : ℕ) → MayTake state (Chunk flags kind cookie payload) → place_at state.outstanding cookie ≡ Some place → place < length state.exchanges.items
 answered_chunk state flags kind cookie payload place t g =
     let a = chunk_in t.core t.core.phase flags kind cookie payload t.completes in
+    answered state t.core a.0 cookie place t.shows a.1 g
+
+pub answered_extended : (state : State) (flags kind cookie offset : ℕ) (payload : List ℕ) (place : ℕ) → MayTake state (ExtendedChunk flags kind cookie offset payload) → place_at state.outstanding cookie ≡ Some place → place < length state.exchanges.items
+answered_extended state flags kind cookie offset payload place t g =
+    let a = extended_chunk_in t.core t.core.phase flags kind cookie offset payload t.completes in
     answered state t.core a.0 cookie place t.shows a.1 g

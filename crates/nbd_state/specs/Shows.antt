@@ -87,6 +87,7 @@ pub record Shows (state : State) (core : Core) : Type 0 where
   pub offered_is : state.offered ≡ core.offered
   pub client_flags_are : state.client_flags ≡ core.client_flags
   pub structured_is : state.structured ≡ core.structured
+  pub extended_is : state.extended ≡ core.extended
   pub selection_is : HasSelection state.selection core.selection
   pub brings_contexts_is : state.brings_contexts ≡ core.brings_contexts
   pub sizing_is : state.sizing ≡ core.sizing

@@ -22,7 +22,7 @@ pub struct Asked {
     pub flags: u16,
     pub command: u16,
     /// The length of its range in bytes.
-    pub length: u32,
+    pub length: u64,
     /// How many numbered requests had completed when its first reply message started; None where none
     /// did.
     pub known_at: Option<u64>,

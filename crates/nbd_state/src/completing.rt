@@ -3,16 +3,17 @@
 ghost use Rattle.std.specs.Prelude.{◌≡◌, ◌<◌, ◌==◌, ◌&&◌, ◌++◌, ◌∷◌, ℕ, List, [], Option, Some, None, false, if◌then◌else◌, length, OnOk};
 ghost use Rattle.nbd_state.specs.Places.{place_at};
 ghost use Rattle.nbd_wire.specs.declared.commands.TheConstants as commands;
-ghost use Rattle.nbd_wire.specs.declared.message.Message.TheVariants.{Answer, Choice, Chunk, Simple};
+ghost use Rattle.nbd_wire.specs.declared.message.Message.TheVariants.{Answer, Choice, Simple};
 ghost use Rattle.nbd_wire.specs.declared.profile.Profile.{Profile};
 ghost use Rattle.nbd_wire.specs.protocol.Options as options;
 ghost use Rattle.nbd_wire.specs.protocol.Options.{ack_phase, agrees, reply_phase, is_proper_option, next_phase, takes_contexts};
 ghost use Rattle.nbd_wire.specs.protocol.Operations.{Exporting};
-ghost use Rattle.nbd_wire.specs.protocol.Rules.{MayComplete, complete, grants_structured, core_with_reply, core_with_request};
+ghost use Rattle.nbd_wire.specs.protocol.Rules.{MayComplete, complete, grants_extended, grants_structured, core_with_reply, core_with_request};
 ghost use Rattle.nbd_wire.specs.protocol.Sendable.{IsSendable};
 ghost use Rattle.nbd_wire.specs.protocol.States as definitions;
 ghost use Rattle.nbd_wire.specs.protocol.States.{Core, in_force, start_of, target};
-ghost use Rattle.nbd_state.specs.internal.Showing.{operation_of_head};
+ghost use Rattle.nbd_state.specs.Heads.{chunk_of};
+ghost use Rattle.nbd_state.specs.internal.Showing.{carried, operation_of_head};
 ghost use Rattle.nbd_wire.specs.protocol.Sizes.{sizes_for, sizes_kept};
 ghost use Rattle.nbd_wire.specs.protocol.Statuses.{status_in};
 ghost use Rattle.nbd_state.specs.internal.Completing.{AddsUnanswered, IsTransmitting, TellsOne, is_allocation_told};
@@ -29,7 +30,7 @@ use crate::statuses::told_in;
 use nbd_wire::answers::is_error;
 use nbd_wire::flags::has;
 use nbd_wire::{
-    Bytes, Message, RequestHead, Sizing, answers, chunks, commands, options, sizes_for,
+    Bytes, ChunkHead, Message, RequestHead, Sizing, answers, chunks, commands, options, sizes_for,
 };
 use std::alloc::{AllocError, Global};
 
@@ -89,6 +90,25 @@ impl State {
                 payload,
             } => {
                 let head = RequestHead {
+                    extended: false,
+                    flags: *flags,
+                    command: *command,
+                    cookie: *cookie,
+                    offset: *offset,
+                    length: u64::from(*length),
+                };
+                self.request(alloc, &head, payload)
+            }
+            Message::ExtendedRequest {
+                flags,
+                command,
+                cookie,
+                offset,
+                length,
+                payload,
+            } => {
+                let head = RequestHead {
+                    extended: true,
                     flags: *flags,
                     command: *command,
                     cookie: *cookie,
@@ -107,15 +127,32 @@ impl State {
                 kind,
                 cookie,
                 payload,
-            } => self.chunk(
-                alloc,
-                *flags,
-                *kind,
-                *cookie,
-                place,
-                payload.as_slice(),
-                known,
-            ),
+            } => {
+                let head = ChunkHead {
+                    at: None,
+                    flags: *flags,
+                    kind: *kind,
+                    cookie: *cookie,
+                    length: length_of(payload),
+                };
+                self.chunk(alloc, &head, place, payload, known)
+            }
+            Message::ExtendedChunk {
+                flags,
+                kind,
+                cookie,
+                offset,
+                payload,
+            } => {
+                let head = ChunkHead {
+                    at: Some(*offset),
+                    flags: *flags,
+                    kind: *kind,
+                    cookie: *cookie,
+                    length: length_of(payload),
+                };
+                self.chunk(alloc, &head, place, payload, known)
+            }
         }
     }
 
@@ -143,6 +180,7 @@ impl State {
             Shows self.new (complete core (Answer option kind payload.now))) }
     {
         self.structured |= grants_structured(option, kind);
+        self.extended |= grants_extended(option, kind);
         let phase = self.phase;
         let answer = payload.as_slice();
         self.phase = phase_after_reply(phase, kind, answer);
@@ -170,7 +208,7 @@ impl State {
             core.phase ≡ definitions.Transmission export → ((head.now.command == commands.DISC) ≡ false →
             target head.now.cookie core.entries ≡ None) →
             Shows self.new (core_with_request (head.now.command == commands.DISC) core
-            (operation_of_head head.now payload.now (in_force core)
+            (operation_of_head head.now (carried head.now payload.now) (in_force core)
             (sizes_for core.structured head.now.command (sizes_kept core.sizing)) []))) }
         ensures adds { OnOk result (AddsUnanswered self.old.exchanges.items self.new.exchanges.items) }
         ensures profile { self.new.profile ≡ self.old.profile }
@@ -233,30 +271,49 @@ impl State {
         self.exchanges[place].take_simple(alloc, error, payload, counts)
     }
 
-    // A chunk has completed.
+    // A chunk with this head has completed.
     fn chunk(
         &mut self,
         alloc: Global,
-        flags: u16,
-        kind: u16,
-        cookie: u64,
+        head: &ChunkHead,
         place: usize,
-        payload: &[u8],
+        payload: &Bytes,
         known: u64,
     ) -> Result<(), AllocError>
-        requires place { place_at self.old.outstanding cookie ≡ Some place }
+        requires place { place_at self.old.outstanding head.now.cookie ≡ Some place }
         requires within { place < length self.old.exchanges.items }
         ensures profile { self.new.profile ≡ self.old.profile }
         ensures shown { OnOk result ((core : Core) (export : Exporting) → IsReached core →
             Shows self.old core → core.phase ≡ definitions.Transmission export →
-            Shows self.new (core_with_reply core (Chunk flags kind cookie payload.now))) }
-        ensures tells { OnOk result (TellsOne (place_at self.old.outstanding cookie) known
+            Shows self.new (core_with_reply core (chunk_of head.now payload.now))) }
+        ensures tells { OnOk result (TellsOne (place_at self.old.outstanding head.now.cookie) known
             self.old.exchanges.items self.new.exchanges.items) }
     {
-        let zeroes = self.is_allocation_told(kind, payload);
+        self.chunk_in(alloc, head, place, payload.as_slice(), known)
+    }
+
+    // The same, with the bytes of its payload.
+    fn chunk_in(
+        &mut self,
+        alloc: Global,
+        head: &ChunkHead,
+        place: usize,
+        payload: &[u8],
+        known: u64,
+    ) -> Result<(), AllocError>
+        requires place { place_at self.old.outstanding head.now.cookie ≡ Some place }
+        requires within { place < length self.old.exchanges.items }
+        ensures profile { self.new.profile ≡ self.old.profile }
+        ensures shown { OnOk result ((core : Core) (export : Exporting) → IsReached core →
+            Shows self.old core → core.phase ≡ definitions.Transmission export →
+            Shows self.new (core_with_reply core (chunk_of head.now payload.now))) }
+        ensures tells { OnOk result (TellsOne (place_at self.old.outstanding head.now.cookie) known
+            self.old.exchanges.items self.new.exchanges.items) }
+    {
+        let zeroes = self.is_allocation_told(head, payload);
         let counts = self.counts(known);
-        self.end_if(has(flags, chunks::DONE), cookie);
-        self.exchanges[place].take_chunk(alloc, flags, kind, payload, zeroes, counts)
+        self.end_if(has(head.flags, chunks::DONE), head.cookie);
+        self.exchanges[place].take_chunk(alloc, head, payload, zeroes, counts)
     }
 
     // So many requests had completed before the first byte of a message, which is whole now.
@@ -270,11 +327,11 @@ impl State {
     }
 
     // A chunk is the status of a context in force that tells what reads as zeroes.
-    fn is_allocation_told(&self, kind: u16, payload: &[u8]) -> bool
-        ensures { (core : Core) (flags cookie : ℕ) → Shows self.now core →
-            result ≡ is_allocation_told (in_force core) (status_in (Chunk flags kind cookie payload.now)) }
+    fn is_allocation_told(&self, head: &ChunkHead, payload: &[u8]) -> bool
+        ensures { (core : Core) → Shows self.now core →
+            result ≡ is_allocation_told (in_force core) (status_in (chunk_of head.now payload.now)) }
     {
-        match told_in(kind, payload) {
+        match told_in(head, payload) {
             Some((id, _)) => self.is_allocation(id),
             None => false,
         }
@@ -308,6 +365,13 @@ fn chosen(option: u32, payload: &[u8]) -> Phase
     }
 }
 
+// How many bytes a payload has.
+fn length_of(payload: &Bytes) -> u64
+    ensures { result ≡ length payload.now }
+{
+    payload.as_slice().len() as u64
+}
+
 /// Where the answer to EXPORT_NAME leads.
 fn phase_after_export(size: u64, flags: u16) -> Phase
     ensures { result ≡ phase_shown (definitions.Transmission (record { size = size; flags = flags })) }
@@ -319,7 +383,15 @@ fn phase_after_export(size: u64, flags: u16) -> Phase
 fn grants_structured(option: u32, kind: u32) -> bool
     ensures { result ≡ grants_structured option kind }
 {
-    option == options::STRUCTURED_REPLY && kind == answers::ACK
+    (option == options::STRUCTURED_REPLY || option == options::EXTENDED_HEADERS)
+        && kind == answers::ACK
+}
+
+/// Whether an answer puts extended headers in force.
+fn grants_extended(option: u32, kind: u32) -> bool
+    ensures { result ≡ grants_extended option kind }
+{
+    option == options::EXTENDED_HEADERS && kind == answers::ACK
 }
 
 /// Where an answer leads.

@@ -91,7 +91,7 @@ fn byte_of(piece: &Piece, offset: u64) -> Option<u8>
             size,
         } => {
             let at = offset.checked_sub(*first)?;
-            if at < u64::from(*size) { Some(0) } else { None }
+            if at < *size { Some(0) } else { None }
         }
     }
 }

@@ -17,7 +17,7 @@ pub(crate) fn is_proper_option(option: u32, payload: &[u8]) -> bool
 {
     match option {
         options::EXPORT_NAME | options::ABORT => true,
-        options::LIST | options::STRUCTURED_REPLY => payload.is_empty(),
+        options::LIST | options::STRUCTURED_REPLY | options::EXTENDED_HEADERS => payload.is_empty(),
         options::INFO | options::GO => go_of(payload).is_some(),
         options::LIST_META_CONTEXT | options::SET_META_CONTEXT => queries_of(payload).is_some(),
         _ => false,

@@ -1,7 +1,7 @@
 //! Whether a client should send a request (proto.md, "Request types", "Command flags",
 //! "Transmission flags").
 
-ghost use Rattle.std.specs.Prelude.{◌≡◌, ◌+◌, ◌==◌, ◌&&◌, ◌||◌, ℕ, List, Option, length, not, nat_le};
+ghost use Rattle.std.specs.Prelude.{◌≡◌, ◌<◌, ◌+◌, ◌==◌, ◌&&◌, ◌||◌, ℕ, List, Option, false, length, not, nat_le};
 ghost use Rattle.nbd_wire.specs.declared.message.Message.{Message};
 ghost use Rattle.nbd_wire.specs.declared.sizes.Sizes.{Sizes};
 ghost use Rattle.nbd_wire.specs.protocol.Contexts.{Context};
@@ -27,7 +27,7 @@ pub fn is_proper(export: Export, has_contexts: bool, request: &RequestHead) -> b
         && !(is_change(request.command) && has(export.flags, transmission::READ_ONLY))
         && has_only(
             u32::from(request.flags),
-            u32::from(allowed_flags(export.flags, request.command)),
+            u32::from(allowed_flags(request.extended, export.flags, request.command)),
         )
         && (request.command != commands::FLUSH || request.offset == 0 && request.length == 0)
 }
@@ -86,7 +86,7 @@ fn is_in_range(size: u64, request: &RequestHead) -> bool
     ensures { result ≡ not (operations.has_range request.now.command) || nat_le
         (request.now.offset + request.now.length) size }
 {
-    !has_range(request.command) || ends_by(request.offset, u64::from(request.length), size)
+    !has_range(request.command) || ends_by(request.offset, request.length, size)
 }
 
 // The export offers the type. CACHE needs no SEND_CACHE: servers carry it out without that flag
@@ -103,8 +103,19 @@ fn is_offered(flags: u16, command: u16) -> bool
 }
 
 // The flags that a request of this type may carry.
-fn allowed_flags(flags: u16, command: u16) -> u16
-    ensures { result ≡ operations.allowed_flags flags command }
+fn allowed_flags(extended: bool, flags: u16, command: u16) -> u16
+    ensures { result ≡ operations.allowed_flags extended flags command }
+{
+    mask_if(
+        extended && command == commands::WRITE,
+        command_flags::PAYLOAD_LEN,
+    ) | other_flags(flags, command)
+}
+
+// The same, but for PAYLOAD_LEN.
+fn other_flags(flags: u16, command: u16) -> u16
+    ensures flags { result ≡ operations.allowed_flags false flags command }
+    ensures few { result < 32 }
 {
     let (is_read, is_zeroes) = (command == commands::READ, command == commands::WRITE_ZEROES);
     let is_status = command == commands::BLOCK_STATUS;

@@ -3,7 +3,7 @@
 ghost use Rattle.std.specs.Prelude.{◌≡◌, ◌<◌, ◌+◌, ◌^◌, ◌==◌, true, ◌++◌, ◌∷◌, ℕ, List, false, not, IfErr, IfOk, OnErr, [], if◌then◌else◌, is_some, length};
 ghost use Rattle.smallvec.specs.SmallVec.{HasRoomFor};
 ghost use Rattle.nbd_wire.specs.declared.message.Message.{Message};
-ghost use Rattle.nbd_wire.specs.declared.message.Message.TheVariants.{Chunk, Simple};
+ghost use Rattle.nbd_wire.specs.declared.message.Message.TheVariants.{Simple};
 ghost use Rattle.nbd_wire.specs.codec.Contents.{piece_of};
 ghost use Rattle.nbd_wire.specs.protocol.Contexts.{Context, Status};
 ghost use Rattle.nbd_wire.specs.protocol.Payloads as payloads;
@@ -17,7 +17,8 @@ ghost use Rattle.nbd_state.specs.internal.Completing.{is_allocation_told};
 ghost use Rattle.nbd_state.specs.declared.asked.Outcome.TheVariants.{Failure, Success};
 ghost use Rattle.std.specs.Option.{option_copied};
 ghost use Rattle.nbd_state.specs.Indexes.{Indexes};
-ghost use Rattle.nbd_state.specs.internal.Showing.{operation_of_head};
+ghost use Rattle.nbd_state.specs.Heads.{chunk_of};
+ghost use Rattle.nbd_state.specs.internal.Showing.{carried, operation_of_head};
 ghost use Rattle.nbd_state.specs.Showing.{IsShown, exporting};
 ghost use Rattle.nbd_state.specs.internal.Noting.{IsNotedWith};
 ghost use Rattle.nbd_wire.specs.protocol.Rules.{noted};
@@ -29,7 +30,9 @@ use crate::proper::{is_outside, is_proper};
 use crate::state::Export;
 use crate::statuses::{clear_if, tell, told_in, zeroes_told};
 use nbd_wire::flags::has;
-use nbd_wire::{Bytes, Content, Piece, RequestHead, Sizes, chunks, content_of};
+use nbd_wire::{
+    Bytes, ChunkHead, Content, Piece, RequestHead, Sizes, chunks, commands, content_of,
+};
 use smallvec::SmallVec;
 use std::alloc::{AllocError, Global};
 use std::collections::BTreeSet;
@@ -54,9 +57,9 @@ impl Exchange {
         payload: &Bytes,
     ) -> Result<Exchange, AllocError>
         ensures { IfOk result (λ x. (contexts : List Context) → has_contexts ≡ not (length contexts == 0) →
-            IsShown (exporting export) (operation_of_head head.now payload.now contexts sizes []) x) }
+            IsShown (exporting export) (operation_of_head head.now (carried head.now payload.now) contexts sizes []) x) }
     {
-        let payload = payload.share()?;
+        let payload = carried(head, payload)?;
         let asked = Asked {
             flags: head.flags,
             command: head.command,
@@ -106,24 +109,23 @@ impl Exchange {
         self.take(alloc, piece, counts, true, error != 0)
     }
 
-    /// A whole chunk has answered it; so many requests had completed before its first byte and now; whether it is the
-    /// status of a context that tells what reads as zeroes. After an `Err`, that memory ran out, the exchange is as it was.
+    /// A whole chunk with this head has answered it; so many requests had completed before its first byte and now; whether it is
+    /// the status of a context that tells what reads as zeroes. After an `Err`, that memory ran out, the exchange is as it was.
     pub(crate) fn take_chunk(
         &mut self,
         alloc: Global,
-        flags: u16,
-        kind: u16,
+        head: &ChunkHead,
         payload: &[u8],
         zeroes: bool,
         counts: Counts,
     ) -> Result<(), AllocError>
-        ensures shown { IfOk result (λ _. (export : Exporting) (e : Operation) (cookie : ℕ) →
+        ensures shown { IfOk result (λ _. (export : Exporting) (e : Operation) →
             IsShown export e self.old → is_finished e ≡ false → export.size < 2 ^ 64 →
-            zeroes ≡ is_allocation_told e.contexts (status_in (Chunk flags kind cookie payload.now)) →
-            IsShown export (with_reply e (Chunk flags kind cookie payload.now)) self.new) }
-        ensures noted { IfOk result (λ _. (export : Exporting) (e : Operation) (cookie : ℕ) →
+            zeroes ≡ is_allocation_told e.contexts (status_in (chunk_of head.now payload.now)) →
+            IsShown export (with_reply e (chunk_of head.now payload.now)) self.new) }
+        ensures noted { IfOk result (λ _. (export : Exporting) (e : Operation) →
             IsShown export e self.old → is_finished e ≡ false →
-            IsNotedWith e (Chunk flags kind cookie payload.now) counts.now self.old.asked self.new.asked) }
+            IsNotedWith e (chunk_of head.now payload.now) counts.now self.old.asked self.new.asked) }
         ensures first { IfOk result
             (λ _. self.new.asked.known_at ≡ (if is_some self.old.asked.known_at then self.old.asked.known_at
             else Some counts.known)) }
@@ -131,15 +133,15 @@ impl Exchange {
             IsShown export e self.old → IsShown export e self.new) }
         ensures kept { IfErr result (λ _. self.new.asked.known_at ≡ self.old.asked.known_at) }
     {
-        let ends = has(flags, chunks::DONE);
-        if let Some((id, descriptors)) = told_in(kind, payload) {
+        let ends = has(head.flags, chunks::DONE);
+        if let Some((id, descriptors)) = told_in(head, payload) {
             if self.asked.known_at.is_some() {
                 return self.take_status(id, counts, ends);
             }
             return self.take_first_status(alloc, id, descriptors, zeroes, counts, ends);
         }
-        let piece = content_piece(alloc, kind, payload)?;
-        self.take(alloc, piece, counts, ends, is_error_chunk(kind))
+        let piece = content_piece(alloc, head.kind, payload)?;
+        self.take(alloc, piece, counts, ends, is_error_chunk(head.kind))
     }
 
     // The first message of the reply is the status of the context with this id; it may end the reply.
@@ -240,6 +242,16 @@ impl Exchange {
         self.asked.outcome = outcome_after(self.asked.outcome, ends, self.failed);
         Ok(())
     }
+}
+
+// What is kept of the payload behind a head: with an extended one that of a WRITE alone.
+fn carried(head: &RequestHead, payload: &Bytes) -> Result<Bytes, AllocError>
+    ensures { IfOk result (λ bytes. bytes ≡ carried head.now payload.now) }
+{
+    if head.extended && head.command != commands::WRITE {
+        return Ok(Bytes::none());
+    }
+    payload.share()
 }
 
 // The index of these pieces and one more, if any; where the reply ends it holds none.

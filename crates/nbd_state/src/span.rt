@@ -26,7 +26,7 @@ impl Span {
             },
             Piece::Hole { offset, size } => Span {
                 offset: *offset,
-                size: u64::from(*size),
+                size: *size,
             },
         }
     }

@@ -57,6 +57,8 @@ pub struct State {
     pub client_flags: u32,
     /// Structured replies are in force.
     pub structured: bool,
+    /// Extended headers are in force.
+    pub extended: bool,
     /// What the last SET_META_CONTEXT selected.
     pub selection: Selection,
     /// In transmission: the contexts of the selection are in force. Before it: they are if the option that was chosen
@@ -99,6 +101,7 @@ impl State {
             offered: 0,
             client_flags: 0,
             structured: false,
+            extended: false,
             selection: Selection::none(alloc),
             brings_contexts: false,
             sizing: Sizing::none(),

@@ -3,7 +3,6 @@
 ghost use Rattle.std.specs.Prelude.{◌≡◌, ◌<◌, ◌+◌, ◌^◌, ◌==◌, ◌&&◌, not, true, ◌++◌, ◌∷◌, ℕ, false, IfErr, IfOk, MatchOption, [], if◌then◌else◌};
 ghost use Rattle.std.specs.BTreeSet.{contains};
 ghost use Rattle.std.specs.Ordering.{nat_cmp};
-ghost use Rattle.nbd_wire.specs.declared.message.Message.TheVariants.{Chunk};
 ghost use Rattle.nbd_wire.specs.declared.chunks.TheConstants as chunks;
 ghost use Rattle.nbd_wire.specs.declared.commands.TheConstants as commands;
 ghost use Rattle.nbd_wire.specs.protocol.Payloads.{extents_of};
@@ -11,20 +10,21 @@ ghost use Rattle.nbd_wire.specs.protocol.Statuses.{status_in, zeroes_in};
 ghost use Rattle.nbd_wire.specs.protocol.Flags.{has};
 ghost use Rattle.nbd_wire.specs.declared.payloads.Piece.TheVariants.{Hole};
 ghost use Rattle.nbd_wire.specs.declared.states.TheConstants as states;
+ghost use Rattle.nbd_state.specs.Heads.{chunk_of};
 
 use crate::asked::Asked;
 use nbd_wire::flags::has_wide;
-use nbd_wire::{Piece, chunks, commands, first_extent, states, status_of};
+use nbd_wire::{ChunkHead, Piece, chunks, commands, first_extent, states, status_of};
 use std::alloc::{AllocError, Global};
 use std::collections::BTreeSet;
 
-/// The id of the context in a status chunk, and its descriptors.
-pub(crate) fn told_in(kind: u16, payload: &[u8]) -> Option<(u32, &[u8])>
-    ensures { (flags cookie : ℕ) → MatchOption result (status_in (Chunk flags kind cookie payload.now) ≡ [])
-        (λ v. (kind ≡ chunks.BLOCK_STATUS) × (status_in (Chunk flags kind cookie payload.now)
+/// The id of the context in the status that this chunk is, if it is one, and its descriptors.
+pub(crate) fn told_in<'a>(head: &ChunkHead, payload: &'a [u8]) -> Option<(u32, &'a [u8])>
+    ensures { MatchOption result (status_in (chunk_of head.now payload.now) ≡ [])
+        (λ v. (head.now.kind ≡ chunks.BLOCK_STATUS) × (status_in (chunk_of head.now payload.now)
         ≡ record { id = v.0; extents = extents_of v.1.now } ∷ [])) }
 {
-    if kind == chunks::BLOCK_STATUS {
+    if head.at.is_none() && head.kind == chunks::BLOCK_STATUS {
         status_of(payload)
     } else {
         None
@@ -51,7 +51,7 @@ pub(crate) fn zeroes_told(
 }
 
 // The bytes of an extent behind the pieces, if there are some and it calls them zero.
-fn push_zero(pieces: &mut Vec<Piece>, offset: u64, size: u32, flags: u32) -> Result<(), AllocError>
+fn push_zero(pieces: &mut Vec<Piece>, offset: u64, size: u64, flags: u32) -> Result<(), AllocError>
     ensures { IfOk result (λ _. pieces.new.items ≡ pieces.old.items
         ++ (if has flags states.ZERO && not (size == 0) then Hole offset size ∷ [] else [])) }
 {
@@ -65,7 +65,7 @@ fn push_zero(pieces: &mut Vec<Piece>, offset: u64, size: u32, flags: u32) -> Res
 fn zeroes_in(
     alloc: Global,
     offset: u64,
-    length: u32,
+    length: u64,
     descriptors: &[u8],
 ) -> Result<Vec<Piece>, AllocError>
     ensures { IfOk result (λ pieces. offset + length < 2 ^ 64 →
@@ -75,8 +75,8 @@ fn zeroes_in(
     let mut left = length;
     let mut rest = descriptors;
     while let Some((extent, later)) = first_extent(rest) {
-        let size = extent.length.min(left);
-        let at = offset.saturating_add(u64::from(length - left));
+        let size = u64::from(extent.length).min(left);
+        let at = offset.saturating_add(length - left);
         push_zero(&mut pieces, at, size, extent.flags)?;
         left -= size;
         rest = later;

@@ -75,7 +75,7 @@ impl Text {
 
     // Why a request does not fit the block sizes, which are told as the least, the preferred and the largest: each reason.
     fn unfit(self, head: &RequestHead, sizes: Sizes, structured: bool) -> Text {
-        let length = u64::from(head.length);
+        let length = head.length;
         let least = u64::from(sizes.least);
         let preferred = u64::from(sizes.preferred);
         let largest = u64::from(sizes.largest);

@@ -81,7 +81,7 @@ impl Contexts {
 
     /// The server has answered it with these data; a name stands at their end.
     pub fn answer(&mut self, told: &Told, data: &[u8]) -> Result<(), AllocError> {
-        if told.choice == options::STRUCTURED_REPLY {
+        if told.choice == options::STRUCTURED_REPLY || told.choice == options::EXTENDED_HEADERS {
             self.structured |= told.answer == answers::ACK;
         }
         if told.choice != options::SET_META_CONTEXT {

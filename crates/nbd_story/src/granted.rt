@@ -16,11 +16,17 @@ struct Extension {
     advice: &'static str,
 }
 
-/// In which profile metadata contexts are followed.
+/// In which profile metadata contexts are followed, and extended headers.
 const IN_WIDE: &str = "try --profile wide, which follows metadata contexts and block status; or ";
+
+const EXTENDED_IN_WIDE: &str = "try --profile wide, which follows extended headers; or ";
 
 /// What metadata contexts are for.
 const CONTEXTS: &str = "metadata contexts, which block status needs";
+
+/// What of a message with an extended header nbdcheck does not follow, and how a session is recorded without it.
+const BEYOND: &str =
+    "record requests whose payload has at most 4294967295 bytes, and no BLOCK_STATUS where extended headers are in force: in libnbd h.set_request_extended_headers(False), or a server that has none";
 
 /// The options that have a name.
 const EXTENSIONS: &[Extension] = &[
@@ -45,7 +51,7 @@ const EXTENSIONS: &[Extension] = &[
     Extension {
         option: options::EXTENDED_HEADERS,
         purpose: "extended headers, of 64 bits",
-        wider: "",
+        wider: EXTENDED_IN_WIDE,
         advice: "record without them: in libnbd h.set_request_extended_headers(False), or a server that has none",
     },
 ];
@@ -68,8 +74,12 @@ fn extension_of(option: u32) -> Extension {
 }
 
 impl Text {
-    /// Adds which option the server granted last, and how the session is followed further, or recorded without it.
+    /// Adds what is not followed: an option that the server granted last, and how the session is followed further, or recorded
+    /// without it; or what a message with an extended header says.
     pub fn instead(self, story: &Story) -> Text {
+        if story.is_transmission {
+            return self.line("instead: ", BEYOND);
+        }
         let extension = extension_of(story.option);
         self.say("granted: ")
             .option(story.option)

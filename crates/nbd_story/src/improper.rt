@@ -104,6 +104,15 @@ const FLAGS: u16 = command_flags::FUA
     | command_flags::REQ_ONE
     | command_flags::FAST_ZERO;
 
+// The flags that a request with such a head may carry, if it is of the right type.
+fn flags_of(head: &RequestHead) -> u16 {
+    if head.extended {
+        FLAGS | command_flags::PAYLOAD_LEN
+    } else {
+        FLAGS
+    }
+}
+
 /// Why a request of another type is not sent.
 const UNKNOWN_TYPE: &str = "its type is none of READ, WRITE, FLUSH, TRIM, CACHE and WRITE_ZEROES";
 
@@ -166,14 +175,20 @@ impl Text {
         )
         .wrong_if(!is_flush && !has_range(head.command), UNKNOWN_TYPE)
         .wrong_if(
-            !has_only(u32::from(head.flags), u32::from(FLAGS)),
+            head.extended
+                && head.command != commands::WRITE
+                && has(head.flags, command_flags::PAYLOAD_LEN),
+            "it carries PAYLOAD_LEN, which only a WRITE may",
+        )
+        .wrong_if(
+            !has_only(u32::from(head.flags), u32::from(flags_of(head))),
             "it carries a flag that is none of FUA, NO_HOLE, DF, REQ_ONE and FAST_ZERO",
         )
     }
 
     // A range that passes the end of an export of this size, and by how much, where 64 bits hold that.
     fn beyond(self, head: &RequestHead, size: u64) -> Text {
-        let length = u64::from(head.length);
+        let length = head.length;
         if !has_range(head.command) || ends_by(head.offset, length, size) {
             return self;
         }
@@ -205,6 +220,8 @@ pub fn chunk_reason(told: &Told, story: &Story) -> &'static str {
         chunks::OFFSET_HOLE if told.payload != 12 =>
             "the payload of a hole has 12 bytes, an offset and a size",
         chunks::OFFSET_HOLE => "its hole has size 0",
+        chunks::BLOCK_STATUS if told.at.is_some() =>
+            "with an extended header nbdcheck knows no chunk of its type",
         chunks::BLOCK_STATUS if story.profile == Profile::Wide => status_form(told.payload, story),
         chunks::ERROR | chunks::ERROR_OFFSET => failure_reason(kind, story.behind(told)),
         _ if kind >= chunks::FIRST_ERROR =>

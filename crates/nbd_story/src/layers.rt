@@ -2,12 +2,13 @@
 
 use crate::explanation::{NO_PLACE, Sources};
 use crate::parts::{between, common, end_of, part_in};
+use crate::reading::request_length;
 use crate::requests::{Request, is_change, range};
 use crate::story::Story;
 use crate::told::{EMPTY, Told};
 use crate::zeroes::{called_zero, count_of, descriptor_in};
 use nbd_export::Start;
-use nbd_wire::{Entry, Part, Side, commands, head_lengths};
+use nbd_wire::{Entry, Part, Side, commands};
 use std::alloc::Global;
 use std::collections::BTreeMap;
 
@@ -65,7 +66,9 @@ impl Stretch {
             commands::WRITE_ZEROES if request.succeeded() => Origin::Zeroes,
             _ => Origin::Unknown,
         };
-        let before = request.before.saturating_add(head_lengths::REQUEST as u64);
+        let before = request
+            .before
+            .saturating_add(request_length(request.head.extended) as u64);
         if is_change(request.head.command) {
             Stretch::of(range(&request.head), origin, before)
         } else {

@@ -91,7 +91,7 @@ impl Text {
 
     /// A request, its range and its flags, where it has these; DISC has no number, and its cookie is not told.
     pub fn request(self, head: &RequestHead, number: u64) -> Text {
-        let length = u64::from(head.length);
+        let length = head.length;
         self.command(head.command)
             .fill_if(number != 0, " #{}, cookie {:#x}", &[number, head.cookie])
             .fill_if(

@@ -111,7 +111,7 @@ impl Text {
         }
         let inside = request.inside(size);
         let text = self.part("range: ", range(&request.head));
-        if inside.length == u64::from(request.head.length) {
+        if inside.length == request.head.length {
             text.number(", in the export of {byte}\n", size)
         } else if inside.length == 0 {
             text.number(", beyond the end of the export of {byte}\n", size)

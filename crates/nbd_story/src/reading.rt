@@ -4,9 +4,10 @@ use crate::requests::range;
 use crate::story::Story;
 use crate::told::{Form, NO_MESSAGE, Told};
 use nbd_wire::{
-    Content, Part, Profile, RequestHead, Side, SimpleHead, answer_head, bytes_in, choice_head,
-    chunk_head, client_flags_head, commands, content_of, export_head, failure_of, greeting_head,
-    head_lengths, options, read_as, request_head, simple_head,
+    Content, Part, Profile, RequestHead, Side, SimpleHead, answer_head, bytes_in, carries_payload,
+    choice_head, chunk_head, client_flags_head, commands, content_of, export_head,
+    extended_chunk_head, extended_request_head, failure_of, greeting_head, head_lengths, options,
+    read_as, request_head, simple_head,
 };
 
 impl Story {
@@ -29,7 +30,7 @@ impl Story {
 
     fn begun_by_client(&self, bytes: &[u8]) -> Told {
         if self.is_transmission {
-            request(bytes)
+            request(self.is_extended, bytes)
         } else if self.client == 0 {
             client_flags(bytes)
         } else {
@@ -51,8 +52,8 @@ impl Story {
 
     fn reply(&self, bytes: &[u8]) -> Told {
         match simple_head(bytes_in(bytes, 0, head_lengths::SIMPLE)) {
-            Some(head) => self.simple(head),
-            None => chunk(self.profile, bytes),
+            Some(head) if !self.is_extended => self.simple(head),
+            _ => chunk(self.profile, self.is_extended, bytes),
         }
     }
 
@@ -80,16 +81,21 @@ fn message(form: Form, head: usize, payload: u64) -> Told {
     told
 }
 
-fn request(bytes: &[u8]) -> Told {
-    let Some(head) = request_head(bytes_in(bytes, 0, head_lengths::REQUEST)) else {
+// A request, by whether extended headers are in force.
+fn request(is_extended: bool, bytes: &[u8]) -> Told {
+    let length = request_length(is_extended);
+    let front = bytes_in(bytes, 0, length);
+    let read = if is_extended {
+        extended_request_head(front)
+    } else {
+        request_head(front)
+    };
+    let Some(head) = read else {
         return NO_MESSAGE;
     };
-    let written = if head.command == commands::WRITE {
-        u64::from(head.length)
-    } else {
-        0
-    };
-    let mut told = message(Form::Request, head_lengths::REQUEST, written);
+    let carried = if has_payload(&head) { head.length } else { 0 };
+    let mut told = message(Form::Request, length, carried);
+    told.at = offset_if(is_extended, head.offset);
     told.flags = head.flags;
     told.kind = head.command;
     told.cookie = head.cookie;
@@ -145,12 +151,21 @@ fn answer(bytes: &[u8]) -> Told {
     told
 }
 
-fn chunk(profile: Profile, bytes: &[u8]) -> Told {
-    let Some(head) = chunk_head(bytes_in(bytes, 0, head_lengths::CHUNK)) else {
+// A chunk, by whether extended headers are in force.
+fn chunk(profile: Profile, is_extended: bool, bytes: &[u8]) -> Told {
+    let (length, read) = if is_extended {
+        let length = head_lengths::EXTENDED_CHUNK;
+        (length, extended_chunk_head(bytes_in(bytes, 0, length)))
+    } else {
+        let length = head_lengths::CHUNK;
+        (length, chunk_head(bytes_in(bytes, 0, length)))
+    };
+    let Some(head) = read else {
         return NO_MESSAGE;
     };
-    let payload = bytes_in(bytes, head_lengths::CHUNK, head.length as usize);
-    let mut told = message(Form::Chunk, head_lengths::CHUNK, u64::from(head.length));
+    let payload = bytes_in(bytes, length, head.length as usize);
+    let mut told = message(Form::Chunk, length, head.length);
+    told.at = head.at;
     told.flags = head.flags;
     told.kind = head.kind;
     told.cookie = head.cookie;
@@ -173,8 +188,26 @@ fn part_of(content: Content<'_>) -> Part {
         },
         Content::Hole { offset, size } => Part {
             offset,
-            length: u64::from(size),
+            length: size,
         },
+    }
+}
+
+// Whether a payload follows the head of a request.
+fn has_payload(head: &RequestHead) -> bool {
+    head.command == commands::WRITE || head.extended && carries_payload(head.flags, head.command)
+}
+
+fn offset_if(is_extended: bool, offset: u64) -> Option<u64> {
+    if is_extended { Some(offset) } else { None }
+}
+
+/// How many bytes the head of a request has.
+pub fn request_length(is_extended: bool) -> usize {
+    if is_extended {
+        head_lengths::EXTENDED_REQUEST
+    } else {
+        head_lengths::REQUEST
     }
 }
 

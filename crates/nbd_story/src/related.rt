@@ -92,6 +92,9 @@ impl Text {
                 ", which no chunk brings\n",
             ),
             WireFault::IncompleteStatus => self.missing_statuses(alloc, told, request, story),
+            WireFault::BadReplyOffset => self
+                .number("wrong: its header has offset {}, ", told.at.unwrap_or(0))
+                .number("that of its request is {}\n", request.head.offset),
             _ => self,
         }
     }

@@ -34,6 +34,7 @@ pub struct Request {
 pub const NO_REQUEST: Request = Request {
     number: 0,
     head: RequestHead {
+        extended: false,
         flags: 0,
         command: commands::DISC,
         cookie: 0,
@@ -82,7 +83,7 @@ impl Request {
         if self.has_inside() && offset < size {
             Part {
                 offset,
-                length: u64::from(self.head.length).min(size - offset),
+                length: self.head.length.min(size - offset),
             }
         } else {
             EMPTY
@@ -107,6 +108,6 @@ pub fn is_change(command: u16) -> bool {
 pub fn range(head: &RequestHead) -> Part {
     Part {
         offset: head.offset,
-        length: u64::from(head.length),
+        length: head.length,
     }
 }

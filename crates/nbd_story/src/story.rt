@@ -43,6 +43,8 @@ pub struct Story {
     pub contexts: Contexts,
     /// What was said of block sizes.
     pub sizing: Sizing,
+    /// Extended headers are in force.
+    pub is_extended: bool,
     /// Memory was refused for something of this.
     is_refused: bool,
 }
@@ -64,6 +66,7 @@ impl Story {
             padding: head_lengths::PADDING as u64,
             contexts: Contexts::none(alloc),
             sizing: Sizing::none(),
+            is_extended: false,
             is_refused: false,
         }
     }
@@ -110,6 +113,8 @@ impl Story {
             Form::Answer => {
                 self.export = export_after(self.export, told, data);
                 self.is_transmission = told.choice == options::GO && told.answer == answers::ACK;
+                self.is_extended |= told.choice == options::EXTENDED_HEADERS
+                    && told.answer == answers::ACK;
                 self.sizing = self.sizing.after(told.answer, data);
                 self.is_refused |= self.contexts.answer(told, data).is_err();
             }

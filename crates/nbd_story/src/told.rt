@@ -32,6 +32,8 @@ pub struct Told {
     pub choice: u32,
     /// The kind of a reply to an option.
     pub answer: u32,
+    /// In an extended header, of a request or of a chunk: the offset of the request.
+    pub at: Option<u64>,
     /// Those of a greeting, an export, a request or a chunk.
     pub flags: u16,
     /// The type of a request or a chunk.
@@ -67,6 +69,7 @@ pub const NO_MESSAGE: Told = Told {
     form: Form::Greeting,
     choice: 0,
     answer: 0,
+    at: None,
     flags: 0,
     kind: 0,
     cookie: 0,
@@ -89,11 +92,12 @@ impl Told {
     /// The head of a request.
     pub fn head(&self) -> RequestHead {
         RequestHead {
+            extended: self.at.is_some(),
             flags: self.flags,
             command: self.kind,
             cookie: self.cookie,
             offset: self.part.offset,
-            length: u32::try_from(self.part.length).unwrap_or(u32::MAX),
+            length: self.part.length,
         }
     }
 

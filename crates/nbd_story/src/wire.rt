@@ -170,6 +170,10 @@ impl Story {
 // The magic number with which the next message of a side can begin.
 fn magic_of(side: Side, story: &Story) -> &'static str {
     match (side, story.is_transmission) {
+        (Side::Client, true) if story.is_extended =>
+            "expected: 21e41c71, of a request with an extended header\n",
+        (Side::Server, true) if story.is_extended =>
+            "expected: 6e8a278c, of a chunk with an extended header\n",
         (Side::Client, true) => "expected: 25609513, of a request\n",
         (Side::Client, false) => "expected: 49484156454f5054, of an option\n",
         (Side::Server, true) => "expected: 67446698, of a simple reply, or 668e33ef, of a chunk\n",

@@ -6,7 +6,7 @@ use Rattle.nbd_judge.specs.declared.verdict.Verdict.TheVariants.{Yes, Wire, Imag
 use Rattle.nbd_judge.specs.declared.verdict.OrderFault.{OrderFault}
 use Rattle.nbd_judge.specs.declared.verdict.OrderFault.TheVariants.{NoSuchRequest, Twice, Late, Missing, BadPart, NotCovered}
 use Rattle.nbd_wire.specs.declared.fault.WireFault.{WireFault}
-use Rattle.nbd_wire.specs.declared.fault.WireFault.TheVariants.{BadMagic, NotFixedNewstyle, BadClientFlags, OutOfTurn, WrongOption, BadReplyKind, OutOfProfile, BadReplyPayload, MissingExportInfo, BadExport, ExportTooLarge, CookieInUse, UnknownCookie, SimpleForbidden, ChunkForbidden, BadChunk, BadContent, IncompleteRead, SuccessOfImproper, BadDisconnect, Unfinished, IncompleteStatus}
+use Rattle.nbd_wire.specs.declared.fault.WireFault.TheVariants.{BadMagic, NotFixedNewstyle, BadClientFlags, OutOfTurn, WrongOption, BadReplyKind, OutOfProfile, BadReplyPayload, MissingExportInfo, BadExport, ExportTooLarge, CookieInUse, UnknownCookie, SimpleForbidden, ChunkForbidden, BadChunk, BadContent, IncompleteRead, SuccessOfImproper, BadDisconnect, Unfinished, IncompleteStatus, BadReplyOffset}
 
 -- a verdict of yes, whatever its counts
 abbrev pub IsYes : Verdict → Type 0
@@ -37,6 +37,7 @@ fault_name SuccessOfImproper = codes "SuccessOfImproper"
 fault_name BadDisconnect = codes "BadDisconnect"
 fault_name Unfinished = codes "Unfinished"
 fault_name IncompleteStatus = codes "IncompleteStatus"
+fault_name BadReplyOffset = codes "BadReplyOffset"
 
 -- the name of a fault of an order
 abbrev pub order_fault_name : OrderFault → List ℕ

@@ -187,6 +187,7 @@ fn fault_name(fault: WireFault) -> &'static str
         WireFault::BadDisconnect => "BadDisconnect",
         WireFault::Unfinished => "Unfinished",
         WireFault::IncompleteStatus => "IncompleteStatus",
+        WireFault::BadReplyOffset => "BadReplyOffset",
     }
 }
 

@@ -1,7 +1,7 @@
 -- What is known of the parts of an encoding.
 use Rattle.std.proofs.Common.{◌<◌, ◌^◌, length, true, false, arith}
 use Rattle.nbd_wire.specs.declared.message.Message.{Message}
-use Rattle.nbd_wire.specs.declared.message.Message.TheVariants.{Greeting, ClientFlags, Choice, Answer, Exported, Request, Simple, Chunk}
+use Rattle.nbd_wire.specs.declared.message.Message.TheVariants.{Greeting, ClientFlags, Choice, Answer, Exported, Request, Simple, Chunk, ExtendedRequest, ExtendedChunk}
 use Rattle.nbd_wire.specs.protocol.Encoding.{tail}
 use Rattle.nbd_wire.specs.protocol.Sendable.{IsSendable}
 use Rattle.nbd_wire.specs.declared.commands.TheConstants.{WRITE}
@@ -21,6 +21,8 @@ length-tail (Exported size flags false) h = omega arith
 length-tail (Request flags command cookie offset len payload) h = h.0
 length-tail (Simple error cookie payload) h = h
 length-tail (Chunk flags kind cookie payload) h = h
+length-tail (ExtendedRequest flags command cookie offset len payload) h = h.0
+length-tail (ExtendedChunk flags kind cookie offset payload) h = h
 
 -- what may be sent has an encoding
 pub sendable-fits : (m : Message) → IsSendable m → FitsItsHead m
@@ -35,3 +37,5 @@ sendable-fits (Request flags command cookie offset len payload) h =
     (omega (arith, h.5, few), h.5)
 sendable-fits (Simple error cookie payload) h = h.2.0
 sendable-fits (Chunk flags kind cookie payload) h = h.3.0
+sendable-fits (ExtendedRequest flags command cookie offset len payload) h = (h.6.0, h.5)
+sendable-fits (ExtendedChunk flags kind cookie offset payload) h = h.4.0

@@ -2,8 +2,9 @@
 use Rattle.std.proofs.Common.{◌≡◌, ℕ, ◌+◌, ◌<◌, ◌≤◌, ◌^◌, List, ◌++◌, length, drop, refl, ◌∙◌, ap, arith, length-drop}
 use Rattle.std.proofs.lemmas.List.{drop-append-le}
 use Rattle.byteorder.specs.Numbers.{big_from-append, big_number-reads_back}
-use Rattle.byteorder.specs.Endian.{big_from}
-use Rattle.nbd_wire.specs.declared.message.Message.TheVariants.{Request, Simple, Chunk}
+use Rattle.byteorder.specs.Endian.{big_bytes, big_from}
+use Rattle.nbd_wire.specs.declared.magics.TheConstants.{EXTENDED_CHUNK_MAGIC, EXTENDED_REQUEST_MAGIC}
+use Rattle.nbd_wire.specs.declared.message.Message.TheVariants.{Request, Simple, Chunk, ExtendedRequest, ExtendedChunk}
 use Rattle.nbd_wire.specs.protocol.Encoding.{enc, head, tail}
 use Rattle.nbd_wire.specs.protocol.Payloads.{number_at}
 
@@ -68,3 +69,39 @@ length-chunk flags kind cookie payload = omega arith
 pub drop-chunk : (flags kind cookie : ℕ) (payload : List ℕ) → drop 20 (enc (Chunk flags kind cookie payload)) ≡ payload
 unfolding enc head tail
 drop-chunk flags kind cookie payload = refl
+
+-- the fields of messages with extended headers
+pub record HasExtended (magic flags kind cookie offset len : ℕ) (payload bytes : List ℕ) : Type 0 where
+  pub magic_is : number_at 0 4 bytes ≡ magic
+  pub flags_is : number_at 4 2 bytes ≡ flags
+  pub kind_is : number_at 6 2 bytes ≡ kind
+  pub cookie_is : number_at 8 8 bytes ≡ cookie
+  pub offset_is : number_at 16 8 bytes ≡ offset
+  pub length_is : number_at 24 8 bytes ≡ len
+  pub payload_is : drop 32 bytes ≡ payload
+  pub long : length bytes ≡ 32 + length payload
+
+pub extended_fields : (magic flags kind cookie offset len : ℕ) (payload : List ℕ) → magic < 2 ^ 32 → flags < 2 ^ 16 → kind < 2 ^ 16 → cookie < 2 ^ 64 → offset < 2 ^ 64 → len < 2 ^ 64 →
+    HasExtended magic flags kind cookie offset len payload ((big_bytes 4 magic ++ big_bytes 2 flags ++ big_bytes 2 kind ++ big_bytes 8 cookie ++ big_bytes 8 offset ++ big_bytes 8 len) ++ payload)
+extended_fields magic flags kind cookie offset len payload m f k c o l =
+    let bytes : List ℕ = (big_bytes 4 magic ++ big_bytes 2 flags ++ big_bytes 2 kind ++ big_bytes 8 cookie ++ big_bytes 8 offset ++ big_bytes 8 len) ++ payload in
+    record {
+      magic_is = big_number-reads_back 4 magic (drop 4 bytes) m;
+      flags_is = big_number-reads_back 2 flags (drop 6 bytes) f;
+      kind_is = big_number-reads_back 2 kind (drop 8 bytes) k;
+      cookie_is = big_number-reads_back 8 cookie (drop 16 bytes) c;
+      offset_is = big_number-reads_back 8 offset (drop 24 bytes) o;
+      length_is = big_number-reads_back 8 len (drop 32 bytes) l;
+      payload_is = refl;
+      long = omega arith;
+    }
+
+pub extended_request_fields : (flags command cookie offset len : ℕ) (payload : List ℕ) → flags < 2 ^ 16 → command < 2 ^ 16 → cookie < 2 ^ 64 → offset < 2 ^ 64 → len < 2 ^ 64 →
+    HasExtended EXTENDED_REQUEST_MAGIC flags command cookie offset len payload (enc (ExtendedRequest flags command cookie offset len payload))
+unfolding enc head tail
+extended_request_fields flags command cookie offset len payload = extended_fields EXTENDED_REQUEST_MAGIC flags command cookie offset len payload (omega arith)
+
+pub extended_chunk_fields : (flags kind cookie offset : ℕ) (payload : List ℕ) → flags < 2 ^ 16 → kind < 2 ^ 16 → cookie < 2 ^ 64 → offset < 2 ^ 64 → length payload < 2 ^ 32 →
+    HasExtended EXTENDED_CHUNK_MAGIC flags kind cookie offset (length payload) payload (enc (ExtendedChunk flags kind cookie offset payload))
+unfolding enc head tail
+extended_chunk_fields flags kind cookie offset payload f k c o l = extended_fields EXTENDED_CHUNK_MAGIC flags kind cookie offset (length payload) payload (omega arith) f k c o (omega (arith, l))

@@ -1,15 +1,15 @@
 -- What the readers of heads answer, from what they read at the places.
-use Rattle.std.proofs.Common.{◌≡◌, ℕ, List, Some, None, length}
-use Rattle.nbd_wire.specs.declared.magics.TheConstants.{GREETING_MAGIC, OPTION_MAGIC, ANSWER_MAGIC, REQUEST_MAGIC, SIMPLE_MAGIC, CHUNK_MAGIC}
+use Rattle.std.proofs.Common.{◌≡◌, ℕ, List, Some, None, length, true, false}
+use Rattle.nbd_wire.specs.declared.magics.TheConstants.{GREETING_MAGIC, OPTION_MAGIC, ANSWER_MAGIC, REQUEST_MAGIC, SIMPLE_MAGIC, CHUNK_MAGIC, EXTENDED_REQUEST_MAGIC, EXTENDED_CHUNK_MAGIC}
 use Rattle.nbd_wire.specs.declared.heads.negotiation.ChoiceHead.{ChoiceHead}
 use Rattle.nbd_wire.specs.declared.heads.negotiation.AnswerHead.{AnswerHead}
 use Rattle.nbd_wire.specs.declared.heads.transmission.RequestHead.{RequestHead}
 use Rattle.nbd_wire.specs.declared.heads.transmission.SimpleHead.{SimpleHead}
 use Rattle.nbd_wire.specs.declared.heads.transmission.ChunkHead.{ChunkHead}
 use Rattle.nbd_wire.specs.protocol.Encoding.{AreBytes}
-use Rattle.nbd_wire.specs.codec.Heads.{IsGreetingHead, IsClientFlagsHead, IsChoiceHead, IsAnswerHead, IsExportHead, IsRequestHead, IsSimpleHead, IsChunkHead}
+use Rattle.nbd_wire.specs.codec.Heads.{IsGreetingHead, IsClientFlagsHead, IsChoiceHead, IsAnswerHead, IsExportHead, IsRequestHead, IsSimpleHead, IsChunkHead, IsExtendedRequestHead, IsExtendedChunkHead}
 use Rattle.nbd_wire.specs.protocol.Payloads.{number_at}
-use Rattle.nbd_wire.proofs.HeadLemmas.{greeting-found, greeting-only, client_flags-found, client_flags-only, choice-found, choice-only, answer-found, answer-only, export-found, export-only, request-found, request-only, simple-found, simple-only, chunk-found, chunk-only}
+use Rattle.nbd_wire.proofs.HeadLemmas.{greeting-found, greeting-only, client_flags-found, client_flags-only, choice-found, choice-only, answer-found, answer-only, export-found, export-only, request-found, request-only, simple-found, simple-only, chunk-found, chunk-only, extended_request-found, extended_request-only, extended_chunk-found, extended_chunk-only}
 use Rattle.nbd_wire.specs.codec.Reads.{Reads}
 use Rattle.nbd_wire.proofs.ReadLemmas.{Reads-found, Reads-none}
 
@@ -50,10 +50,10 @@ pub answer-none : (bytes : List ℕ) → (length bytes ≡ 20 → number_at 0 8 
 answer-none bytes h = Reads-none (λ head. IsAnswerHead head bytes) (λ other f. let o = answer-only other bytes f in h o.0 o.1)
 
 -- a request's head
-pub request-reads : (flags command cookie offset len : ℕ) (bytes : List ℕ) → AreBytes bytes → length bytes ≡ 28 → number_at 0 4 bytes ≡ REQUEST_MAGIC → flags ≡ number_at 4 2 bytes → command ≡ number_at 6 2 bytes → cookie ≡ number_at 8 8 bytes → offset ≡ number_at 16 8 bytes → len ≡ number_at 24 4 bytes → Reads (Some (record { flags = flags; command = command; cookie = cookie; offset = offset; length = len })) (λ head. IsRequestHead head bytes)
+pub request-reads : (flags command cookie offset len : ℕ) (bytes : List ℕ) → AreBytes bytes → length bytes ≡ 28 → number_at 0 4 bytes ≡ REQUEST_MAGIC → flags ≡ number_at 4 2 bytes → command ≡ number_at 6 2 bytes → cookie ≡ number_at 8 8 bytes → offset ≡ number_at 16 8 bytes → len ≡ number_at 24 4 bytes → Reads (Some (record { extended = false; flags = flags; command = command; cookie = cookie; offset = offset; length = len })) (λ head. IsRequestHead head bytes)
 request-reads flags command cookie offset len bytes b l m0 e0 e1 e2 e3 e4 =
-    let value : RequestHead = record { flags = number_at 4 2 bytes; command = number_at 6 2 bytes; cookie = number_at 8 8 bytes; offset = number_at 16 8 bytes; length = number_at 24 4 bytes } in
-    Reads-found (λ head. IsRequestHead head bytes) (record { flags = flags; command = command; cookie = cookie; offset = offset; length = len }) value (cc) (request-found bytes b l m0) (λ other f. let o = request-only other bytes f in let same : value ≡ record { flags = other.flags; command = other.command; cookie = other.cookie; offset = other.offset; length = other.length } = cc in same)
+    let value : RequestHead = record { extended = false; flags = number_at 4 2 bytes; command = number_at 6 2 bytes; cookie = number_at 8 8 bytes; offset = number_at 16 8 bytes; length = number_at 24 4 bytes } in
+    Reads-found (λ head. IsRequestHead head bytes) (record { extended = false; flags = flags; command = command; cookie = cookie; offset = offset; length = len }) value (cc) (request-found bytes b l m0) (λ other f. let o = request-only other bytes f in let same : value ≡ record { extended = other.extended; flags = other.flags; command = other.command; cookie = other.cookie; offset = other.offset; length = other.length } = cc in same)
 
 pub request-none : (bytes : List ℕ) → (length bytes ≡ 28 → number_at 0 4 bytes ≡ REQUEST_MAGIC → ⊥) → Reads None (λ head. IsRequestHead head bytes)
 request-none bytes h = Reads-none (λ head. IsRequestHead head bytes) (λ other f. let o = request-only other bytes f in h o.0 o.1)
@@ -68,10 +68,10 @@ pub simple-none : (bytes : List ℕ) → (length bytes ≡ 16 → number_at 0 4 
 simple-none bytes h = Reads-none (λ head. IsSimpleHead head bytes) (λ other f. let o = simple-only other bytes f in h o.0 o.1)
 
 -- a chunk's head
-pub chunk-reads : (flags kind cookie len : ℕ) (bytes : List ℕ) → AreBytes bytes → length bytes ≡ 20 → number_at 0 4 bytes ≡ CHUNK_MAGIC → flags ≡ number_at 4 2 bytes → kind ≡ number_at 6 2 bytes → cookie ≡ number_at 8 8 bytes → len ≡ number_at 16 4 bytes → Reads (Some (record { flags = flags; kind = kind; cookie = cookie; length = len })) (λ head. IsChunkHead head bytes)
+pub chunk-reads : (flags kind cookie len : ℕ) (bytes : List ℕ) → AreBytes bytes → length bytes ≡ 20 → number_at 0 4 bytes ≡ CHUNK_MAGIC → flags ≡ number_at 4 2 bytes → kind ≡ number_at 6 2 bytes → cookie ≡ number_at 8 8 bytes → len ≡ number_at 16 4 bytes → Reads (Some (record { at = None; flags = flags; kind = kind; cookie = cookie; length = len })) (λ head. IsChunkHead head bytes)
 chunk-reads flags kind cookie len bytes b l m0 e0 e1 e2 e3 =
-    let value : ChunkHead = record { flags = number_at 4 2 bytes; kind = number_at 6 2 bytes; cookie = number_at 8 8 bytes; length = number_at 16 4 bytes } in
-    Reads-found (λ head. IsChunkHead head bytes) (record { flags = flags; kind = kind; cookie = cookie; length = len }) value (cc) (chunk-found bytes b l m0) (λ other f. let o = chunk-only other bytes f in let same : value ≡ record { flags = other.flags; kind = other.kind; cookie = other.cookie; length = other.length } = cc in same)
+    let value : ChunkHead = record { at = None; flags = number_at 4 2 bytes; kind = number_at 6 2 bytes; cookie = number_at 8 8 bytes; length = number_at 16 4 bytes } in
+    Reads-found (λ head. IsChunkHead head bytes) (record { at = None; flags = flags; kind = kind; cookie = cookie; length = len }) value (cc) (chunk-found bytes b l m0) (λ other f. let o = chunk-only other bytes f in let same : value ≡ record { at = other.at; flags = other.flags; kind = other.kind; cookie = other.cookie; length = other.length } = cc in same)
 
 pub chunk-none : (bytes : List ℕ) → (length bytes ≡ 20 → number_at 0 4 bytes ≡ CHUNK_MAGIC → ⊥) → Reads None (λ head. IsChunkHead head bytes)
 chunk-none bytes h = Reads-none (λ head. IsChunkHead head bytes) (λ other f. let o = chunk-only other bytes f in h o.0 o.1)
@@ -85,3 +85,21 @@ export-reads size flags bytes b l e0 e1 =
 
 pub export-none : (bytes : List ℕ) → (length bytes ≡ 10 → ⊥) → Reads None (λ (head : ℕ × ℕ). IsExportHead head.0 head.1 bytes)
 export-none bytes h = Reads-none (λ (head : ℕ × ℕ). IsExportHead head.0 head.1 bytes) (λ other f. let o = export-only other.0 other.1 bytes f in h o.0)
+
+-- a request's extended header
+pub extended_request-reads : (flags command cookie offset len : ℕ) (bytes : List ℕ) → AreBytes bytes → length bytes ≡ 32 → number_at 0 4 bytes ≡ EXTENDED_REQUEST_MAGIC → flags ≡ number_at 4 2 bytes → command ≡ number_at 6 2 bytes → cookie ≡ number_at 8 8 bytes → offset ≡ number_at 16 8 bytes → len ≡ number_at 24 8 bytes → Reads (Some (record { extended = true; flags = flags; command = command; cookie = cookie; offset = offset; length = len })) (λ head. IsExtendedRequestHead head bytes)
+extended_request-reads flags command cookie offset len bytes b l m0 e0 e1 e2 e3 e4 =
+    let value : RequestHead = record { extended = true; flags = number_at 4 2 bytes; command = number_at 6 2 bytes; cookie = number_at 8 8 bytes; offset = number_at 16 8 bytes; length = number_at 24 8 bytes } in
+    Reads-found (λ head. IsExtendedRequestHead head bytes) (record { extended = true; flags = flags; command = command; cookie = cookie; offset = offset; length = len }) value (cc) (extended_request-found bytes b l m0) (λ other f. let o = extended_request-only other bytes f in let same : value ≡ record { extended = other.extended; flags = other.flags; command = other.command; cookie = other.cookie; offset = other.offset; length = other.length } = cc in same)
+
+pub extended_request-none : (bytes : List ℕ) → (length bytes ≡ 32 → number_at 0 4 bytes ≡ EXTENDED_REQUEST_MAGIC → ⊥) → Reads None (λ head. IsExtendedRequestHead head bytes)
+extended_request-none bytes h = Reads-none (λ head. IsExtendedRequestHead head bytes) (λ other f. let o = extended_request-only other bytes f in h o.0 o.1)
+
+-- a chunk's extended header
+pub extended_chunk-reads : (flags kind cookie offset len : ℕ) (bytes : List ℕ) → AreBytes bytes → length bytes ≡ 32 → number_at 0 4 bytes ≡ EXTENDED_CHUNK_MAGIC → flags ≡ number_at 4 2 bytes → kind ≡ number_at 6 2 bytes → cookie ≡ number_at 8 8 bytes → offset ≡ number_at 16 8 bytes → len ≡ number_at 24 8 bytes → Reads (Some (record { at = Some offset; flags = flags; kind = kind; cookie = cookie; length = len })) (λ head. IsExtendedChunkHead head bytes)
+extended_chunk-reads flags kind cookie offset len bytes b l m0 e0 e1 e2 e3 e4 =
+    let value : ChunkHead = record { at = Some (number_at 16 8 bytes); flags = number_at 4 2 bytes; kind = number_at 6 2 bytes; cookie = number_at 8 8 bytes; length = number_at 24 8 bytes } in
+    Reads-found (λ head. IsExtendedChunkHead head bytes) (record { at = Some offset; flags = flags; kind = kind; cookie = cookie; length = len }) value (cc) (extended_chunk-found bytes b l m0) (λ other f. let o = extended_chunk-only other bytes f in let same : value ≡ record { at = other.at; flags = other.flags; kind = other.kind; cookie = other.cookie; length = other.length } = cc in same)
+
+pub extended_chunk-none : (bytes : List ℕ) → (length bytes ≡ 32 → number_at 0 4 bytes ≡ EXTENDED_CHUNK_MAGIC → ⊥) → Reads None (λ head. IsExtendedChunkHead head bytes)
+extended_chunk-none bytes h = Reads-none (λ head. IsExtendedChunkHead head bytes) (λ other f. let o = extended_chunk-only other bytes f in h o.0 o.1)

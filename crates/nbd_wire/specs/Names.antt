@@ -102,13 +102,14 @@ transmission_flag_names = (1, codes "HAS_FLAGS")
     ∷ (2048, codes "SEND_FAST_ZERO")
     ∷ []
 
--- flags of a request, by bits 0 to 4 (proto.md, "Command flags")
+-- flags of a request, by bits 0 to 5 (proto.md, "Command flags")
 abbrev pub command_flag_names : List (ℕ × List ℕ)
 command_flag_names = (1, codes "FUA")
     ∷ (2, codes "NO_HOLE")
     ∷ (4, codes "DF")
     ∷ (8, codes "REQ_ONE")
     ∷ (16, codes "FAST_ZERO")
+    ∷ (32, codes "PAYLOAD_LEN")
     ∷ []
 
 -- flags of a chunk (proto.md, "Structured reply flags")

@@ -24,6 +24,8 @@ MagicsAreLiteral =
     × (magics.REQUEST_MAGIC ≡ 0x25609513)
     × (magics.SIMPLE_MAGIC ≡ 0x67446698)
     × (magics.CHUNK_MAGIC ≡ 0x668e33ef)
+    × (magics.EXTENDED_REQUEST_MAGIC ≡ 0x21e41c71)
+    × (magics.EXTENDED_CHUNK_MAGIC ≡ 0x6e8a278c)
 
 -- the server's handshake flags and the client's (proto.md, "Handshake flags", "Client flags")
 abbrev pub HandshakeFlagsAreLiteral : Type 0
@@ -91,7 +93,7 @@ CommandsAreLiteral =
     × (commands.WRITE_ZEROES ≡ 6)
     × (commands.BLOCK_STATUS ≡ 7)
 
--- command flags, by bits 0 to 4 (proto.md, "Command flags")
+-- command flags, by bits 0 to 5 (proto.md, "Command flags")
 abbrev pub CommandFlagsAreLiteral : Type 0
 CommandFlagsAreLiteral =
     (command_flags.FUA ≡ 1)
@@ -99,6 +101,7 @@ CommandFlagsAreLiteral =
     × (command_flags.DF ≡ 4)
     × (command_flags.REQ_ONE ≡ 8)
     × (command_flags.FAST_ZERO ≡ 16)
+    × (command_flags.PAYLOAD_LEN ≡ 32)
 
 -- types and the flag of chunks (proto.md, "Structured reply types", "Structured reply flags")
 abbrev pub ChunksAreLiteral : Type 0
@@ -116,7 +119,8 @@ ChunksAreLiteral =
 abbrev pub StatesAreLiteral : Type 0
 StatesAreLiteral = (states.HOLE ≡ 1) × (states.ZERO ≡ 2)
 
--- lengths of heads in bytes, and of the zeroes after an export's size and flags (the layouts of proto.md)
+-- lengths of heads in bytes, and of the zeroes after an export's size and flags (the layouts of proto.md; those of
+-- extended headers are this project's choice)
 abbrev pub LengthsAreLiteral : Type 0
 LengthsAreLiteral =
     (head_lengths.GREETING ≡ 18)
@@ -127,12 +131,15 @@ LengthsAreLiteral =
     × (head_lengths.REQUEST ≡ 28)
     × (head_lengths.SIMPLE ≡ 16)
     × (head_lengths.CHUNK ≡ 20)
+    × (head_lengths.EXTENDED_REQUEST ≡ 32)
+    × (head_lengths.EXTENDED_CHUNK ≡ 32)
     × (head_lengths.PADDING ≡ 124)
 
--- the largest export in bytes (this project's choice)
+-- the largest export and the longest payload in bytes (this project's choice), and limits of block sizes
 abbrev pub LimitsAreLiteral : Type 0
 LimitsAreLiteral =
     (limits.EXPORT_SIZE ≡ 9223372036854775807)
+    × (limits.LONGEST_PAYLOAD ≡ 4294967295)
     × (limits.LEAST_SIZE ≡ 65536)
     × (limits.PREFERRED_SIZE ≡ 512)
     × (limits.NO_LARGEST_SIZE ≡ 4294967295)

@@ -59,7 +59,7 @@ fn hole_of(bytes: &[u8]) -> Option<Content<'_>>
     if bytes.len() != HOLE_LENGTH {
         return None;
     }
-    let size = u32_at(bytes, 8);
+    let size = u64::from(u32_at(bytes, 8));
     if size == 0 {
         return None;
     }

@@ -9,3 +9,6 @@ pub const DF: u16 = 1 << 2;
 pub const REQ_ONE: u16 = 1 << 3;
 
 pub const FAST_ZERO: u16 = 1 << 4;
+
+/// With extended headers: the length of the head is that of the payload.
+pub const PAYLOAD_LEN: u16 = 1 << 5;

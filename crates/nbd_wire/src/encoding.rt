@@ -6,10 +6,10 @@ ghost use Rattle.nbd_wire.specs.codec.Fits.{FitsItsHead};
 
 use crate::Message;
 use crate::head_bytes::{
-    answer_bytes, choice_bytes, chunk_bytes, client_flags_bytes, export_bytes, greeting_bytes,
-    request_bytes, simple_bytes,
+    answer_bytes, choice_bytes, chunk_bytes, client_flags_bytes, export_bytes,
+    extended_chunk_bytes, extended_request_bytes, greeting_bytes, request_bytes, simple_bytes,
 };
-use crate::head_lengths::{PADDING, REQUEST};
+use crate::head_lengths::{EXTENDED_REQUEST, PADDING};
 use std::alloc::AllocError;
 use std::marker::Model;
 
@@ -64,6 +64,27 @@ fn head_of(message: &Message, size_of_tail: u32) -> Head
             cookie,
             ..
         } => Head::of(&chunk_bytes(*flags, *kind, *cookie, size_of_tail)),
+        Message::ExtendedRequest {
+            flags,
+            command,
+            cookie,
+            offset,
+            length,
+            ..
+        } => Head::of(&extended_request_bytes(*flags, *command, *cookie, *offset, *length)),
+        Message::ExtendedChunk {
+            flags,
+            kind,
+            cookie,
+            offset,
+            ..
+        } => Head::of(&extended_chunk_bytes(
+            *flags,
+            *kind,
+            *cookie,
+            *offset,
+            u64::from(size_of_tail),
+        )),
     }
 }
 
@@ -77,7 +98,9 @@ fn tail_of(message: &Message) -> &[u8]
         | Message::Answer { payload, .. }
         | Message::Request { payload, .. }
         | Message::Simple { payload, .. }
-        | Message::Chunk { payload, .. } => payload.as_slice(),
+        | Message::Chunk { payload, .. }
+        | Message::ExtendedRequest { payload, .. }
+        | Message::ExtendedChunk { payload, .. } => payload.as_slice(),
         Message::Exported { padded: true, .. } => &ZEROES,
         Message::Greeting { .. } | Message::ClientFlags { .. } | Message::Exported { .. } => &[],
     }
@@ -87,8 +110,8 @@ fn tail_of(message: &Message) -> &[u8]
 #[derive(Drop)]
 struct Head {
     len: u8,
-    bytes: [u8; REQUEST],
-    ghost fits: { len ≤ 28 },
+    bytes: [u8; EXTENDED_REQUEST],
+    ghost fits: { len ≤ 32 },
 }
 
 impl Model for Head {
@@ -100,12 +123,12 @@ impl Model for Head {
 }
 
 impl Head {
-    // These bytes; a request has the most.
+    // These bytes; an extended header has the most.
     fn of(from: &[u8]) -> Head
-        requires { length from.now ≤ 28 }
+        requires { length from.now ≤ 32 }
         ensures { result ≡ from.now }
     {
-        let mut bytes = [0; REQUEST];
+        let mut bytes = [0; EXTENDED_REQUEST];
         bytes[..from.len()].copy_from_slice(from);
         Head {
             len: from.len() as u8,

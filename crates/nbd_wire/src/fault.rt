@@ -51,6 +51,8 @@ pub enum WireFault {
     BadDisconnect,
     /// A BLOCK_STATUS is finished with success before each context in force has its status.
     IncompleteStatus,
+    /// A chunk with an extended header has not its request's offset.
+    BadReplyOffset,
     /// A message that started has not completed at the end.
     Unfinished,
 }

@@ -38,6 +38,7 @@ pub const COMMAND: &[Name] = &[
     (command_flags::DF as u32, "DF"),
     (1 << 3, "REQ_ONE"),
     (command_flags::FAST_ZERO as u32, "FAST_ZERO"),
+    (command_flags::PAYLOAD_LEN as u32, "PAYLOAD_LEN"),
 ];
 
 /// Flags of a chunk (proto.md, "Structured reply flags").

@@ -1,11 +1,15 @@
 //! The heads of messages as bytes. Numbers are big-endian.
 
 ghost use Rattle.std.specs.Prelude.{◌≡◌};
-ghost use Rattle.nbd_wire.specs.protocol.Layouts.{answer_bytes, choice_bytes, chunk_bytes, client_flags_bytes, export_bytes, greeting_bytes, request_bytes, simple_bytes};
+ghost use Rattle.nbd_wire.specs.protocol.Layouts.{answer_bytes, choice_bytes, chunk_bytes, client_flags_bytes, export_bytes, greeting_bytes, request_bytes, simple_bytes, extended_chunk_bytes, extended_request_bytes};
 
-use crate::head_lengths::{ANSWER, CHOICE, CHUNK, CLIENT_FLAGS, EXPORT, GREETING, REQUEST, SIMPLE};
+use crate::head_lengths::{
+    ANSWER, CHOICE, CHUNK, CLIENT_FLAGS, EXPORT, EXTENDED_CHUNK, EXTENDED_REQUEST, GREETING,
+    REQUEST, SIMPLE,
+};
 use crate::magics::{
-    ANSWER_MAGIC, CHUNK_MAGIC, GREETING_MAGIC, OPTION_MAGIC, REQUEST_MAGIC, SIMPLE_MAGIC,
+    ANSWER_MAGIC, CHUNK_MAGIC, EXTENDED_CHUNK_MAGIC, EXTENDED_REQUEST_MAGIC, GREETING_MAGIC,
+    OPTION_MAGIC, REQUEST_MAGIC, SIMPLE_MAGIC,
 };
 use byteorder::{BigEndian, ByteOrder};
 
@@ -103,5 +107,45 @@ pub(crate) fn chunk_bytes(flags: u16, kind: u16, cookie: u64, length: u32) -> [u
     BigEndian::write_u16(&mut bytes[6..], kind);
     BigEndian::write_u64(&mut bytes[8..], cookie);
     BigEndian::write_u32(&mut bytes[16..], length);
+    bytes
+}
+
+/// The extended header of a request.
+pub(crate) fn extended_request_bytes(
+    flags: u16,
+    command: u16,
+    cookie: u64,
+    offset: u64,
+    length: u64,
+) -> [u8; EXTENDED_REQUEST]
+    ensures { result ≡ extended_request_bytes flags command cookie offset length }
+{
+    let mut bytes = [0; EXTENDED_REQUEST];
+    BigEndian::write_u32(&mut bytes, EXTENDED_REQUEST_MAGIC);
+    BigEndian::write_u16(&mut bytes[4..], flags);
+    BigEndian::write_u16(&mut bytes[6..], command);
+    BigEndian::write_u64(&mut bytes[8..], cookie);
+    BigEndian::write_u64(&mut bytes[16..], offset);
+    BigEndian::write_u64(&mut bytes[24..], length);
+    bytes
+}
+
+/// The extended header of a chunk.
+pub(crate) fn extended_chunk_bytes(
+    flags: u16,
+    kind: u16,
+    cookie: u64,
+    offset: u64,
+    length: u64,
+) -> [u8; EXTENDED_CHUNK]
+    ensures { result ≡ extended_chunk_bytes flags kind cookie offset length }
+{
+    let mut bytes = [0; EXTENDED_CHUNK];
+    BigEndian::write_u32(&mut bytes, EXTENDED_CHUNK_MAGIC);
+    BigEndian::write_u16(&mut bytes[4..], flags);
+    BigEndian::write_u16(&mut bytes[6..], kind);
+    BigEndian::write_u64(&mut bytes[8..], cookie);
+    BigEndian::write_u64(&mut bytes[16..], offset);
+    BigEndian::write_u64(&mut bytes[24..], length);
     bytes
 }

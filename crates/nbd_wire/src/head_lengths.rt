@@ -19,3 +19,7 @@ pub const REQUEST: usize = 28;
 pub const SIMPLE: usize = 16;
 /// A chunk: a magic number, flags, type, cookie and the length of its payload.
 pub const CHUNK: usize = 20;
+/// A request with an extended header: a magic number, flags, type, cookie, offset and length.
+pub const EXTENDED_REQUEST: usize = 32;
+/// A chunk with an extended header: a magic number, flags, type, cookie, the offset of its request and the length of its payload.
+pub const EXTENDED_CHUNK: usize = 32;

@@ -44,12 +44,13 @@ pub use heads::negotiation::{
     AnswerHead, ChoiceHead, answer_head, choice_head, client_flags_head, export_head, greeting_head,
 };
 pub use heads::transmission::{
-    ChunkHead, RequestHead, SimpleHead, chunk_head, request_head, simple_head,
+    ChunkHead, RequestHead, SimpleHead, chunk_head, extended_chunk_head, extended_request_head,
+    request_head, simple_head,
 };
 pub use message::{Message, Side};
 pub use option_payloads::{context_of, go_of, info_of, listed_of, name_in, queries_of};
 pub use payloads::{Content, Extent, Failure, Info, Piece};
 pub use places::{bit, bytes_in, place_before};
 pub use profile::Profile;
-pub use sides::{fits, side_of};
+pub use sides::{carries_payload, fits, side_of};
 pub use sizes::{Sizes, Sizing, asks_sizes, breaks_sizes, sizes_for, sizes_of};

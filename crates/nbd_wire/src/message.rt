@@ -1,4 +1,4 @@
-//! The eight messages and their senders.
+//! The ten messages and their senders.
 
 use crate::Bytes;
 
@@ -79,6 +79,34 @@ pub enum Message {
         kind: u16,
         /// The cookie of the request that is answered.
         cookie: u64,
+        /// What the chunk carries, in the form of its type.
+        payload: Bytes,
+    },
+    /// A request of the client where extended headers are in force.
+    ExtendedRequest {
+        /// Masks of the module `command_flags`.
+        flags: u16,
+        /// The request's type, as in the module `commands`.
+        command: u16,
+        /// The client's name for the request, which its replies repeat.
+        cookie: u64,
+        /// Where in the export the range begins, in bytes.
+        offset: u64,
+        /// The length of the payload of a request that carries one, else of the range, in bytes.
+        length: u64,
+        /// The payload of a WRITE or of a request with PAYLOAD_LEN, `length` bytes; empty in any other request.
+        payload: Bytes,
+    },
+    /// A chunk of a reply where extended headers are in force.
+    ExtendedChunk {
+        /// Masks of the module `chunks`.
+        flags: u16,
+        /// The chunk's type, as in the module `chunks`.
+        kind: u16,
+        /// The cookie of the request that is answered.
+        cookie: u64,
+        /// The offset of the request that is answered.
+        offset: u64,
         /// What the chunk carries, in the form of its type.
         payload: Bytes,
     },

@@ -46,7 +46,7 @@ pub enum Content<'a> {
         /// Where in the export it begins, in bytes.
         offset: u64,
         /// Its length in bytes, not 0.
-        size: u32,
+        size: u64,
     },
 }
 
@@ -74,7 +74,7 @@ pub enum Piece {
         /// Where in the export it begins, in bytes.
         offset: u64,
         /// Its length in bytes.
-        size: u32,
+        size: u64,
     },
 }
 

@@ -152,13 +152,13 @@ pub fn sizes_for(structured: bool, command: u16, sizes: Option<Sizes>) -> Option
 
 /// Whether a range breaks the sizes, if there are some: its offset or its length is no multiple of the least, or the payload
 /// of a READ or WRITE is longer than the largest.
-pub fn breaks_sizes(sizes: Option<Sizes>, command: u16, offset: u64, length: u32) -> bool
+pub fn breaks_sizes(sizes: Option<Sizes>, command: u16, offset: u64, length: u64) -> bool
     ensures { result ≡ breaks_sizes sizes command offset length }
 {
     match sizes {
         Some(sizes) => {
             !offset.is_multiple_of(u64::from(sizes.least))
-                || !length.is_multiple_of(sizes.least)
+                || !length.is_multiple_of(u64::from(sizes.least))
                 || is_too_long(sizes, command, length)
         }
         None => false,
@@ -166,10 +166,10 @@ pub fn breaks_sizes(sizes: Option<Sizes>, command: u16, offset: u64, length: u32
 }
 
 // Whether the payload of a READ or WRITE is longer than the largest size, unless that bounds nothing.
-fn is_too_long(sizes: Sizes, command: u16, length: u32) -> bool
+fn is_too_long(sizes: Sizes, command: u16, length: u64) -> bool
     ensures { result ≡ is_too_long sizes command length }
 {
     (command == commands::READ || command == commands::WRITE)
         && sizes.largest != NO_LARGEST_SIZE
-        && length > sizes.largest
+        && length > u64::from(sizes.largest)
 }

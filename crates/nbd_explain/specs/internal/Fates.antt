@@ -5,7 +5,7 @@ use Rattle.std.specs.BTreeMap.{BTreeMap, get}
 use Rattle.std.specs.Ordering.{nat_cmp}
 use Rattle.nbd_wire.specs.declared.commands.TheConstants as commands
 use Rattle.nbd_wire.specs.declared.message.Message.{Message}
-use Rattle.nbd_wire.specs.declared.message.Message.TheVariants.{Request}
+use Rattle.nbd_wire.specs.declared.message.Message.TheVariants.{Request, ExtendedRequest}
 use Rattle.nbd_wire.specs.protocol.Operations.{any, ends_reply, is_failing}
 use Rattle.nbd_wire.specs.protocol.Rules.{cookie_of}
 use Rattle.nbd_state.specs.Showing.{outcome_of}
@@ -31,10 +31,15 @@ reply_in cookie (m ∷ later) =
 abbrev pub outcome_by : List Message → Outcome
 outcome_by reply = if any ends_reply reply then (if any is_failing reply then Failure else Success) else Pending
 
+-- what became of a request, by the messages behind it, if it has a number
+abbrev pub fate_by : (command cookie : ℕ) → (later : List Message) → Option Outcome
+fate_by command cookie later =
+    if command == commands.DISC then None else Some (outcome_by (reply_in cookie later))
+
 -- what became of a message, by those behind it, if it is a numbered request
 abbrev pub fate : Message → (later : List Message) → Option Outcome
-fate (Request flags command cookie offset length payload) later =
-    if command == commands.DISC then None else Some (outcome_by (reply_in cookie later))
+fate (Request flags command cookie offset length payload) later = fate_by command cookie later
+fate (ExtendedRequest flags command cookie offset length payload) later = fate_by command cookie later
 fate _ later = None
 
 -- what became of each message, the last one first

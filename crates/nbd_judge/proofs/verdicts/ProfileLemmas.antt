@@ -7,7 +7,7 @@ use Rattle.nbd_wire.specs.declared.fault.WireFault.{WireFault}
 use Rattle.nbd_wire.specs.declared.head_lengths.TheConstants as head_lengths
 use Rattle.nbd_wire.specs.declared.magics.TheConstants as magics
 use Rattle.nbd_wire.specs.declared.message.Message.{Message}
-use Rattle.nbd_wire.specs.declared.message.Message.TheVariants.{Greeting, ClientFlags, Choice, Answer, Exported, Request, Simple, Chunk}
+use Rattle.nbd_wire.specs.declared.message.Message.TheVariants.{Greeting, ClientFlags, Choice, Answer, Exported, Request, Simple, Chunk, ExtendedRequest, ExtendedChunk}
 use Rattle.nbd_wire.specs.declared.message.Side.{Side}
 use Rattle.nbd_wire.specs.declared.message.Side.TheVariants.{Client, Server}
 use Rattle.nbd_wire.specs.declared.profile.Profile.{Profile}
@@ -90,6 +90,8 @@ message_bytes (Exported size flags padded) h = laid_bytes ((8, size) ∷ (2, fla
 message_bytes (Request flags command cookie offset len payload) h = laid_bytes ((4, magics.REQUEST_MAGIC) ∷ (2, flags) ∷ (2, command) ∷ (8, cookie) ∷ (8, offset) ∷ (4, len) ∷ []) payload h.6
 message_bytes (Simple error cookie payload) h = laid_bytes ((4, magics.SIMPLE_MAGIC) ∷ (4, error) ∷ (8, cookie) ∷ []) payload h.2.1
 message_bytes (Chunk flags kind cookie payload) h = laid_bytes ((4, magics.CHUNK_MAGIC) ∷ (2, flags) ∷ (2, kind) ∷ (8, cookie) ∷ (4, length payload) ∷ []) payload h.3.1
+message_bytes (ExtendedRequest flags command cookie offset len payload) h = laid_bytes ((4, magics.EXTENDED_REQUEST_MAGIC) ∷ (2, flags) ∷ (2, command) ∷ (8, cookie) ∷ (8, offset) ∷ (8, len) ∷ []) payload h.6.1
+message_bytes (ExtendedChunk flags kind cookie offset payload) h = laid_bytes ((4, magics.EXTENDED_CHUNK_MAGIC) ∷ (2, flags) ∷ (2, kind) ∷ (8, cookie) ∷ (8, offset) ∷ (8, length payload) ∷ []) payload h.4.1
 
 -- what is left of an open message are bytes
 abbrev LeavesBytes : Side → Open → Type 0

@@ -3,10 +3,10 @@ use Rattle.nbd_laws.proofs.requests.LaidLemmas.{AreApart, AreInside}
 use Rattle.nbd_laws.specs.Allowed.{AreClientFlags, FitsLimit, IsChunk, IsContent, IsFreshFor, IsInfo, IsSimpleReply, IsStatus, MayAcknowledge, MayAnswer, MayAsk, MayEnd, MayTell}
 use Rattle.nbd_wire.specs.protocol.Statuses.{tells_all}
 use Rattle.nbd_wire.specs.protocol.Decisions.{answer}
-use Rattle.nbd_wire.specs.protocol.Negotiation.{answer_fault, answer_head_fault, client_flags_fault, greeting_fault, sets_more, export_fault, ack_fault, abort_fault, answers_option, is_followed, info_fault, success_fault, is_good_info, is_bad_payload, payload_fault, is_on_contexts, earlier_to, is_good_context, is_wide, answer_last_fault}
+use Rattle.nbd_wire.specs.protocol.Negotiation.{answer_fault, answer_head_fault, client_flags_fault, greeting_fault, sets_more, export_fault, ack_fault, abort_fault, answers_option, is_followed, info_fault, success_fault, is_good_info, is_bad_payload, payload_fault, is_on_contexts, extends, earlier_to, is_good_context, is_wide, answer_last_fault}
 use Rattle.nbd_wire.specs.protocol.Tests.{fault_if}
-use Rattle.nbd_wire.specs.protocol.Transmission.{cookie_fault, request_fault, is_none_yet, chunk_fault, content_fault, done_fault, finish_fault, fits_failure, fits_read, is_apart_from, is_inside, is_no_piece, total, lacks_status, fits_status, status_if, fits_range, read_as}
-use Rattle.nbd_wire.specs.declared.message.Message.TheVariants.{Chunk, Simple}
+use Rattle.nbd_wire.specs.protocol.Transmission.{cookie_fault, extended_request_fault, request_fault, is_none_yet, chunk_fault, content_fault, done_fault, finish_fault, fits_failure, fits_read, is_apart_from, is_inside, is_no_piece, total, lacks_status, fits_status, status_if, fits_range, read_as}
+use Rattle.nbd_wire.specs.declared.message.Message.TheVariants.{Chunk, ExtendedChunk, Simple}
 use Rattle.std.proofs.Common.{◌≡◌, ◌≢◌, ℕ, ◌<◌, ◌≤◌, ◌⊎◌, ◌+◌, ◌==◌, List, [], ◌∷◌, length, refl, sym, ◌∙◌, ap, subst, inl, inr, Option, Some, None, Bool, true, false, not, ◌&&◌, ◌||◌, nat_le, nat_lt, eqb-true, is_some, arith, IsTrue, if◌then◌else◌}
 use Rattle.std.proofs.lemmas.Bool.{ltb-false, eq-eqb, leb-true, leb-false, ltb-true, ne_eqb}
 use Rattle.nbd_wire.specs.declared.answers.TheConstants as answers
@@ -24,7 +24,7 @@ use Rattle.nbd_wire.specs.protocol.Operations.{Exporting, Covers, Operation, has
 use Rattle.nbd_wire.specs.protocol.Flags.{has, has_only}
 use Rattle.nbd_wire.specs.protocol.States.{Core, target, with_reply}
 use Rattle.nbd_wire.specs.declared.fault.WireFault.{WireFault}
-use Rattle.nbd_wire.specs.declared.fault.WireFault.TheVariants.{NotFixedNewstyle, BadClientFlags, WrongOption, BadReplyKind, BadReplyPayload, ExportTooLarge, SuccessOfImproper, SimpleForbidden, ChunkForbidden, BadChunk, BadContent, IncompleteRead, IncompleteStatus, CookieInUse, BadDisconnect}
+use Rattle.nbd_wire.specs.declared.fault.WireFault.TheVariants.{NotFixedNewstyle, BadClientFlags, WrongOption, BadReplyKind, BadReplyPayload, ExportTooLarge, SuccessOfImproper, SimpleForbidden, ChunkForbidden, BadChunk, BadContent, IncompleteRead, IncompleteStatus, CookieInUse, BadDisconnect, OutOfProfile}
 use Rattle.nbd_laws.proofs.judge.BoolLemmas.{not_false, or_false, or_true, and_true, and_false, fault_none, not_true}
 use Rattle.nbd_wire.specs.declared.profile.Profile.{Profile}
 use Rattle.nbd_wire.specs.protocol.Contexts.{Selection, Context, has_id, Status, reach}
@@ -139,10 +139,13 @@ good_info profile payload (Some (BlockSize x y z)) is e = (
 )
 good_info profile payload (Some (Other k)) is e = (Other k, is, λ s f q. absurd (cc), λ w s q. absurd (cc))
 
-on_contexts : (option : ℕ) → is_on_contexts option ≡ true → (option ≡ options.LIST_META_CONTEXT) ⊎ (option ≡ options.SET_META_CONTEXT)
-on_contexts option e = elim (or_true (option == options.LIST_META_CONTEXT) (option == options.SET_META_CONTEXT) e) [
-  | inl h ↦ inl (eqb-true option options.LIST_META_CONTEXT h)
-  | inr h ↦ inr (eqb-true option options.SET_META_CONTEXT h)
+extending : (option : ℕ) → extends option ≡ true → (option ≡ options.LIST_META_CONTEXT) ⊎ (option ≡ options.SET_META_CONTEXT) ⊎ (option ≡ options.EXTENDED_HEADERS)
+extending option e = elim (or_true (is_on_contexts option) (option == options.EXTENDED_HEADERS) e) [
+  | inl h ↦ elim (or_true (option == options.LIST_META_CONTEXT) (option == options.SET_META_CONTEXT) h) [
+    | inl h ↦ inl (eqb-true option options.LIST_META_CONTEXT h)
+    | inr h ↦ inr (inl (eqb-true option options.SET_META_CONTEXT h))
+  ]
+  | inr h ↦ inr (inr (eqb-true option options.EXTENDED_HEADERS h))
 ]
 
 is_wide_one : (profile : Profile) → is_wide profile ≡ true → profile ≡ Wide
@@ -153,7 +156,7 @@ is_wide_one Wide e = refl
 abbrev IsOneOf : Profile → ℕ → Type 0
 IsOneOf profile option =
     ((option ≡ options.LIST) ⊎ (option ≡ options.STRUCTURED_REPLY) ⊎ (option ≡ options.INFO) ⊎ (option ≡ options.GO))
-    ⊎ (profile ≡ Wide) × ((option ≡ options.LIST_META_CONTEXT) ⊎ (option ≡ options.SET_META_CONTEXT))
+    ⊎ (profile ≡ Wide) × ((option ≡ options.LIST_META_CONTEXT) ⊎ (option ≡ options.SET_META_CONTEXT) ⊎ (option ≡ options.EXTENDED_HEADERS))
 
 followed_cases : (profile : Profile) (option : ℕ) → is_followed profile option ≡ true → IsOneOf profile option
 followed_cases profile option e = elim (or_true _ _ e) [
@@ -164,7 +167,7 @@ followed_cases profile option e = elim (or_true _ _ e) [
       | inl h ↦ inl (inr (inr (inr (eqb-true option options.GO h))))
       | inr h ↦ elim (or_true (option == options.STRUCTURED_REPLY) _ h) [
         | inl h ↦ inl (inr (inl (eqb-true option options.STRUCTURED_REPLY h)))
-        | inr h ↦ (let q : (is_wide profile ≡ true) × (is_on_contexts option ≡ true) = and_true _ _ h in inr (is_wide_one profile q.0, on_contexts option q.1))
+        | inr h ↦ (let q : (is_wide profile ≡ true) × (extends option ≡ true) = and_true _ _ h in inr (is_wide_one profile q.0, extending option q.1))
       ]
     ]
   ]
@@ -228,7 +231,7 @@ success_may profile option given info selection kind payload s = elim (or_true (
           let on = takes_on_contexts option given q.0 in
           elim (followed_cases profile option s.followed) [
             | inl o ↦ absurd (no_others option on o)
-            | inr o ↦ inr (o.0, (on, s.is_proper, inr (eqb-true _ _ q.1, q.0, good_context option selection payload (s.tells q.1))))
+            | inr o ↦ inr (o.0, (o.1, s.is_proper, inr (eqb-true _ _ q.1, q.0, good_context option selection payload (s.tells q.1))))
           ])
     ]
   ]
@@ -258,6 +261,9 @@ may_ask false now cookie offset len e f = no_some (target cookie now.entries) f
 
 pub ask_allow : (core : Core) (command cookie offset len : ℕ) → request_fault command offset len ≡ None → cookie_fault command (target cookie core.entries) ≡ None → MayAsk (command == commands.DISC) core cookie offset len
 ask_allow core command cookie offset len e f = may_ask (command == commands.DISC) core cookie offset len (fault_none _ BadDisconnect None e).0 (fault_none _ CookieInUse None f).0
+
+pub extended_ask_allow : (core : Core) (x : Bool) (flags command cookie offset len : ℕ) → extended_request_fault x flags command offset len ≡ None → cookie_fault command (target cookie core.entries) ≡ None → MayAsk (command == commands.DISC) core cookie offset len
+extended_ask_allow core x flags command cookie offset len e f = ask_allow core command cookie offset len (fault_none _ OutOfProfile (request_fault command offset len) e).1 f
 
 pub no_message : (ms : List Message) → is_none_yet ms ≡ true → ms ≡ []
 no_message [] e = refl
@@ -298,7 +304,7 @@ pub record IsTold (contexts : List Context) (kind : ℕ) (payload : List ℕ) (s
   pub some_in_force : contexts ≢ []
   pub is : status_of payload ≡ Some status
 
-pub told_if : (contexts : List Context) (kind : ℕ) (payload : List ℕ) (status : Status) → status_if contexts kind payload ≡ Some status → IsTold contexts kind payload status
+pub told_if : (contexts : List Context) (kind : ℕ) (payload : List ℕ) (status : Status) → status_if false contexts kind payload ≡ Some status → IsTold contexts kind payload status
 told_if contexts kind payload status e = go (kind == chunks.BLOCK_STATUS) refl contexts refl e
   where
     go : (b : Bool) → (kind == chunks.BLOCK_STATUS) ≡ b → (cs : List Context) → contexts ≡ cs → (if b && not (length cs == 0) then status_of payload else None) ≡ Some status → IsTold contexts kind payload status
@@ -306,7 +312,7 @@ told_if contexts kind payload status e = go (kind == chunks.BLOCK_STATUS) refl c
     go true q (c ∷ cs) n e = record { kind_is = eqb-true kind chunks.BLOCK_STATUS q; some_in_force = λ h. (let r : c ∷ cs ≡ [] = sym n ∙ h in (cc)); is = sym (ap (λ b. if not b then status_of payload else None) (ne_eqb (length (c ∷ cs)) 0 (λ q. omega arith))) ∙ e }
     go false q cs n e = absurd (cc)
 
-pub status_if-some : (contexts : List Context) (kind : ℕ) (payload : List ℕ) (status : Status) → kind ≡ chunks.BLOCK_STATUS → contexts ≢ [] → status_of payload ≡ Some status → status_if contexts kind payload ≡ Some status
+pub status_if-some : (contexts : List Context) (kind : ℕ) (payload : List ℕ) (status : Status) → kind ≡ chunks.BLOCK_STATUS → contexts ≢ [] → status_of payload ≡ Some status → status_if false contexts kind payload ≡ Some status
 status_if-some [] kind payload status k n is = absurd (n refl)
 status_if-some (c ∷ contexts) kind payload status k n is =
     ap (λ b. if b && not (length (c ∷ contexts) == 0) then status_of payload else None) (eq-eqb kind chunks.BLOCK_STATUS k)
@@ -335,35 +341,45 @@ fits_it e status h =
         )
 
 -- a chunk's form, and what is left to judge of its reply's end
-pub form_of : (profile : Profile) (export : Exporting) (e f : Operation) (flags kind : ℕ) (payload : List ℕ) (z : Bool) → (kind == chunks.NONE) ≡ z → chunk_fault z export e f flags (read_as profile kind) payload ≡ None →
-    IsChunk profile export e flags kind payload × (done_fault (has flags chunks.DONE) export f ≡ None)
-form_of profile export e f flags kind payload true z h =
+pub form_of : (extended : Bool) (profile : Profile) (export : Exporting) (e f : Operation) (flags kind : ℕ) (payload : List ℕ) (z : Bool) → (kind == chunks.NONE) ≡ z → chunk_fault extended z export e f flags (read_as profile kind) payload ≡ None →
+    IsChunk profile extended export e flags kind payload × (done_fault (has flags chunks.DONE) export f ≡ None)
+form_of extended profile export e f flags kind payload true z h =
     let a : ((not (length payload == 0) || not (has flags chunks.DONE)) ≡ false) × (done_fault (has flags chunks.DONE) export f ≡ None) = fault_none _ BadChunk _ h in
     let b : (not (length payload == 0) ≡ false) × (not (has flags chunks.DONE) ≡ false) = or_false _ _ a.0 in
     (inl (eqb-true _ _ z, no_length payload (eqb-true _ _ (not_false _ b.0)), not_false _ b.1), a.1)
-form_of profile export e f flags kind payload false z h =
-    go (content_of (read_as profile kind) payload) (failure_of (read_as profile kind) payload) (status_if e.contexts (read_as profile kind) payload) (sym (kind_content profile kind payload)) refl
-    (sym (kind_status profile e.contexts kind payload)) h
+form_of extended profile export e f flags kind payload false z h =
+    go (content_of (read_as profile kind) payload) (failure_of (read_as profile kind) payload) (status_if extended e.contexts (read_as profile kind) payload) (sym (kind_content profile kind payload)) refl
+    (sym (kind_status profile extended e.contexts kind payload)) h
   where
-    go : (c : Option Piece) (g : Option Failure) (s : Option Status) → content_of kind payload ≡ c → failure_of (read_as profile kind) payload ≡ g → status_if e.contexts kind payload ≡ s →
+    told : (x : Bool) (s : Status) → status_if x e.contexts kind payload ≡ Some s → IsStatus e s → (x ≡ false) × (kind ≡ chunks.BLOCK_STATUS) × ((status : Status) × (status_of payload ≡ Some status) × IsStatus e status)
+    told true s is fit = absurd (cc)
+    told false s is fit = (let t : IsTold e.contexts kind payload s = told_if e.contexts kind payload s is in (refl, t.kind_is, (s, t.is, fit)))
+
+    go : (c : Option Piece) (g : Option Failure) (s : Option Status) → content_of kind payload ≡ c → failure_of (read_as profile kind) payload ≡ g → status_if extended e.contexts kind payload ≡ s →
         content_fault export e c g s (done_fault (has flags chunks.DONE) export f) ≡ None →
-        IsChunk profile export e flags kind payload × (done_fault (has flags chunks.DONE) export f ≡ None)
+        IsChunk profile extended export e flags kind payload × (done_fault (has flags chunks.DONE) export f ≡ None)
     go (Some piece) g s is_c is_g is_s h = let a : (not (fits_read export e piece) ≡ false) × (_ ≡ None) = fault_none _ BadContent _ h in
         (inr (inl (piece, is_c, fits export e piece (not_false _ a.0))), a.1)
     go None (Some g) s is_c is_g is_s h = let a : (not (fits_failure e g.offset) ≡ false) × (_ ≡ None) = fault_none _ BadContent _ h in
         (inr (inr (inl (g, is_g, in_range e g.offset (not_false _ a.0)))), a.1)
     go None None (Some s) is_c is_g is_s h =
         let a : (not (fits_status e s) ≡ false) × (_ ≡ None) = fault_none _ BadContent _ h in
-        let t : IsTold e.contexts kind payload s = told_if e.contexts kind payload s is_s in
-        (inr (inr (inr (t.kind_is, (s, t.is, fits_it e s (not_false _ a.0))))), a.1)
+        (inr (inr (inr (told extended s is_s (fits_it e s (not_false _ a.0))))), a.1)
     go None None None is_c is_g is_s h = absurd (cc)
 
 pub chunk_allow : (profile : Profile) (structured : Bool) (export : Exporting) (e : Operation) (flags kind cookie : ℕ) (payload : List ℕ) → MayReply profile structured export e (Chunk flags kind cookie payload) →
-    (structured ≡ true) × IsChunk profile export e flags kind payload × (done_fault (has flags chunks.DONE) export (with_reply e (Chunk flags kind cookie payload)) ≡ None)
+    (structured ≡ true) × IsChunk profile false export e flags kind payload × (done_fault (has flags chunks.DONE) export (with_reply e (Chunk flags kind cookie payload)) ≡ None)
 unfolding MayReply
 chunk_allow profile structured export e flags kind cookie payload (at_head, at_last) =
-    let form = form_of profile export e (with_reply e (Chunk flags kind cookie payload)) flags kind payload (kind == chunks.NONE) refl at_last in
+    let form = form_of false profile export e (with_reply e (Chunk flags kind cookie payload)) flags kind payload (kind == chunks.NONE) refl at_last in
     (not_false _ (fault_none _ ChunkForbidden None at_head).0, form.0, form.1)
+
+pub extended_allow : (profile : Profile) (structured : Bool) (export : Exporting) (e : Operation) (flags kind cookie at : ℕ) (payload : List ℕ) → MayReply profile structured export e (ExtendedChunk flags kind cookie at payload) →
+    (structured ≡ true) × IsChunk profile true export e flags kind payload × (done_fault (has flags chunks.DONE) export (with_reply e (ExtendedChunk flags kind cookie at payload)) ≡ None) × (at ≡ e.offset)
+unfolding MayReply
+extended_allow profile structured export e flags kind cookie at payload (at_head, at_last, here) =
+    let form = form_of true profile export e (with_reply e (ExtendedChunk flags kind cookie at payload)) flags kind payload (kind == chunks.NONE) refl at_last in
+    (not_false _ (fault_none _ ChunkForbidden None at_head).0, form.0, form.1, here)
 
 -- at the end of a reply that states no failure
 pub finish_allow : (export : Exporting) (f : Operation) → has_failed f ≡ false → done_fault true export f ≡ None →

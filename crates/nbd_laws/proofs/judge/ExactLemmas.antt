@@ -6,7 +6,7 @@ use Rattle.nbd_wire.specs.declared.handshake.TheConstants as handshake
 use Rattle.nbd_wire.specs.declared.message.Side.{Side}
 use Rattle.nbd_wire.specs.declared.message.Side.TheVariants.{Client, Server}
 use Rattle.nbd_wire.specs.declared.message.Message.{Message}
-use Rattle.nbd_wire.specs.declared.message.Message.TheVariants.{Greeting, ClientFlags, Choice, Answer, Exported, Request, Simple, Chunk}
+use Rattle.nbd_wire.specs.declared.message.Message.TheVariants.{Greeting, ClientFlags, Choice, Answer, Exported, Request, Simple, Chunk, ExtendedRequest, ExtendedChunk}
 use Rattle.nbd_wire.specs.protocol.Encoding.{enc}
 use Rattle.nbd_wire.specs.protocol.Captures.{ArePairs, Pair}
 use Rattle.nbd_wire.specs.protocol.Marks.{Item, pairs}
@@ -14,20 +14,20 @@ use Rattle.nbd_wire.specs.protocol.Options.{is_proper_option, turn, takes_contex
 use Rattle.nbd_wire.specs.protocol.Payloads.{number_at}
 use Rattle.nbd_wire.specs.protocol.Operations.{Operation, Exporting}
 use Rattle.nbd_wire.specs.protocol.Flags.{has}
-use Rattle.nbd_wire.specs.protocol.Rules.{IsRunOf, MayComplete, MayStart, MayStartIn, request_of_reply}
+use Rattle.nbd_wire.specs.protocol.Rules.{IsRunOf, MayComplete, MayStart, MayStartIn, is_extended, request_of_reply}
 use Rattle.nbd_wire.specs.protocol.Sendable.{IsSendable}
 use Rattle.nbd_wire.specs.protocol.Sides.{side}
 use Rattle.nbd_wire.specs.protocol.States.{Core, Phase, Greet, Flags, Choosing, Naming, Aborting, Answering, Transmission, operation, target}
 use Rattle.nbd_wire.specs.declared.fault.WireFault.{WireFault}
-use Rattle.nbd_wire.specs.protocol.Decisions.{Decision, abort_answer, answer, choice, client_flags, export_answer, greeting, chunk_to, operation_if, operation_of, request, simple_to}
+use Rattle.nbd_wire.specs.protocol.Decisions.{Decision, abort_answer, answer, choice, client_flags, export_answer, greeting, chunk_to, extended_chunk_to, operation_if, operation_of, reply, reply_in, request, request_by, simple_to}
 use Rattle.nbd_wire.specs.protocol.Reading.{decision, request_unless, by_tests, last_reading, reading_by_decision, read_by, staged_reading_by, IsFilled, More, Whole, reads, fresh_of}
 use Rattle.nbd_laws.proofs.judge.AwaitedLemmas.{in_head, in_payload}
 use Rattle.nbd_laws.proofs.judge.ExactNegotiationLemmas.{Accepts, HasHead, HasLast, abort_accepts, answer_accepts, choice_accepts, exported_accepts, flags_accepts, greeting_accepts}
-use Rattle.nbd_laws.proofs.judge.ExactTransmissionLemmas.{chunk_accepts, chunk_begins, cookie_of_chunk, cookie_of_simple, request_accepts, simple_accepts, simple_begins}
+use Rattle.nbd_laws.proofs.judge.ExactTransmissionLemmas.{chunk_accepts, chunk_begins, cookie_of_chunk, cookie_of_extended, cookie_of_simple, extended_accepts, extended_begins, extended_request_accepts, request_accepts, simple_accepts, simple_begins}
 use Rattle.nbd_laws.proofs.reading.ReaderLemmas.{IsExact, Later, Later-trans}
-use Rattle.nbd_laws.proofs.judge.PhaseLemmas.{IsAppended, Later-appended, Later-disconnected, Later-transmission, Later-turn, target-append}
+use Rattle.nbd_laws.proofs.judge.PhaseLemmas.{IsAppended, Later-appended, Later-extended, Later-disconnected, Later-transmission, Later-turn, target-append}
 use Rattle.nbd_laws.proofs.runs.RunLemmas.{no_run}
-use Rattle.nbd_laws.proofs.judge.SteadyLemmas.{IsDeciding, IsSameHead, IsSteady, deciding, is_chunk_reply, is_simple_reply, no_chunk}
+use Rattle.nbd_laws.proofs.judge.SteadyLemmas.{IsDeciding, IsSameHead, IsSteady, deciding, is_chunk_reply, is_extended_reply, is_simple_reply, no_chunk}
 
 -- what is decided of an encoding takes the message
 record IsTaken (o : Option Decision) (core : Core) (m : Message) : Type 0 where
@@ -52,12 +52,15 @@ same_target old now cookie k e a began at is = go (target cookie old.entries) re
 
 -- what started before: a reply answers a request, a client had not disconnected
 abbrev Began : Phase → Core → Core → Message → Type 0
-Began (Transmission export) old now m = (side m ≡ Server → IsAppended old now × IsTrue (is_some (request_of_reply old m))) × (side m ≡ Client → now.disconnected ≡ false)
+Began (Transmission export) old now m = (side m ≡ Server → IsAppended old now × IsTrue (is_some (request_of_reply old m))) × (side m ≡ Client → now.disconnected ≡ false) × (is_extended m ≡ now.extended)
 Began phase old now m = Unit {0}
 
-request_taken : (core : Core) (b : Bool) (bytes : List ℕ) (m : Message) → b ≡ false → Accepts (request core bytes) m → IsTaken (request_unless b core bytes) core m
-request_taken core true bytes m e a = absurd (cc)
-request_taken core false bytes m e a = taken (request core bytes) core m a
+request_taken : (core : Core) (b x : Bool) (bytes : List ℕ) (m : Message) → b ≡ false → x ≡ core.extended → Accepts (request_by x core bytes) m → IsTaken (request_unless b core bytes) core m
+request_taken core true x bytes m e y a = absurd (cc)
+request_taken core false x bytes m e y a = subst (λ z. IsTaken (Some (request_by z core bytes)) core m) y (taken (request_by x core bytes) core m a)
+
+replied_by : {x : Bool} (export : Exporting) (old now : Core) (bytes : List ℕ) → x ≡ now.extended → Some (reply export old now bytes) ≡ Some (reply_in x export now (operation_of old now (number_at 8 8 bytes)) bytes)
+replied_by export old now bytes y = ap (λ z. Some (reply_in z export now (operation_of old now (number_at 8 8 bytes)) bytes)) (sym y)
 
 taken_in : (phase : Phase) (old now : Core) (m : Message) → IsSendable m → Began phase old now m → MayComplete now phase m → IsTaken (decision phase old now (side m) (enc m)) now m
 unfolding MayComplete IsSendable
@@ -73,7 +76,9 @@ taken_in (Answering asked given info) old now (Answer option kind payload) sn b 
     taken (answer now.profile asked (is_proper_option asked given) (takes_contexts asked given) info now.selection (enc (Answer option kind payload))) now _
     (answer_accepts now.profile asked _ _ info now.selection option kind payload sn.0 sn.1 sn.2.0 ok.0 ok.1)
 taken_in (Transmission export) old now (Request flags command cookie offset len payload) sn b ok =
-    request_taken now now.disconnected (enc (Request flags command cookie offset len payload)) _ (b.1 refl) (request_accepts now flags command cookie offset len payload sn ok.0 ok.1)
+    request_taken now now.disconnected false (enc (Request flags command cookie offset len payload)) _ (b.1 refl) b.2 (request_accepts now flags command cookie offset len payload sn ok.0 ok.1)
+taken_in (Transmission export) old now (ExtendedRequest flags command cookie offset len payload) sn b ok =
+    request_taken now now.disconnected true (enc (ExtendedRequest flags command cookie offset len payload)) _ (b.1 refl) b.2 (extended_request_accepts now flags command cookie offset len payload sn ok.0 ok.1)
 taken_in (Transmission export) old now (Simple error cookie payload) sn b (k, e, at, is, may) =
     let m : Message = Simple error cookie payload in
     let s : _ ≡ true = simple_begins error cookie payload in
@@ -81,7 +86,7 @@ taken_in (Transmission export) old now (Simple error cookie payload) sn b (k, e,
     let a : Accepts (simple_to export now (Some e) (enc m)) m = simple_accepts now export e error cookie payload sn may in
     record {
       d = simple_to export now (Some e) (enc m);
-      is = ap Some (is_simple_reply export old now (enc m) (no_chunk (enc m) s) s ∙ ap (λ o. simple_to export now o (enc m)) to);
+      is = replied_by export old now (enc m) b.2 ∙ ap Some (is_simple_reply export old now (enc m) (no_chunk (enc m) s) s ∙ ap (λ o. simple_to export now o (enc m)) to);
       at_head = a.at_head;
       at_last = a.at_last;
     }
@@ -91,7 +96,17 @@ taken_in (Transmission export) old now (Chunk flags kind cookie payload) sn b (k
     let a : Accepts (chunk_to export now (Some e) (enc m)) m = chunk_accepts now export e flags kind cookie payload sn may in
     record {
       d = chunk_to export now (Some e) (enc m);
-      is = ap Some (is_chunk_reply export old now (enc m) (chunk_begins flags kind cookie payload) ∙ ap (λ o. chunk_to export now o (enc m)) to);
+      is = replied_by export old now (enc m) b.2 ∙ ap Some (is_chunk_reply export old now (enc m) (chunk_begins flags kind cookie payload) ∙ ap (λ o. chunk_to export now o (enc m)) to);
+      at_head = a.at_head;
+      at_last = a.at_last;
+    }
+taken_in (Transmission export) old now (ExtendedChunk flags kind cookie offset payload) sn b (k, e, at, is, may) =
+    let m : Message = ExtendedChunk flags kind cookie offset payload in
+    let to : operation_of old now (number_at 8 8 (enc m)) ≡ Some e = ap (operation_of old now) (cookie_of_extended flags kind cookie offset payload sn) ∙ same_target old now cookie k e (b.0 refl).0 (b.0 refl).1 at is in
+    let a : Accepts (extended_chunk_to export now (Some e) (enc m)) m = extended_accepts now export e flags kind cookie offset payload sn may in
+    record {
+      d = extended_chunk_to export now (Some e) (enc m);
+      is = replied_by export old now (enc m) b.2 ∙ ap Some (is_extended_reply export old now (enc m) (extended_begins flags kind cookie offset payload sn) ∙ ap (λ o. extended_chunk_to export now o (enc m)) to);
       at_head = a.at_head;
       at_last = a.at_last;
     }
@@ -113,18 +128,23 @@ deciding_of phase s old m p st = absurd (cc)
 module _ (old now : Core) (m : Message) where
   server_part : (export : Exporting) → MayStartIn (Transmission export) old Server m → IsTrue (is_some (request_of_reply old m))
   unfolding MayStartIn
-  server_part export st = st
+  server_part export st = st.0
 
   client_part : (export : Exporting) → MayStartIn (Transmission export) old Client m → old.disconnected ≡ false
   unfolding MayStartIn
   client_part export st = st.1
 
+  headed : (export : Exporting) (s : Side) → MayStartIn (Transmission export) old s m → is_extended m ≡ old.extended
+  unfolding MayStartIn
+  headed export Client st = st.2
+  headed export Server st = st.1
+
   no_turn : (s t : Side) → side m ≡ s → side m ≡ t → (s ≡ t → ⊥) → ⊥
   no_turn s t e f ne = ne (sym e ∙ f)
 
   began_in : (export : Exporting) (s : Side) → side m ≡ s → old.phase ≡ Transmission export → Later s old now → MayStartIn (Transmission export) old s m → Began (Transmission export) old now m
-  began_in export Server sd p l st = ((λ e. (Later-appended l export p, server_part export st)), λ e. absurd (no_turn Server Client sd e (λ q. (cc))))
-  began_in export Client sd p l st = ((λ e. absurd (no_turn Client Server sd e (λ q. (cc)))), λ e. Later-disconnected l ∙ client_part export st)
+  began_in export Server sd p l st = ((λ e. (Later-appended l export p, server_part export st)), λ e. absurd (no_turn Server Client sd e (λ q. (cc))), headed export Server st ∙ sym (Later-extended l export p))
+  began_in export Client sd p l st = ((λ e. absurd (no_turn Client Server sd e (λ q. (cc)))), λ e. Later-disconnected l ∙ client_part export st, headed export Client st ∙ sym (Later-extended l export p))
 
   turn_of : (phase : Phase) (s : Side) → MayStartIn phase old s m → (turn phase ≡ Some s) ⊎ ((export : Exporting) × (phase ≡ Transmission export))
   unfolding MayStartIn

@@ -1,25 +1,26 @@
 -- The judge takes each message of transmission that the rules allow.
 use Rattle.std.proofs.Common.{◌≡◌, ℕ, ◌<◌, ◌≤◌, ◌≢◌, ◌+◌, ◌^◌, ◌==◌, List, [], ◌∷◌, ◌++◌, length, drop, refl, sym, ◌∙◌, ap, subst, Option, Some, None, Bool, true, false, not, ◌&&◌, if◌then◌else◌, nat_le, eq-eqb, arith, length-drop}
-use Rattle.std.proofs.lemmas.Bool.{eqb-false, le-leb, leb-true}
+use Rattle.std.proofs.lemmas.Bool.{eqb-false, le-leb, le-ltb, leb-true}
 use Rattle.byteorder.specs.Numbers.{big_number-reads_back}
 use Rattle.nbd_wire.specs.declared.chunks.TheConstants as chunks
-use Rattle.nbd_wire.specs.declared.magics.TheConstants.{REQUEST_MAGIC, SIMPLE_MAGIC, CHUNK_MAGIC}
+use Rattle.nbd_wire.specs.declared.magics.TheConstants.{EXTENDED_CHUNK_MAGIC, EXTENDED_REQUEST_MAGIC, REQUEST_MAGIC, SIMPLE_MAGIC, CHUNK_MAGIC}
+use Rattle.nbd_wire.specs.declared.limits.TheConstants.{LONGEST_PAYLOAD}
 use Rattle.nbd_wire.specs.declared.message.Message.{Message}
-use Rattle.nbd_wire.specs.declared.message.Message.TheVariants.{Request, Simple, Chunk}
+use Rattle.nbd_wire.specs.declared.message.Message.TheVariants.{Request, Simple, Chunk, ExtendedRequest, ExtendedChunk}
 use Rattle.nbd_wire.specs.declared.payloads.Piece.{Piece}
 use Rattle.nbd_wire.specs.declared.payloads.Piece.TheVariants.{Bytes, Hole}
 use Rattle.nbd_wire.specs.protocol.Encoding.{enc, head, tail}
-use Rattle.nbd_wire.proofs.FieldLemmas.{chunk-cookie, chunk-flags, chunk-kind, chunk-length, chunk-magic, drop-chunk, length-chunk, length-request, request-command, request-cookie, request-length, request-magic, simple-cookie, simple-magic}
+use Rattle.nbd_wire.proofs.FieldLemmas.{chunk-cookie, chunk-flags, chunk-kind, chunk-length, chunk-magic, drop-chunk, length-chunk, length-request, extended_chunk_fields, extended_request_fields, request-command, request-cookie, request-length, request-magic, simple-cookie, simple-magic}
 use Rattle.nbd_wire.specs.protocol.Payloads.{number_at, content_of}
-use Rattle.nbd_wire.specs.protocol.Decisions.{begins, chunk_of, chunk_to, request, simple_to}
+use Rattle.nbd_wire.specs.protocol.Decisions.{begins, chunk_of, chunk_to, extended_chunk_of, extended_chunk_to, extended_request, short_request, simple_to}
 use Rattle.nbd_wire.specs.protocol.Tests.{fault_if}
-use Rattle.nbd_wire.specs.protocol.Transmission.{simple_length, chunk_fault, cookie_fault, request_fault, request_payload_length, simple_fault, simple_last_fault, read_as}
+use Rattle.nbd_wire.specs.protocol.Transmission.{simple_length, chunk_fault, cookie_fault, request_fault, request_payload_length, simple_fault, simple_last_fault, read_as, chunk_head_fault, extended_head_fault, extended_payload_length, extended_request_fault, is_too_large, offset_fault}
 use Rattle.nbd_wire.specs.protocol.Rules.{MayReply}
 use Rattle.nbd_wire.specs.protocol.Operations.{Operation, Exporting, pieces_of}
 use Rattle.nbd_wire.specs.protocol.Pieces.{chunk_piece, piece_of, piece_size}
 use Rattle.nbd_wire.specs.protocol.Sendable.{IsSendable}
-use Rattle.nbd_wire.specs.protocol.States.{Core, target, with_reply}
-use Rattle.nbd_wire.specs.declared.fault.WireFault.TheVariants.{BadMagic}
+use Rattle.nbd_wire.specs.protocol.States.{Core, has_contexts, target, with_reply}
+use Rattle.nbd_wire.specs.declared.fault.WireFault.TheVariants.{BadMagic, BadReplyOffset, OutOfProfile}
 use Rattle.nbd_laws.proofs.judge.CoverLemmas.{ArePositive}
 use Rattle.nbd_laws.proofs.judge.ExactNegotiationLemmas.{Accepts}
 
@@ -51,7 +52,7 @@ is_request flags command cookie offset len payload f c k o l =
 
 pub request_accepts : (core : Core) (flags command cookie offset len : ℕ) (payload : List ℕ) → IsSendable (Request flags command cookie offset len payload) →
     request_fault command offset len ≡ None → cookie_fault command (target cookie core.entries) ≡ None →
-    Accepts (request core (enc (Request flags command cookie offset len payload))) (Request flags command cookie offset len payload)
+    Accepts (short_request core (enc (Request flags command cookie offset len payload))) (Request flags command cookie offset len payload)
 unfolding IsSendable
 request_accepts core flags command cookie offset len payload sn at_head at_last =
     let n : IsRequest flags command cookie offset len payload (enc (Request flags command cookie offset len payload)) = is_request flags command cookie offset len payload sn.0 sn.1 sn.2 sn.3 sn.4 in
@@ -63,6 +64,23 @@ request_accepts core flags command cookie offset len payload sn at_head at_last 
       at_last = record {
         clean = (λ i. cookie_fault (n.command_is i) (target (n.cookie_is i) core.entries)) ∙ at_last;
         is = λ i. Request (n.flags_is i) (n.command_is i) (n.cookie_is i) (n.offset_is i) (n.length_is i) (n.payload_is i);
+      };
+    }
+
+pub extended_request_accepts : (core : Core) (flags command cookie offset len : ℕ) (payload : List ℕ) → IsSendable (ExtendedRequest flags command cookie offset len payload) →
+    extended_request_fault (has_contexts core) flags command offset len ≡ None → cookie_fault command (target cookie core.entries) ≡ None →
+    Accepts (extended_request core (enc (ExtendedRequest flags command cookie offset len payload))) (ExtendedRequest flags command cookie offset len payload)
+unfolding IsSendable
+extended_request_accepts core flags command cookie offset len payload sn at_head at_last =
+    let n = extended_request_fields flags command cookie offset len payload sn.0 sn.1 sn.2 sn.3 sn.4 in
+    record {
+      at_head = record {
+        long = n.long ∙ ap (λ x. 32 + x) sn.5 ∙ (λ i. 32 + extended_payload_length (sym n.flags_is i) (sym n.kind_is i) (sym n.length_is i));
+        clean = (λ i. fault_if (not (n.magic_is i == EXTENDED_REQUEST_MAGIC)) BadMagic (extended_request_fault (has_contexts core) (n.flags_is i) (n.kind_is i) (n.offset_is i) (n.length_is i))) ∙ at_head;
+      };
+      at_last = record {
+        clean = (λ i. cookie_fault (n.kind_is i) (target (n.cookie_is i) core.entries)) ∙ at_last;
+        is = λ i. ExtendedRequest (n.flags_is i) (n.kind_is i) (n.cookie_is i) (n.offset_is i) (n.length_is i) (n.payload_is i);
       };
     }
 
@@ -149,6 +167,7 @@ unfolding piece_of
 piece_positive offset (Simple error cookie []) = tt
 piece_positive offset (Simple error cookie (b ∷ bs)) = (omega arith, tt)
 piece_positive offset (Chunk flags kind cookie bytes) = positive_chunk kind bytes (content_of kind bytes) refl
+piece_positive offset (ExtendedChunk flags kind cookie at bytes) = positive_chunk kind bytes (content_of kind bytes) refl
 piece_positive offset m = tt
 
 pub pieces_positive : (offset : ℕ) (ms : List Message) → ArePositive (pieces_of offset ms)
@@ -183,7 +202,39 @@ chunk_accepts core export e flags kind cookie payload sn may =
     record {
       at_head = record { long = n.long ∙ ap (λ x. 20 + x) (sym n.length_is); clean = may.0 };
       at_last = record {
-        clean = (λ i. chunk_fault (n.kind_is i == chunks.NONE) export e (with_reply e (m_is i)) (n.flags_is i) (read_as core.profile (n.kind_is i)) (n.payload_is i)) ∙ may.1;
+        clean = (λ i. chunk_fault false (n.kind_is i == chunks.NONE) export e (with_reply e (m_is i)) (n.flags_is i) (read_as core.profile (n.kind_is i)) (n.payload_is i)) ∙ may.1;
+        is = m_is;
+      };
+    }
+
+pub cookie_of_extended : (flags kind cookie offset : ℕ) (payload : List ℕ) → IsSendable (ExtendedChunk flags kind cookie offset payload) → number_at 8 8 (enc (ExtendedChunk flags kind cookie offset payload)) ≡ cookie
+unfolding IsSendable
+cookie_of_extended flags kind cookie offset payload sn = (extended_chunk_fields flags kind cookie offset payload sn.0 sn.1 sn.2 sn.3 sn.4.0).cookie_is
+
+pub extended_begins : (flags kind cookie offset : ℕ) (payload : List ℕ) → IsSendable (ExtendedChunk flags kind cookie offset payload) → begins EXTENDED_CHUNK_MAGIC (enc (ExtendedChunk flags kind cookie offset payload)) ≡ true
+unfolding IsSendable
+extended_begins flags kind cookie offset payload sn =
+    let n = extended_chunk_fields flags kind cookie offset payload sn.0 sn.1 sn.2 sn.3 sn.4.0 in
+    begins_with EXTENDED_CHUNK_MAGIC (enc (ExtendedChunk flags kind cookie offset payload)) (omega (arith, n.long)) n.magic_is
+
+not_too_large : (n : ℕ) → n < 2 ^ 32 → is_too_large n ≡ false
+not_too_large n l = le-ltb LONGEST_PAYLOAD n (omega (arith, l))
+
+pub extended_accepts : (core : Core) (export : Exporting) (e : Operation) (flags kind cookie offset : ℕ) (payload : List ℕ) → IsSendable (ExtendedChunk flags kind cookie offset payload) →
+    MayReply core.profile core.structured export e (ExtendedChunk flags kind cookie offset payload) → Accepts (extended_chunk_to export core (Some e) (enc (ExtendedChunk flags kind cookie offset payload))) (ExtendedChunk flags kind cookie offset payload)
+unfolding IsSendable MayReply
+extended_accepts core export e flags kind cookie offset payload sn may =
+    let m : Message = ExtendedChunk flags kind cookie offset payload in
+    let n = extended_chunk_fields flags kind cookie offset payload sn.0 sn.1 sn.2 sn.3 sn.4.0 in
+    let m_is : extended_chunk_of (enc m) ≡ m = λ i. ExtendedChunk (n.flags_is i) (n.kind_is i) (n.cookie_is i) (n.offset_is i) (n.payload_is i) in
+    record {
+      at_head = record {
+        long = n.long ∙ ap (λ x. 32 + x) (sym n.length_is);
+        clean = (λ i. extended_head_fault core.structured (Some e) (n.length_is i)) ∙ ap (λ b. fault_if b OutOfProfile (chunk_head_fault core.structured (Some e))) (not_too_large (length payload) sn.4.0) ∙ may.0;
+      };
+      at_last = record {
+        clean = (λ i. offset_fault (chunk_fault true (n.kind_is i == chunks.NONE) export e (with_reply e (m_is i)) (n.flags_is i) (read_as core.profile (n.kind_is i)) (n.payload_is i)) e (n.offset_is i))
+            ∙ ap (λ f. offset_fault f e offset) may.1 ∙ ap (λ b. fault_if (not b) BadReplyOffset None) (eq-eqb offset e.offset may.2);
         is = m_is;
       };
     }

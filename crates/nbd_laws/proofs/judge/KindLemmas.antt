@@ -42,10 +42,11 @@ kind_content profile kind bytes = elim (read_kind profile kind) [
   | inr (e, q) ↦ ap (λ k. content_of k bytes) q ∙ error_content chunks.ERROR bytes refl ∙ sym (error_content kind bytes e)
 ]
 
-pub kind_status : (profile : Profile) (contexts : List Context) (kind : ℕ) (bytes : List ℕ) → status_if contexts (read_as profile kind) bytes ≡ status_if contexts kind bytes
-kind_status profile contexts kind bytes = elim (read_kind profile kind) [
-  | inl q ↦ ap (λ k. status_if contexts k bytes) q
-  | inr (e, q) ↦ ap (λ k. status_if contexts k bytes) q ∙ sym (ap (λ b. if b && not (length contexts == 0) then status_of bytes else None) (no_other kind chunks.BLOCK_STATUS e (omega arith)))
+pub kind_status : (profile : Profile) (extended : Bool) (contexts : List Context) (kind : ℕ) (bytes : List ℕ) → status_if extended contexts (read_as profile kind) bytes ≡ status_if extended contexts kind bytes
+kind_status profile true contexts kind bytes = refl
+kind_status profile false contexts kind bytes = elim (read_kind profile kind) [
+  | inl q ↦ ap (λ k. status_if false contexts k bytes) q
+  | inr (e, q) ↦ ap (λ k. status_if false contexts k bytes) q ∙ sym (ap (λ b. if b && not (length contexts == 0) then status_of bytes else None) (no_other kind chunks.BLOCK_STATUS e (omega arith)))
 ]
 
 pub status_kind : (profile : Profile) → read_as profile chunks.BLOCK_STATUS ≡ chunks.BLOCK_STATUS

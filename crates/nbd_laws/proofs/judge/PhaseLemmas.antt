@@ -4,7 +4,7 @@ use Rattle.nbd_wire.specs.declared.commands.TheConstants as commands
 use Rattle.nbd_wire.specs.declared.message.Side.{Side}
 use Rattle.nbd_wire.specs.declared.message.Side.TheVariants.{Client, Server}
 use Rattle.nbd_wire.specs.declared.message.Message.{Message}
-use Rattle.nbd_wire.specs.declared.message.Message.TheVariants.{Greeting, ClientFlags, Choice, Answer, Exported, Request, Simple, Chunk}
+use Rattle.nbd_wire.specs.declared.message.Message.TheVariants.{Greeting, ClientFlags, Choice, Answer, Exported, Request, Simple, Chunk, ExtendedRequest, ExtendedChunk}
 use Rattle.nbd_wire.specs.protocol.Options.{turn}
 use Rattle.nbd_wire.specs.protocol.Operations.{Operation, Exporting, is_finished}
 use Rattle.nbd_wire.specs.protocol.Rules.{MayComplete, complete, core_with_request, reply_to, request_of_reply}
@@ -39,8 +39,10 @@ phase-requested false core e = refl
 pub transmission_stays : (core : Core) (export : Exporting) (m : Message) → MayComplete core (Transmission export) m → (complete core m).phase ≡ core.phase
 unfolding MayComplete complete
 transmission_stays core export (Request flags command cookie offset len payload) h = phase-requested _ core _
+transmission_stays core export (ExtendedRequest flags command cookie offset len payload) h = phase-requested _ core _
 transmission_stays core export (Simple error cookie payload) h = phase-reply_to (request_of_reply core (Simple error cookie payload)) core (Simple error cookie payload)
 transmission_stays core export (Chunk flags kind cookie payload) h = phase-reply_to (request_of_reply core (Chunk flags kind cookie payload)) core (Chunk flags kind cookie payload)
+transmission_stays core export (ExtendedChunk flags kind cookie at payload) h = phase-reply_to (request_of_reply core (ExtendedChunk flags kind cookie at payload)) core (ExtendedChunk flags kind cookie at payload)
 transmission_stays core export m h = absurd h
 
 pub Later-transmission : {s : Side} {old now : Core} → Later s old now → (export : Exporting) → old.phase ≡ Transmission export → now.phase ≡ Transmission export
@@ -60,8 +62,10 @@ in_force-requested false core e = refl
 pub in_force_stays : (core : Core) (export : Exporting) (m : Message) → MayComplete core (Transmission export) m → in_force (complete core m) ≡ in_force core
 unfolding MayComplete complete
 in_force_stays core export (Request flags command cookie offset len payload) h = in_force-requested _ core _
+in_force_stays core export (ExtendedRequest flags command cookie offset len payload) h = in_force-requested _ core _
 in_force_stays core export (Simple error cookie payload) h = in_force-reply_to (request_of_reply core (Simple error cookie payload)) core (Simple error cookie payload)
 in_force_stays core export (Chunk flags kind cookie payload) h = in_force-reply_to (request_of_reply core (Chunk flags kind cookie payload)) core (Chunk flags kind cookie payload)
+in_force_stays core export (ExtendedChunk flags kind cookie at payload) h = in_force-reply_to (request_of_reply core (ExtendedChunk flags kind cookie at payload)) core (ExtendedChunk flags kind cookie at payload)
 in_force_stays core export m h = absurd h
 
 pub Later-in_force : {s : Side} {old now : Core} → Later s old now → (export : Exporting) → old.phase ≡ Transmission export → in_force now ≡ in_force old
@@ -69,6 +73,30 @@ Later-in_force at_once export e = refl
 Later-in_force (behind {c = c} m ne ok l) export e =
     let may : MayComplete c (Transmission export) m = subst (λ p. MayComplete c p m) e ok in
     Later-in_force l export (transmission_stays c export m may ∙ e) ∙ in_force_stays c export m may
+
+pub extended-reply_to : (o : Option ℕ) (core : Core) (m : Message) → (reply_to o core m).extended ≡ core.extended
+extended-reply_to (Some k) core m = refl
+extended-reply_to None core m = refl
+
+pub extended-requested : (b : Bool) (core : Core) (e : Operation) → (core_with_request b core e).extended ≡ core.extended
+extended-requested true core e = refl
+extended-requested false core e = refl
+
+-- and so do extended headers
+pub extended_stays : (core : Core) (export : Exporting) (m : Message) → MayComplete core (Transmission export) m → (complete core m).extended ≡ core.extended
+unfolding MayComplete complete
+extended_stays core export (Request flags command cookie offset len payload) h = extended-requested _ core _
+extended_stays core export (ExtendedRequest flags command cookie offset len payload) h = extended-requested _ core _
+extended_stays core export (Simple error cookie payload) h = extended-reply_to (request_of_reply core (Simple error cookie payload)) core (Simple error cookie payload)
+extended_stays core export (Chunk flags kind cookie payload) h = extended-reply_to (request_of_reply core (Chunk flags kind cookie payload)) core (Chunk flags kind cookie payload)
+extended_stays core export (ExtendedChunk flags kind cookie at payload) h = extended-reply_to (request_of_reply core (ExtendedChunk flags kind cookie at payload)) core (ExtendedChunk flags kind cookie at payload)
+extended_stays core export m h = absurd h
+
+pub Later-extended : {s : Side} {old now : Core} → Later s old now → (export : Exporting) → old.phase ≡ Transmission export → now.extended ≡ old.extended
+Later-extended at_once export e = refl
+Later-extended (behind {c = c} m ne ok l) export e =
+    let may : MayComplete c (Transmission export) m = subst (λ p. MayComplete c p m) e ok in
+    Later-extended l export (transmission_stays c export m may ∙ e) ∙ extended_stays c export m may
 
 -- while a side is in a message of the negotiation, nothing completes
 pub Later-turn : {s : Side} {old now : Core} → Later s old now → turn old.phase ≡ Some s → old ≡ now
@@ -90,8 +118,10 @@ disconnected_same core (Choice id payload) ne = refl
 disconnected_same core (Answer option kind payload) ne = refl
 disconnected_same core (Exported size flags padded) ne = refl
 disconnected_same core (Request flags command cookie offset len payload) ne = absurd (ne refl)
+disconnected_same core (ExtendedRequest flags command cookie offset len payload) ne = absurd (ne refl)
 disconnected_same core (Simple error cookie payload) ne = disconnected-replied (request_of_reply core (Simple error cookie payload)) core _
 disconnected_same core (Chunk flags kind cookie payload) ne = disconnected-replied (request_of_reply core (Chunk flags kind cookie payload)) core _
+disconnected_same core (ExtendedChunk flags kind cookie at payload) ne = disconnected-replied (request_of_reply core (ExtendedChunk flags kind cookie at payload)) core _
 
 -- the server's messages do not disconnect the client
 pub Later-disconnected : {old now : Core} → Later Client old now → now.disconnected ≡ old.disconnected
@@ -117,21 +147,24 @@ pub record IsAppended (old now : Core) : Type 0 where
   pub entries_are : now.entries ≡ old.entries ++ more
   pub structured_is : now.structured ≡ old.structured
   pub profile_is : now.profile ≡ old.profile
+  pub extended_is : now.extended ≡ old.extended
 
 appended-requested : (b : Bool) (core : Core) (e : Operation) → IsAppended core (core_with_request b core e)
-appended-requested true core e = record { more = []; entries_are = sym (append-nil core.entries); structured_is = refl; profile_is = refl }
-appended-requested false core e = record { more = e ∷ []; entries_are = refl; structured_is = refl; profile_is = refl }
+appended-requested true core e = record { more = []; entries_are = sym (append-nil core.entries); structured_is = refl; profile_is = refl; extended_is = refl }
+appended-requested false core e = record { more = e ∷ []; entries_are = refl; structured_is = refl; profile_is = refl; extended_is = refl }
 
 appended-complete : (core : Core) (export : Exporting) (m : Message) → (side m ≡ Server → ⊥) → MayComplete core (Transmission export) m → IsAppended core (complete core m)
 unfolding MayComplete complete
 appended-complete core export (Request flags command cookie offset len bytes) ne ok = appended-requested (command == commands.DISC) core _
+appended-complete core export (ExtendedRequest flags command cookie offset len bytes) ne ok = appended-requested (command == commands.DISC) core _
 appended-complete core export (Simple error cookie bytes) ne ok = absurd (ne refl)
 appended-complete core export (Chunk flags kind cookie bytes) ne ok = absurd (ne refl)
+appended-complete core export (ExtendedChunk flags kind cookie at bytes) ne ok = absurd (ne refl)
 appended-complete core export m ne ok = absurd ok
 
 -- while the server is in a message, the client only adds requests
 pub Later-appended : {old now : Core} → Later Server old now → (export : Exporting) → old.phase ≡ Transmission export → IsAppended old now
-Later-appended {old} at_once export t = record { more = []; entries_are = sym (append-nil old.entries); structured_is = refl; profile_is = refl }
+Later-appended {old} at_once export t = record { more = []; entries_are = sym (append-nil old.entries); structured_is = refl; profile_is = refl; extended_is = refl }
 Later-appended {old} {now} (behind {c = c} m ne ok l) export t =
     let ok' : MayComplete c (Transmission export) m = subst (λ p. MayComplete c p m) t ok in
     let a : IsAppended c (complete c m) = appended-complete c export m ne ok' in
@@ -141,6 +174,7 @@ Later-appended {old} {now} (behind {c = c} m ne ok l) export t =
       entries_are = b.entries_are ∙ ap (λ es. es ++ b.more) a.entries_are ∙ append_assoc c.entries a.more b.more;
       structured_is = b.structured_is ∙ a.structured_is;
       profile_is = b.profile_is ∙ a.profile_is;
+      extended_is = b.extended_is ∙ a.extended_is;
     }
 
 -- the request that a cookie finds

@@ -1,18 +1,22 @@
 -- What the judge takes for a request is one that the rules allow.
-use Rattle.std.proofs.Common.{◌≡◌, ℕ, ◌≤◌, ◌+◌, List, length, drop, refl, subst, Bool, true, false, arith, length-drop}
-use Rattle.nbd_wire.specs.declared.magics.TheConstants.{REQUEST_MAGIC}
+use Rattle.std.proofs.Common.{◌≡◌, ℕ, ◌<◌, ◌≤◌, ◌+◌, ◌^◌, ◌&&◌, if◌then◌else◌, IsTrue, None, List, length, drop, refl, sym, subst, Bool, true, false, arith, length-drop}
+use Rattle.std.proofs.lemmas.Bool.{ltb-false}
+use Rattle.nbd_wire.specs.declared.fault.WireFault.TheVariants.{OutOfProfile}
+use Rattle.nbd_wire.specs.declared.limits.TheConstants.{LONGEST_PAYLOAD}
+use Rattle.nbd_laws.proofs.judge.BoolLemmas.{fault_none, or_false}
+use Rattle.nbd_wire.specs.declared.magics.TheConstants.{EXTENDED_REQUEST_MAGIC, REQUEST_MAGIC}
 use Rattle.nbd_wire.specs.declared.message.Side.TheVariants.{Client}
 use Rattle.nbd_wire.specs.declared.message.Message.{Message}
 use Rattle.nbd_wire.specs.protocol.Encoding.{enc, head, tail, AreBytes}
 use Rattle.nbd_wire.proofs.NumberLemmas.{with_number, number_at-lt, AreBytes-drop}
 use Rattle.nbd_wire.specs.protocol.Payloads.{number_at}
 use Rattle.nbd_wire.specs.protocol.Operations.{Exporting}
-use Rattle.nbd_wire.specs.protocol.Rules.{MayComplete}
-use Rattle.nbd_wire.specs.protocol.Sendable.{IsSendable}
-use Rattle.nbd_wire.specs.protocol.States.{Transmission, Core}
-use Rattle.nbd_wire.specs.protocol.Decisions.{request, request_of}
-use Rattle.nbd_wire.specs.protocol.Reading.{request_unless, reading_by_decision, Whole}
-use Rattle.nbd_wire.specs.protocol.Transmission.{request_payload_length}
+use Rattle.nbd_wire.specs.protocol.Rules.{MayComplete, is_extended, is_request}
+use Rattle.nbd_wire.specs.protocol.Sendable.{IsSendable, carries_payload}
+use Rattle.nbd_wire.specs.protocol.States.{Transmission, Core, has_contexts}
+use Rattle.nbd_wire.specs.protocol.Decisions.{extended_request, extended_request_of, request_by, request_of, short_request}
+use Rattle.nbd_wire.specs.protocol.Reading.{read_by, request_unless, reading_by_decision, Whole}
+use Rattle.nbd_wire.specs.protocol.Transmission.{extended_payload_length, extended_request_fault, is_too_large, request_payload_length}
 use Rattle.nbd_laws.proofs.judge.SoundNegotiationLemmas.{IsFit, IsWhole, whole, magic_there}
 
 request_is : (bytes : List ℕ) → AreBytes bytes → 28 ≤ length bytes → number_at 0 4 bytes ≡ REQUEST_MAGIC → bytes ≡ enc (request_of bytes)
@@ -30,28 +34,87 @@ request_sendable bytes a l =
     let p : length (drop 28 bytes) ≡ request_payload_length (number_at 6 2 bytes) (number_at 24 4 bytes) = omega (arith, length-drop 28 bytes, l) in
     (number_at-lt 4 2 bytes a, number_at-lt 6 2 bytes a, number_at-lt 8 8 bytes a, number_at-lt 16 8 bytes a, number_at-lt 24 4 bytes a, p, AreBytes-drop 28 bytes a)
 
+extended_is : (bytes : List ℕ) → AreBytes bytes → 32 ≤ length bytes → number_at 0 4 bytes ≡ EXTENDED_REQUEST_MAGIC → bytes ≡ enc (extended_request_of bytes)
+unfolding enc head tail
+extended_is bytes a l m =
+    with_number 0 4 bytes EXTENDED_REQUEST_MAGIC _ a (omega arith) m (with_number 4 2 bytes (number_at 4 2 bytes) _ a (omega (arith, length-drop 4 bytes)) refl
+    (with_number 6 2 bytes (number_at 6 2 bytes) _ a (omega (arith, length-drop 6 bytes)) refl
+    (with_number 8 8 bytes (number_at 8 8 bytes) _ a (omega (arith, length-drop 8 bytes)) refl
+    (with_number 16 8 bytes (number_at 16 8 bytes) _ a (omega (arith, length-drop 16 bytes)) refl
+    (with_number 24 8 bytes (number_at 24 8 bytes) (drop 32 bytes) a (omega (arith, length-drop 24 bytes)) refl refl)))))
+
+-- what is not too large
+pub not_large : (carries large : Bool) (len n : ℕ) → large ≡ is_too_large len → (carries && large) ≡ false → n ≡ (if carries then len else 0) → n < 2 ^ 32
+not_large true true len n q e l = absurd (cc)
+not_large true false len n q e l = (let h : len ≤ LONGEST_PAYLOAD = ltb-false LONGEST_PAYLOAD len (sym q) in omega (arith, h, l))
+not_large false large len n q e l = omega (arith, l)
+
+extended_sendable : (x : Bool) (bytes : List ℕ) → AreBytes bytes → length bytes ≡ 32 + extended_payload_length (number_at 4 2 bytes) (number_at 6 2 bytes) (number_at 24 8 bytes) →
+    extended_request_fault x (number_at 4 2 bytes) (number_at 6 2 bytes) (number_at 16 8 bytes) (number_at 24 8 bytes) ≡ None → IsSendable (extended_request_of bytes)
+unfolding IsSendable
+extended_sendable x bytes a l clean =
+    let carries : Bool = carries_payload (number_at 4 2 bytes) (number_at 6 2 bytes) in
+    let len : ℕ = number_at 24 8 bytes in
+    let p : length (drop 32 bytes) ≡ extended_payload_length (number_at 4 2 bytes) (number_at 6 2 bytes) len = omega (arith, length-drop 32 bytes, l) in
+    let small = (or_false (carries && is_too_large len) _ (fault_none _ OutOfProfile _ clean).0).0 in (
+      number_at-lt 4 2 bytes a,
+      number_at-lt 6 2 bytes a,
+      number_at-lt 8 8 bytes a,
+      number_at-lt 16 8 bytes a,
+      number_at-lt 24 8 bytes a,
+      p,
+      (not_large carries (is_too_large len) len (length (drop 32 bytes)) refl small p, AreBytes-drop 32 bytes a),
+    )
+
 pub record IsAsked (now : Core) (export : Exporting) (bytes : List ℕ) (m : Message) : Type 0 where
   pub fit : IsFit now (Transmission export) Client bytes m
-  pub is : request_of bytes ≡ m
+  pub asks : IsTrue (is_request m)
+  pub headed : is_extended m ≡ now.extended
   pub open_still : now.disconnected ≡ false
 
-pub request_sound : (now : Core) (export : Exporting) (d : Bool) (bytes : List ℕ) (m : Message) → now.disconnected ≡ d → AreBytes bytes → reading_by_decision (request_unless d now bytes) bytes ≡ Whole m → IsAsked now export bytes m
+short_sound : (now : Core) (export : Exporting) (bytes : List ℕ) (m : Message) → now.disconnected ≡ false → now.extended ≡ false → AreBytes bytes → read_by (short_request now bytes) bytes ≡ Whole m → IsAsked now export bytes m
 unfolding MayComplete
-request_sound now export true bytes m is_d a e = absurd (cc)
-request_sound now export false bytes m is_d a e =
+short_sound now export bytes m is_d x a e =
     let command : ℕ = number_at 6 2 bytes in
-    let offset : ℕ = number_at 16 8 bytes in
     let len : ℕ = number_at 24 4 bytes in
-    let w : IsWhole (request now bytes) bytes m = whole (request now bytes) bytes m e in
+    let w : IsWhole (short_request now bytes) bytes m = whole (short_request now bytes) bytes m e in
     let long : length bytes ≡ 28 + request_payload_length command len = w.long in
     let mg = magic_there (number_at 0 4 bytes) REQUEST_MAGIC _ w.at_head in
-    record {
-      fit = subst (IsFit now (Transmission export) Client bytes) w.is (record {
+    subst (IsAsked now export bytes) w.is (record {
+      fit = record {
         encodes = request_is bytes a (omega (arith, long)) mg.0;
         sided = refl;
         sendable = request_sendable bytes a long;
-        completes = (mg.1, w.at_last);
-      });
-      is = w.is;
+        completes = (mg.1, w.at_last, x);
+      };
+      asks = refl;
+      headed = sym x;
       open_still = is_d;
-    }
+    })
+
+extended_sound : (now : Core) (export : Exporting) (bytes : List ℕ) (m : Message) → now.disconnected ≡ false → now.extended ≡ true → AreBytes bytes → read_by (extended_request now bytes) bytes ≡ Whole m → IsAsked now export bytes m
+unfolding MayComplete
+extended_sound now export bytes m is_d x a e =
+    let len : ℕ = number_at 24 8 bytes in
+    let w : IsWhole (extended_request now bytes) bytes m = whole (extended_request now bytes) bytes m e in
+    let long : length bytes ≡ 32 + extended_payload_length (number_at 4 2 bytes) (number_at 6 2 bytes) len = w.long in
+    let mg = magic_there (number_at 0 4 bytes) EXTENDED_REQUEST_MAGIC _ w.at_head in
+    subst (IsAsked now export bytes) w.is (record {
+      fit = record {
+        encodes = extended_is bytes a (omega (arith, long)) mg.0;
+        sided = refl;
+        sendable = extended_sendable (has_contexts now) bytes a long mg.1;
+        completes = (mg.1, w.at_last, x);
+      };
+      asks = refl;
+      headed = sym x;
+      open_still = is_d;
+    })
+
+pub request_sound : (now : Core) (export : Exporting) (d : Bool) (bytes : List ℕ) (m : Message) → now.disconnected ≡ d → AreBytes bytes → reading_by_decision (request_unless d now bytes) bytes ≡ Whole m → IsAsked now export bytes m
+request_sound now export true bytes m is_d a e = absurd (cc)
+request_sound now export false bytes m is_d a e = go now.extended refl e
+  where
+    go : (x : Bool) → now.extended ≡ x → read_by (request_by x now bytes) bytes ≡ Whole m → IsAsked now export bytes m
+    go false x e = short_sound now export bytes m is_d x a e
+    go true x e = extended_sound now export bytes m is_d x a e

@@ -7,14 +7,14 @@ use Rattle.nbd_wire.specs.protocol.Encoding.{AreBytes}
 use Rattle.nbd_wire.specs.protocol.Options.{turn}
 use Rattle.nbd_wire.proofs.NumberLemmas.{AreBytes-snoc}
 use Rattle.nbd_wire.specs.protocol.Operations.{Exporting}
-use Rattle.nbd_wire.specs.protocol.Rules.{MayStartIn, MayComplete, request_of_reply}
+use Rattle.nbd_wire.specs.protocol.Rules.{MayStartIn, MayComplete, request_of_reply, is_extended, is_request}
 use Rattle.nbd_wire.specs.protocol.States.{Phase, Greet, Flags, Choosing, Naming, Aborting, Answering, Transmission, Core}
 use Rattle.nbd_wire.specs.declared.fault.WireFault.TheVariants.{OutOfTurn}
 use Rattle.nbd_wire.specs.protocol.Decisions.{request_of}
 use Rattle.nbd_wire.specs.protocol.Reading.{judge_in, by_tests, Reading, More, Whole, Bad, Judge}
 use Rattle.nbd_laws.proofs.reading.ReaderLemmas.{Kept, begun, kept, Later, at_once, Later-trans, IsSoundAt, IsSound}
 use Rattle.nbd_laws.specs.Reached.{IsReached}
-use Rattle.nbd_laws.proofs.judge.PhaseLemmas.{IsTransmitting, Later-disconnected, Later-transmission, Later-turn}
+use Rattle.nbd_laws.proofs.judge.PhaseLemmas.{IsTransmitting, Later-disconnected, Later-transmission, Later-turn, Later-extended}
 use Rattle.nbd_laws.proofs.judge.SoundClientLemmas.{IsAsked, request_sound}
 use Rattle.nbd_laws.proofs.judge.SoundNegotiationLemmas.{IsFit, negotiation_sound}
 use Rattle.nbd_laws.proofs.judge.SoundServerLemmas.{IsReplying, reply_sound}
@@ -74,13 +74,13 @@ sound_in_turn now s bytes m a t e =
     let f : IsFit now now.phase s bytes m = negotiation_sound now.phase now s bytes m a t e in
     record { encodes = f.encodes; sided = f.sided; sendable = f.sendable; starts = starts_by_turn now.phase now s m t; completes = f.completes }
 
-client_starts : (export : Exporting) (core : Core) (bytes : List ℕ) → core.disconnected ≡ false → MayStartIn (Transmission export) core Client (request_of bytes)
+client_starts : (export : Exporting) (core : Core) (m : Message) → IsTrue (is_request m) → core.disconnected ≡ false → is_extended m ≡ core.extended → MayStartIn (Transmission export) core Client m
 unfolding MayStartIn
-client_starts export core bytes g = (refl, g)
+client_starts export core m asks g x = (asks, g, x)
 
-server_starts : (export : Exporting) (core : Core) (m : Message) → IsTrue (is_some (request_of_reply core m)) → MayStartIn (Transmission export) core Server m
+server_starts : (export : Exporting) (core : Core) (m : Message) → IsTrue (is_some (request_of_reply core m)) → is_extended m ≡ core.extended → MayStartIn (Transmission export) core Server m
 unfolding MayStartIn
-server_starts export core m h = h
+server_starts export core m h x = (h, x)
 
 sound_in_transmission : (old now : Core) (s : Side) (bytes : List ℕ) (m : Message) (export : Exporting) → Later s old now → IsReached now → AreBytes bytes → old.phase ≡ Transmission export → now.phase ≡ Transmission export →
     judge_in (Transmission export) old now s bytes ≡ Whole m → IsSoundAt old now s bytes m
@@ -90,7 +90,7 @@ sound_in_transmission old now Client bytes m export l r a t0 t1 e =
       encodes = q.fit.encodes;
       sided = q.fit.sided;
       sendable = q.fit.sendable;
-      starts = subst (λ p. MayStartIn p old Client m) (sym t0) (subst (MayStartIn (Transmission export) old Client) q.is (client_starts export old bytes (sym (Later-disconnected l) ∙ q.open_still)));
+      starts = subst (λ p. MayStartIn p old Client m) (sym t0) (client_starts export old m q.asks (sym (Later-disconnected l) ∙ q.open_still) (q.headed ∙ Later-extended l export t0));
       completes = subst (λ p. MayComplete now p m) (sym t1) q.fit.completes;
     }
 sound_in_transmission old now Server bytes m export l r a t0 t1 e =
@@ -99,7 +99,7 @@ sound_in_transmission old now Server bytes m export l r a t0 t1 e =
       encodes = q.fit.encodes;
       sided = q.fit.sided;
       sendable = q.fit.sendable;
-      starts = subst (λ p. MayStartIn p old Server m) (sym t0) (server_starts export old m q.starts);
+      starts = subst (λ p. MayStartIn p old Server m) (sym t0) (server_starts export old m q.starts (q.headed ∙ Later-extended l export t0));
       completes = subst (λ p. MayComplete now p m) (sym t1) q.fit.completes;
     }
 

@@ -1,24 +1,26 @@
 -- What the judge takes for a reply is one that the rules allow.
 use Rattle.std.proofs.Common.{◌≡◌, ℕ, ◌<◌, ◌≤◌, ◌+◌, ◌^◌, ◌==◌, List, length, drop, refl, sym, ◌∙◌, ap, subst, Option, Some, None, Bool, true, false, ◌&&◌, if◌then◌else◌, eqb-true, is_some, arith, length-drop, IsTrue, nat_le}
-use Rattle.std.proofs.lemmas.Bool.{leb-true}
+use Rattle.std.proofs.lemmas.Bool.{leb-true, ltb-false}
 use Rattle.nbd_wire.specs.declared.commands.TheConstants as commands
-use Rattle.nbd_wire.specs.declared.magics.TheConstants.{SIMPLE_MAGIC, CHUNK_MAGIC}
+use Rattle.nbd_wire.specs.declared.magics.TheConstants.{EXTENDED_CHUNK_MAGIC, SIMPLE_MAGIC, CHUNK_MAGIC}
+use Rattle.nbd_wire.specs.declared.limits.TheConstants.{LONGEST_PAYLOAD}
+use Rattle.nbd_wire.specs.declared.fault.WireFault.{WireFault}
 use Rattle.nbd_wire.specs.declared.message.Side.TheVariants.{Server}
 use Rattle.nbd_wire.specs.declared.message.Message.{Message}
 use Rattle.nbd_wire.specs.protocol.Encoding.{enc, head, tail, AreBytes}
 use Rattle.nbd_wire.proofs.NumberLemmas.{with_number, number_at-lt, AreBytes-drop}
 use Rattle.nbd_wire.specs.protocol.Payloads.{number_at}
-use Rattle.nbd_wire.specs.protocol.Decisions.{chunk_last_fault, begins, chunk_of, chunk_to, operation_if, operation_of, no_reply, reply, reply_by, simple_of, simple_to}
+use Rattle.nbd_wire.specs.protocol.Decisions.{extended_chunk_of, extended_chunk_to, extended_last_fault, extended_reply_by, reply_in, chunk_last_fault, begins, chunk_of, chunk_to, operation_if, operation_of, no_reply, reply, reply_by, simple_of, simple_to}
 use Rattle.nbd_wire.specs.protocol.Reading.{read_by, Whole}
-use Rattle.nbd_wire.specs.protocol.Transmission.{simple_length, chunk_head_fault, simple_fault, simple_last_fault}
+use Rattle.nbd_wire.specs.protocol.Transmission.{is_too_large, offset_fault, simple_length, chunk_head_fault, simple_fault, simple_last_fault}
 use Rattle.nbd_wire.specs.protocol.Rules.{MayReply}
 use Rattle.nbd_wire.specs.declared.profile.Profile.{Profile}
 use Rattle.nbd_wire.specs.protocol.Operations.{Operation, Exporting}
-use Rattle.nbd_wire.specs.protocol.Rules.{MayComplete, request_of_reply}
+use Rattle.nbd_wire.specs.protocol.Rules.{MayComplete, is_extended, request_of_reply}
 use Rattle.nbd_wire.specs.protocol.Sendable.{IsSendable}
 use Rattle.nbd_wire.specs.protocol.States.{Transmission, Core, target, operation}
-use Rattle.nbd_wire.specs.declared.fault.WireFault.TheVariants.{BadMagic, UnknownCookie}
-use Rattle.nbd_laws.proofs.judge.BoolLemmas.{and_true}
+use Rattle.nbd_wire.specs.declared.fault.WireFault.TheVariants.{BadMagic, BadReplyOffset, OutOfProfile, UnknownCookie}
+use Rattle.nbd_laws.proofs.judge.BoolLemmas.{and_true, fault_none, not_false}
 use Rattle.nbd_laws.proofs.reading.ReaderLemmas.{Later}
 use Rattle.nbd_laws.proofs.judge.PhaseLemmas.{IsAppended, Later-appended, target-append}
 use Rattle.nbd_laws.proofs.judge.SoundNegotiationLemmas.{IsFit, IsWhole, whole}
@@ -27,6 +29,7 @@ use Rattle.nbd_laws.proofs.judge.TidyLemmas.{IsTidy, AreTidy, tidy_entry}
 pub record IsReplying (old now : Core) (export : Exporting) (bytes : List ℕ) (m : Message) : Type 0 where
   pub fit : IsFit now (Transmission export) Server bytes m
   pub starts : IsTrue (is_some (request_of_reply old m))
+  pub headed : is_extended m ≡ now.extended
 
 -- the request that a cookie names
 pub record IsFound (old now : Core) (cookie : ℕ) (e : Operation) : Type 0 where
@@ -48,18 +51,18 @@ simple_is bytes a l m =
     with_number 0 4 bytes SIMPLE_MAGIC _ a (omega arith) m (with_number 4 4 bytes (number_at 4 4 bytes) _ a (omega (arith, length-drop 4 bytes)) refl
     (with_number 8 8 bytes (number_at 8 8 bytes) (drop 16 bytes) a (omega (arith, length-drop 8 bytes)) refl refl))
 
-simple-short : (e : Operation) (error : ℕ) → IsTidy e → simple_length e error < 2 ^ 32
-simple-short e error t = go ((e.command == commands.READ) && (error == 0)) t.short
+simple-short : {x : Bool} (e : Operation) (error : ℕ) → x ≡ false → IsTidy x e → simple_length e error < 2 ^ 32
+simple-short e error q t = go ((e.command == commands.READ) && (error == 0)) (t.short q)
   where
     go : (b : Bool) → e.length < 2 ^ 32 → (if b then e.length else 0) < 2 ^ 32
     go true h = h
     go false h = omega arith
 
-simple_sendable : (bytes : List ℕ) (e : Operation) → AreBytes bytes → length bytes ≡ 16 + simple_length e (number_at 4 4 bytes) → IsTidy e → IsSendable (simple_of bytes)
+simple_sendable : {x : Bool} (bytes : List ℕ) (e : Operation) → x ≡ false → AreBytes bytes → length bytes ≡ 16 + simple_length e (number_at 4 4 bytes) → IsTidy x e → IsSendable (simple_of bytes)
 unfolding IsSendable
-simple_sendable bytes e a l t =
+simple_sendable bytes e q a l t =
     let p : length (drop 16 bytes) ≡ simple_length e (number_at 4 4 bytes) = omega (arith, length-drop 16 bytes, l) in
-    let lt : simple_length e (number_at 4 4 bytes) < 2 ^ 32 = simple-short e (number_at 4 4 bytes) t in
+    let lt : simple_length e (number_at 4 4 bytes) < 2 ^ 32 = simple-short e (number_at 4 4 bytes) q t in
     (number_at-lt 4 4 bytes a, number_at-lt 8 8 bytes a, (omega (arith, p, lt), AreBytes-drop 16 bytes a))
 
 simple_may : (profile : Profile) (structured : Bool) (export : Exporting) (e : Operation) (bytes : List ℕ) → length bytes ≡ 16 + simple_length e (number_at 4 4 bytes) →
@@ -75,17 +78,18 @@ simple_complete : (old now : Core) (export : Exporting) (bytes : List ℕ) (e : 
 unfolding MayComplete
 simple_complete old now export bytes e f h = (f.k, e, f.still, f.is, h)
 
-simple_sound : (old now : Core) (export : Exporting) (bytes : List ℕ) (o : Option Operation) (m : Message) → operation_of old now (number_at 8 8 bytes) ≡ o → IsAppended old now → AreTidy now.entries → AreBytes bytes → number_at 0 4 bytes ≡ SIMPLE_MAGIC →
+simple_sound : (old now : Core) (export : Exporting) (bytes : List ℕ) (o : Option Operation) (m : Message) → operation_of old now (number_at 8 8 bytes) ≡ o → IsAppended old now → now.extended ≡ false → AreTidy now.extended now.entries → AreBytes bytes → number_at 0 4 bytes ≡ SIMPLE_MAGIC →
     read_by (simple_to export now o bytes) bytes ≡ Whole m → IsReplying old now export bytes m
-simple_sound old now export bytes None m is_o ap_ t a mg eq = absurd (let q : Some UnknownCookie ≡ None = (whole (simple_to export now None bytes) bytes m eq).at_head in (cc))
-simple_sound old now export bytes (Some e) m is_o ap_ t a mg eq =
+simple_sound old now export bytes None m is_o ap_ x t a mg eq = absurd (let q : Some UnknownCookie ≡ None = (whole (simple_to export now None bytes) bytes m eq).at_head in (cc))
+simple_sound old now export bytes (Some e) m is_o ap_ x t a mg eq =
     let w : IsWhole (simple_to export now (Some e) bytes) bytes m = whole (simple_to export now (Some e) bytes) bytes m eq in
     let long : length bytes ≡ 16 + simple_length e (number_at 4 4 bytes) = w.long in
     let is : IsFound old now (number_at 8 8 bytes) e = operation_is_found old now (number_at 8 8 bytes) e ap_ is_o in
     let may : MayReply now.profile now.structured export e (simple_of bytes) = simple_may now.profile now.structured export e bytes long w.at_head w.at_last in
     subst (IsReplying old now export bytes) w.is (record {
-      fit = record { encodes = simple_is bytes a (omega (arith, long)) mg; sided = refl; sendable = simple_sendable bytes e a long (tidy_entry is.k now.entries e t is.is); completes = simple_complete old now export bytes e is may };
+      fit = record { encodes = simple_is bytes a (omega (arith, long)) mg; sided = refl; sendable = simple_sendable bytes e x a long (tidy_entry is.k now.entries e t is.is); completes = simple_complete old now export bytes e is may };
       starts = reply_may old now (simple_of bytes) (number_at 8 8 bytes) e refl is;
+      headed = sym x;
     })
 
 chunk_is : (bytes : List ℕ) → AreBytes bytes → length bytes ≡ 20 + number_at 16 4 bytes → number_at 0 4 bytes ≡ CHUNK_MAGIC → bytes ≡ enc (chunk_of bytes)
@@ -111,26 +115,82 @@ chunk_complete : (old now : Core) (export : Exporting) (bytes : List ℕ) (e : O
 unfolding MayComplete
 chunk_complete old now export bytes e f h = (f.k, e, f.still, f.is, h)
 
-chunk_sound : (old now : Core) (export : Exporting) (bytes : List ℕ) (o : Option Operation) (m : Message) → operation_of old now (number_at 8 8 bytes) ≡ o → IsAppended old now → AreTidy now.entries → AreBytes bytes → number_at 0 4 bytes ≡ CHUNK_MAGIC →
+chunk_sound : (old now : Core) (export : Exporting) (bytes : List ℕ) (o : Option Operation) (m : Message) → operation_of old now (number_at 8 8 bytes) ≡ o → IsAppended old now → now.extended ≡ false → AreTidy now.extended now.entries → AreBytes bytes → number_at 0 4 bytes ≡ CHUNK_MAGIC →
     read_by (chunk_to export now o bytes) bytes ≡ Whole m → IsReplying old now export bytes m
-chunk_sound old now export bytes None m is_o ap_ t a mg eq = absurd (let q : Some UnknownCookie ≡ None = (whole (chunk_to export now None bytes) bytes m eq).at_head in (cc))
-chunk_sound old now export bytes (Some e) m is_o ap_ t a mg eq =
+chunk_sound old now export bytes None m is_o ap_ x t a mg eq = absurd (let q : Some UnknownCookie ≡ None = (whole (chunk_to export now None bytes) bytes m eq).at_head in (cc))
+chunk_sound old now export bytes (Some e) m is_o ap_ x t a mg eq =
     let w : IsWhole (chunk_to export now (Some e) bytes) bytes m = whole (chunk_to export now (Some e) bytes) bytes m eq in
     let is : IsFound old now (number_at 8 8 bytes) e = operation_is_found old now (number_at 8 8 bytes) e ap_ is_o in
     let may : MayReply now.profile now.structured export e (chunk_of bytes) = chunk_may now.profile now.structured export e bytes w.at_head w.at_last in
     subst (IsReplying old now export bytes) w.is (record {
       fit = record { encodes = chunk_is bytes a w.long mg; sided = refl; sendable = chunk_sendable bytes a w.long; completes = chunk_complete old now export bytes e is may };
       starts = reply_may old now (chunk_of bytes) (number_at 8 8 bytes) e refl is;
+      headed = sym x;
     })
 
 pub magic_of : (magic : ℕ) (bytes : List ℕ) → begins magic bytes ≡ true → (4 ≤ length bytes) × (number_at 0 4 bytes ≡ magic)
 magic_of magic bytes h = let b : (nat_le 4 (length bytes) ≡ true) × ((number_at 0 4 bytes == magic) ≡ true) = and_true _ _ h in (leb-true 4 (length bytes) b.0, eqb-true _ _ b.1)
 
-pub reply_sound : (old now : Core) (export : Exporting) (bytes : List ℕ) (m : Message) → Later Server old now → old.phase ≡ Transmission export → AreTidy now.entries → AreBytes bytes →
+extended_chunk_is : (bytes : List ℕ) → AreBytes bytes → length bytes ≡ 32 + number_at 24 8 bytes → number_at 0 4 bytes ≡ EXTENDED_CHUNK_MAGIC → bytes ≡ enc (extended_chunk_of bytes)
+unfolding enc head tail
+extended_chunk_is bytes a l m =
+    let n : number_at 24 8 bytes ≡ length (drop 32 bytes) = omega (arith, length-drop 32 bytes, l) in
+    with_number 0 4 bytes EXTENDED_CHUNK_MAGIC _ a (omega (arith, l)) m (with_number 4 2 bytes (number_at 4 2 bytes) _ a (omega (arith, l, length-drop 4 bytes)) refl
+    (with_number 6 2 bytes (number_at 6 2 bytes) _ a (omega (arith, l, length-drop 6 bytes)) refl
+    (with_number 8 8 bytes (number_at 8 8 bytes) _ a (omega (arith, l, length-drop 8 bytes)) refl
+    (with_number 16 8 bytes (number_at 16 8 bytes) _ a (omega (arith, l, length-drop 16 bytes)) refl
+    (with_number 24 8 bytes (length (drop 32 bytes)) (drop 32 bytes) a (omega (arith, l, length-drop 24 bytes)) n refl)))))
+
+extended_chunk_sendable : (bytes : List ℕ) → AreBytes bytes → length bytes ≡ 32 + number_at 24 8 bytes → is_too_large (number_at 24 8 bytes) ≡ false → IsSendable (extended_chunk_of bytes)
+unfolding IsSendable
+extended_chunk_sendable bytes a l small =
+    let lt : number_at 24 8 bytes ≤ LONGEST_PAYLOAD = ltb-false LONGEST_PAYLOAD (number_at 24 8 bytes) small in
+    (number_at-lt 4 2 bytes a, number_at-lt 6 2 bytes a, number_at-lt 8 8 bytes a, number_at-lt 16 8 bytes a, (omega (arith, length-drop 32 bytes, l, lt), AreBytes-drop 32 bytes a))
+
+-- what the last byte of such a chunk is refused for
+no_offset_fault : (earlier : Option WireFault) (e : Operation) (offset : ℕ) → offset_fault earlier e offset ≡ None → (earlier ≡ None) × (offset ≡ e.offset)
+no_offset_fault (Some f) e offset h = absurd (cc)
+no_offset_fault None e offset h = (refl, eqb-true offset e.offset (not_false _ (fault_none _ BadReplyOffset None h).0))
+
+extended_may : (profile : Profile) (structured : Bool) (export : Exporting) (e : Operation) (bytes : List ℕ) → chunk_head_fault structured (Some e) ≡ None → extended_last_fault profile export (Some e) bytes ≡ None → MayReply profile structured export e (extended_chunk_of bytes)
+unfolding MayReply
+extended_may profile structured export e bytes f g = (let h = no_offset_fault _ e (number_at 16 8 bytes) g in (f, h.0, h.1))
+
+extended_complete : (old now : Core) (export : Exporting) (bytes : List ℕ) (e : Operation) → IsFound old now (number_at 8 8 bytes) e → MayReply now.profile now.structured export e (extended_chunk_of bytes) → MayComplete now (Transmission export) (extended_chunk_of bytes)
+unfolding MayComplete
+extended_complete old now export bytes e f h = (f.k, e, f.still, f.is, h)
+
+extended_sound : (old now : Core) (export : Exporting) (bytes : List ℕ) (o : Option Operation) (m : Message) → operation_of old now (number_at 8 8 bytes) ≡ o → IsAppended old now → now.extended ≡ true → AreBytes bytes → number_at 0 4 bytes ≡ EXTENDED_CHUNK_MAGIC →
+    read_by (extended_chunk_to export now o bytes) bytes ≡ Whole m → IsReplying old now export bytes m
+extended_sound old now export bytes None m is_o ap_ x a mg eq =
+    absurd (let q : Some UnknownCookie ≡ None = (fault_none (is_too_large (number_at 24 8 bytes)) OutOfProfile (Some UnknownCookie) (whole (extended_chunk_to export now None bytes) bytes m eq).at_head).1 in (cc))
+extended_sound old now export bytes (Some e) m is_o ap_ x a mg eq =
+    let w : IsWhole (extended_chunk_to export now (Some e) bytes) bytes m = whole (extended_chunk_to export now (Some e) bytes) bytes m eq in
+    let clean = fault_none (is_too_large (number_at 24 8 bytes)) OutOfProfile _ w.at_head in
+    let is : IsFound old now (number_at 8 8 bytes) e = operation_is_found old now (number_at 8 8 bytes) e ap_ is_o in
+    let may : MayReply now.profile now.structured export e (extended_chunk_of bytes) = extended_may now.profile now.structured export e bytes clean.1 w.at_last in
+    subst (IsReplying old now export bytes) w.is (record {
+      fit = record { encodes = extended_chunk_is bytes a w.long mg; sided = refl; sendable = extended_chunk_sendable bytes a w.long clean.0; completes = extended_complete old now export bytes e is may };
+      starts = reply_may old now (extended_chunk_of bytes) (number_at 8 8 bytes) e refl is;
+      headed = sym x;
+    })
+
+pub reply_sound : (old now : Core) (export : Exporting) (bytes : List ℕ) (m : Message) → Later Server old now → old.phase ≡ Transmission export → AreTidy now.extended now.entries → AreBytes bytes →
     read_by (reply export old now bytes) bytes ≡ Whole m → IsReplying old now export bytes m
-reply_sound old now export bytes m l t0 t a e = go (begins CHUNK_MAGIC bytes) (begins SIMPLE_MAGIC bytes) refl refl e
+reply_sound old now export bytes m l t0 t a e = by now.extended refl e
   where
-    go : (chunk simple : Bool) → begins CHUNK_MAGIC bytes ≡ chunk → begins SIMPLE_MAGIC bytes ≡ simple → read_by (reply_by chunk simple export now (operation_of old now (number_at 8 8 bytes)) bytes) bytes ≡ Whole m → IsReplying old now export bytes m
-    go true simple c s e = chunk_sound old now export bytes (operation_of old now (number_at 8 8 bytes)) m refl (Later-appended l export t0) t a (magic_of _ bytes c).1 e
-    go false true c s e = simple_sound old now export bytes (operation_of old now (number_at 8 8 bytes)) m refl (Later-appended l export t0) t a (magic_of _ bytes s).1 e
-    go false false c s e = absurd (let q : Some BadMagic ≡ None = (whole (no_reply bytes) bytes m e).at_head in (cc))
+    to : Option Operation
+    to = operation_of old now (number_at 8 8 bytes)
+
+    go : now.extended ≡ false → (chunk simple : Bool) → begins CHUNK_MAGIC bytes ≡ chunk → begins SIMPLE_MAGIC bytes ≡ simple → read_by (reply_by chunk simple export now to bytes) bytes ≡ Whole m → IsReplying old now export bytes m
+    go x true simple c s e = chunk_sound old now export bytes to m refl (Later-appended l export t0) x t a (magic_of _ bytes c).1 e
+    go x false true c s e = simple_sound old now export bytes to m refl (Later-appended l export t0) x t a (magic_of _ bytes s).1 e
+    go x false false c s e = absurd (let q : Some BadMagic ≡ None = (whole (no_reply bytes) bytes m e).at_head in (cc))
+
+    wide : now.extended ≡ true → (chunk : Bool) → begins EXTENDED_CHUNK_MAGIC bytes ≡ chunk → read_by (extended_reply_by chunk export now to bytes) bytes ≡ Whole m → IsReplying old now export bytes m
+    wide x true c e = extended_sound old now export bytes to m refl (Later-appended l export t0) x a (magic_of _ bytes c).1 e
+    wide x false c e = absurd (let q : Some BadMagic ≡ None = (whole (no_reply bytes) bytes m e).at_head in (cc))
+
+    by : (x : Bool) → now.extended ≡ x → read_by (reply_in x export now to bytes) bytes ≡ Whole m → IsReplying old now export bytes m
+    by false x e = go x (begins CHUNK_MAGIC bytes) (begins SIMPLE_MAGIC bytes) refl refl e
+    by true x e = wide x (begins EXTENDED_CHUNK_MAGIC bytes) refl e

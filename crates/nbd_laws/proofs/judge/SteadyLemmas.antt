@@ -3,7 +3,7 @@
 use Rattle.std.proofs.Common.{not, ◌≡◌, ℕ, zero, suc, ◌+◌, ◌<◌, ◌≤◌, ◌==◌, List, [], ◌∷◌, ◌++◌, length, refl, sym, ◌∙◌, ap, subst, Option, Some, None, Bool, true, false, ◌&&◌, eq-eqb, nat_le, arith, length-append}
 use Rattle.std.proofs.lemmas.Bool.{le-leb, lt-leb}
 use Rattle.nbd_wire.specs.declared.handshake.TheConstants as handshake
-use Rattle.nbd_wire.specs.declared.magics.TheConstants.{SIMPLE_MAGIC, CHUNK_MAGIC}
+use Rattle.nbd_wire.specs.declared.magics.TheConstants.{SIMPLE_MAGIC, CHUNK_MAGIC, EXTENDED_CHUNK_MAGIC, EXTENDED_REQUEST_MAGIC}
 use Rattle.nbd_wire.specs.declared.message.Side.{Side}
 use Rattle.nbd_wire.specs.declared.message.Side.TheVariants.{Client, Server}
 use Rattle.nbd_wire.proofs.FieldLemmas.{number_at-append}
@@ -11,19 +11,19 @@ use Rattle.nbd_wire.specs.protocol.Options.{is_proper_option, turn, takes_contex
 use Rattle.nbd_wire.specs.protocol.Payloads.{number_at}
 use Rattle.nbd_wire.specs.protocol.Operations.{Operation, Exporting}
 use Rattle.nbd_wire.specs.protocol.Flags.{has}
-use Rattle.nbd_wire.specs.protocol.States.{Phase, Greet, Flags, Choosing, Naming, Aborting, Answering, Transmission, Core, operation, target}
-use Rattle.nbd_wire.specs.declared.fault.WireFault.TheVariants.{BadMagic, UnknownCookie}
-use Rattle.nbd_wire.specs.protocol.Decisions.{Decision, abort_answer, answer, choice, client_flags, export_answer, greeting, begins, chunk_to, operation_if, operation_of, no_reply, reply, reply_by, request, simple_to}
+use Rattle.nbd_wire.specs.protocol.States.{Phase, Greet, Flags, Choosing, Naming, Aborting, Answering, Transmission, Core, has_contexts, operation, target}
+use Rattle.nbd_wire.specs.declared.fault.WireFault.TheVariants.{BadMagic, OutOfProfile, UnknownCookie}
+use Rattle.nbd_wire.specs.protocol.Decisions.{Decision, abort_answer, answer, choice, client_flags, export_answer, greeting, begins, chunk_to, operation_if, operation_of, no_reply, reply_by, reply_in, extended_reply_by, extended_chunk_to, short_request, extended_request_with, request_by, simple_to}
 use Rattle.nbd_wire.specs.protocol.Negotiation.{answer_head_fault, abort_fault, answer_fault, client_flags_fault, export_fault, greeting_fault}
 use Rattle.nbd_wire.specs.protocol.Reading.{decision, request_unless}
 use Rattle.nbd_wire.specs.protocol.Tests.{fault_if}
-use Rattle.nbd_wire.specs.protocol.Transmission.{request_fault, request_payload_length, simple_payload_length, simple_fault, chunk_head_fault}
+use Rattle.nbd_wire.specs.protocol.Transmission.{request_fault, request_payload_length, simple_payload_length, simple_fault, chunk_head_fault, extended_head_fault, extended_payload_length, extended_request_fault, is_too_large}
 use Rattle.nbd_wire.specs.declared.magics.TheConstants.{GREETING_MAGIC, OPTION_MAGIC, ANSWER_MAGIC, REQUEST_MAGIC}
 use Rattle.nbd_wire.specs.declared.fault.WireFault.TheVariants.{BadMagic}
 use Rattle.nbd_laws.proofs.reading.ReaderLemmas.{Later}
 use Rattle.nbd_laws.proofs.judge.SoundServerLemmas.{magic_of}
-use Rattle.nbd_laws.proofs.judge.PhaseLemmas.{IsAppended, Later-appended, Later-disconnected, Later-transmission, Later-turn, target_entry}
-use Rattle.nbd_wire.specs.protocol.Contexts.{Selection}
+use Rattle.nbd_laws.proofs.judge.PhaseLemmas.{IsAppended, Later-appended, Later-extended, Later-in_force, Later-disconnected, Later-transmission, Later-turn, target_entry}
+use Rattle.nbd_wire.specs.protocol.Contexts.{Context, Selection}
 use Rattle.nbd_wire.specs.declared.profile.Profile.{Profile}
 
 -- the same of a message's head and length
@@ -149,20 +149,39 @@ answer_fixed profile option proper takes info selection = record {
   };
 }
 
-request_same : (c d : Core) (bytes more : List ℕ) → 28 ≤ length bytes → IsSameHead (request c bytes) (request d (bytes ++ more))
+request_same : (c d : Core) (bytes more : List ℕ) → 28 ≤ length bytes → IsSameHead (short_request c bytes) (short_request d (bytes ++ more))
 request_same c d bytes more l = record {
   head_length_is = refl;
   head_fault_is = λ i. fault_if (not (at 0 4 28 bytes more l (omega arith) i == REQUEST_MAGIC)) BadMagic (request_fault (at 6 2 28 bytes more l (omega arith) i) (at 16 8 28 bytes more l (omega arith) i) (at 24 4 28 bytes more l (omega arith) i));
   payload_length_is = λ i. request_payload_length (at 6 2 28 bytes more l (omega arith) i) (at 24 4 28 bytes more l (omega arith) i);
 }
 
-in_requests : (old : Core) (export : Exporting) → old.phase ≡ Transmission export → old.disconnected ≡ false → IsDeciding Client old
-in_requests old export t d = record {
-  F = request;
-  decides = λ now l bytes. (
-      ap (λ p. decision p old now Client bytes) (Later-transmission l export t)
-      ∙ ap (λ b. request_unless b now bytes) (Later-disconnected l ∙ d));
-  steady = λ now l. fixed_steady Client now 28 (request) (omega arith) (λ c bytes. refl) request_same;
+extended_same : (x : Bool) (c d : Core) (bytes more : List ℕ) → 32 ≤ length bytes → IsSameHead (extended_request_with x c bytes) (extended_request_with x d (bytes ++ more))
+extended_same x c d bytes more l = record {
+  head_length_is = refl;
+  head_fault_is = λ i. fault_if (not (at 0 4 32 bytes more l (omega arith) i == EXTENDED_REQUEST_MAGIC)) BadMagic
+      (extended_request_fault x (at 4 2 32 bytes more l (omega arith) i) (at 6 2 32 bytes more l (omega arith) i) (at 16 8 32 bytes more l (omega arith) i) (at 24 8 32 bytes more l (omega arith) i));
+  payload_length_is = λ i. extended_payload_length (at 4 2 32 bytes more l (omega arith) i) (at 6 2 32 bytes more l (omega arith) i) (at 24 8 32 bytes more l (omega arith) i);
+}
+
+-- where no DISC has come, by whether extended headers are in force
+requests_are : {old now : Core} (export : Exporting) → Later Client old now → old.phase ≡ Transmission export → old.disconnected ≡ false → (bytes : List ℕ) → decision now.phase old now Client bytes ≡ Some (request_by old.extended now bytes)
+requests_are {old} {now} export l t d bytes =
+    ap (λ p. decision p old now Client bytes) (Later-transmission l export t)
+    ∙ ap (λ b. request_unless b now bytes) (Later-disconnected l ∙ d)
+    ∙ ap (λ x. Some (request_by x now bytes)) (Later-extended l export t)
+
+in_requests : (old : Core) (export : Exporting) (x : Bool) → old.phase ≡ Transmission export → old.disconnected ≡ false → old.extended ≡ x → IsDeciding Client old
+in_requests old export false t d is = record {
+  F = short_request;
+  decides = λ now l bytes. requests_are export l t d bytes ∙ ap (λ x. Some (request_by x now bytes)) is;
+  steady = λ now l. fixed_steady Client now 28 short_request (omega arith) (λ c bytes. refl) request_same;
+}
+in_requests old export true t d is = record {
+  F = extended_request_with (has_contexts old);
+  decides = λ now l bytes. requests_are export l t d bytes ∙ ap (λ x. Some (request_by x now bytes)) is
+      ∙ ap (λ (cs : List Context). Some (extended_request_with (not (length cs == 0)) now bytes)) (Later-in_force l export t);
+  steady = λ now l. fixed_steady Client now 32 (extended_request_with (has_contexts old)) (omega arith) (λ c bytes. refl) (extended_same (has_contexts old));
 }
 
 pub entry-append : (k : ℕ) (es more : List Operation) (e : Operation) → operation k es ≡ Some e → operation k (es ++ more) ≡ Some e
@@ -204,14 +223,18 @@ bytes_are_begun bytes = go (begins CHUNK_MAGIC bytes) (begins SIMPLE_MAGIC bytes
     go false true c_is s_is = as_simple c_is s_is
     go false false c_is s_is = as_neither c_is s_is
 
+-- a reply without an extended header, by what had completed before its first byte
+abbrev pub short_reply : Exporting → (old now : Core) → List ℕ → Decision
+short_reply export old now bytes = reply_in false export now (operation_of old now (number_at 8 8 bytes)) bytes
+
 module _ (export : Exporting) (old now : Core) (bytes : List ℕ) where
-  pub is_chunk_reply : begins CHUNK_MAGIC bytes ≡ true → reply export old now bytes ≡ chunk_to export now (operation_of old now (number_at 8 8 bytes)) bytes
+  pub is_chunk_reply : begins CHUNK_MAGIC bytes ≡ true → short_reply export old now bytes ≡ chunk_to export now (operation_of old now (number_at 8 8 bytes)) bytes
   is_chunk_reply c = ap (λ b. reply_by b (begins SIMPLE_MAGIC bytes) export now (operation_of old now (number_at 8 8 bytes)) bytes) c
 
-  pub is_simple_reply : begins CHUNK_MAGIC bytes ≡ false → begins SIMPLE_MAGIC bytes ≡ true → reply export old now bytes ≡ simple_to export now (operation_of old now (number_at 8 8 bytes)) bytes
+  pub is_simple_reply : begins CHUNK_MAGIC bytes ≡ false → begins SIMPLE_MAGIC bytes ≡ true → short_reply export old now bytes ≡ simple_to export now (operation_of old now (number_at 8 8 bytes)) bytes
   is_simple_reply c s = λ i. reply_by (c i) (s i) export now (operation_of old now (number_at 8 8 bytes)) bytes
 
-  pub is_no_reply : begins CHUNK_MAGIC bytes ≡ false → begins SIMPLE_MAGIC bytes ≡ false → reply export old now bytes ≡ no_reply bytes
+  pub is_no_reply : begins CHUNK_MAGIC bytes ≡ false → begins SIMPLE_MAGIC bytes ≡ false → short_reply export old now bytes ≡ no_reply bytes
   is_no_reply c s = λ i. reply_by (c i) (s i) export now (operation_of old now (number_at 8 8 bytes)) bytes
 
 abbrev length_of : Decision → ℕ
@@ -223,29 +246,29 @@ reply_two false true export now o bytes = omega arith
 reply_two false false export now o bytes = omega arith
 
 module _ (export : Exporting) (old now next : Core) (bytes more : List ℕ) where
-  reply_below : IsBegun bytes → length (bytes ++ more) < (reply export old now bytes).head_length → (reply export old next (bytes ++ more)).head_length ≡ (reply export old now bytes).head_length
+  reply_below : IsBegun bytes → length (bytes ++ more) < (short_reply export old now bytes).head_length → (short_reply export old next (bytes ++ more)).head_length ≡ (short_reply export old now bytes).head_length
   reply_below (as_chunk c) l = ap length_of (is_chunk_reply export old next (bytes ++ more) (begun_true CHUNK_MAGIC bytes more c)) ∙ sym (ap length_of (is_chunk_reply export old now bytes c))
   reply_below (as_simple c s) l =
       let s' : begins SIMPLE_MAGIC (bytes ++ more) ≡ true = begun_true SIMPLE_MAGIC bytes more s in
       ap length_of (is_simple_reply export old next (bytes ++ more) (no_chunk (bytes ++ more) s') s') ∙ sym (ap length_of (is_simple_reply export old now bytes c s))
   reply_below (as_neither c s) l =
-      let e : (reply export old now bytes).head_length ≡ 4 = ap length_of (is_no_reply export old now bytes c s) in
+      let e : (short_reply export old now bytes).head_length ≡ 4 = ap length_of (is_no_reply export old now bytes c s) in
       let low : length (bytes ++ more) < 4 = omega (arith, l, e) in
       ap length_of (is_no_reply export old next (bytes ++ more) (too_short CHUNK_MAGIC (bytes ++ more) low) (too_short SIMPLE_MAGIC (bytes ++ more) low)) ∙ sym e
 
-  reply_grows : IsBegun bytes → (reply export old now bytes).head_length ≤ (reply export old next (bytes ++ more)).head_length
+  reply_grows : IsBegun bytes → (short_reply export old now bytes).head_length ≤ (short_reply export old next (bytes ++ more)).head_length
   reply_grows (as_chunk c) =
-      let a : (reply export old now bytes).head_length ≡ 20 = ap length_of (is_chunk_reply export old now bytes c) in
-      let b : (reply export old next (bytes ++ more)).head_length ≡ 20 = ap length_of (is_chunk_reply export old next (bytes ++ more) (begun_true CHUNK_MAGIC bytes more c)) in
+      let a : (short_reply export old now bytes).head_length ≡ 20 = ap length_of (is_chunk_reply export old now bytes c) in
+      let b : (short_reply export old next (bytes ++ more)).head_length ≡ 20 = ap length_of (is_chunk_reply export old next (bytes ++ more) (begun_true CHUNK_MAGIC bytes more c)) in
       omega (arith, a, b)
   reply_grows (as_simple c s) =
       let s' : begins SIMPLE_MAGIC (bytes ++ more) ≡ true = begun_true SIMPLE_MAGIC bytes more s in
-      let a : (reply export old now bytes).head_length ≡ 16 = ap length_of (is_simple_reply export old now bytes c s) in
-      let b : (reply export old next (bytes ++ more)).head_length ≡ 16 = ap length_of (is_simple_reply export old next (bytes ++ more) (no_chunk (bytes ++ more) s') s') in
+      let a : (short_reply export old now bytes).head_length ≡ 16 = ap length_of (is_simple_reply export old now bytes c s) in
+      let b : (short_reply export old next (bytes ++ more)).head_length ≡ 16 = ap length_of (is_simple_reply export old next (bytes ++ more) (no_chunk (bytes ++ more) s') s') in
       omega (arith, a, b)
   reply_grows (as_neither c s) =
-      let a : (reply export old now bytes).head_length ≡ 4 = ap length_of (is_no_reply export old now bytes c s) in
-      let b : 4 ≤ (reply export old next (bytes ++ more)).head_length = reply_two (begins CHUNK_MAGIC (bytes ++ more)) (begins SIMPLE_MAGIC (bytes ++ more)) export next (operation_of old next (number_at 8 8 (bytes ++ more))) (bytes ++ more) in
+      let a : (short_reply export old now bytes).head_length ≡ 4 = ap length_of (is_no_reply export old now bytes c s) in
+      let b : 4 ≤ (short_reply export old next (bytes ++ more)).head_length = reply_two (begins CHUNK_MAGIC (bytes ++ more)) (begins SIMPLE_MAGIC (bytes ++ more)) export next (operation_of old next (number_at 8 8 (bytes ++ more))) (bytes ++ more) in
       omega (arith, a, b)
 
   -- the request that is answered stays as it is
@@ -272,18 +295,18 @@ module _ (export : Exporting) (old now next : Core) (bytes more : List ℕ) wher
     payload_length_is = λ i. simple_payload_length (same e refl i) (at 4 4 16 bytes more l (omega arith) i);
   }
 
-  reply_beyond : IsAppended now next → IsBegun bytes → (reply export old now bytes).head_length ≤ length bytes → (reply export old now bytes).head_fault ≡ None → IsSameHead (reply export old now bytes) (reply export old next (bytes ++ more))
+  reply_beyond : IsAppended now next → IsBegun bytes → (short_reply export old now bytes).head_length ≤ length bytes → (short_reply export old now bytes).head_fault ≡ None → IsSameHead (short_reply export old now bytes) (short_reply export old next (bytes ++ more))
   reply_beyond a (as_chunk c) l clean =
-      let now_is : reply export old now bytes ≡ chunk_to export now (operation_of old now (number_at 8 8 bytes)) bytes = is_chunk_reply export old now bytes c in
+      let now_is : short_reply export old now bytes ≡ chunk_to export now (operation_of old now (number_at 8 8 bytes)) bytes = is_chunk_reply export old now bytes c in
       let long : 20 ≤ length bytes = subst (λ (d : Decision). d.head_length ≤ length bytes) now_is l in
-      subst (λ d. IsSameHead d (reply export old next (bytes ++ more))) (sym now_is)
+      subst (λ d. IsSameHead d (short_reply export old next (bytes ++ more))) (sym now_is)
       (subst (IsSameHead (chunk_to export now (operation_of old now (number_at 8 8 bytes)) bytes)) (sym (is_chunk_reply export old next (bytes ++ more) (begun_true CHUNK_MAGIC bytes more c)))
       (chunk_beyond (operation_of old now (number_at 8 8 bytes)) (operation_of old next (number_at 8 8 (bytes ++ more))) (same_entry a (omega (arith, long))) a.structured_is long (subst (λ (d : Decision). d.head_fault ≡ None) now_is clean)))
   reply_beyond a (as_simple c s) l clean =
       let s' : begins SIMPLE_MAGIC (bytes ++ more) ≡ true = begun_true SIMPLE_MAGIC bytes more s in
-      let now_is : reply export old now bytes ≡ simple_to export now (operation_of old now (number_at 8 8 bytes)) bytes = is_simple_reply export old now bytes c s in
+      let now_is : short_reply export old now bytes ≡ simple_to export now (operation_of old now (number_at 8 8 bytes)) bytes = is_simple_reply export old now bytes c s in
       let long : 16 ≤ length bytes = subst (λ (d : Decision). d.head_length ≤ length bytes) now_is l in
-      subst (λ d. IsSameHead d (reply export old next (bytes ++ more))) (sym now_is)
+      subst (λ d. IsSameHead d (short_reply export old next (bytes ++ more))) (sym now_is)
       (subst (IsSameHead (simple_to export now (operation_of old now (number_at 8 8 bytes)) bytes)) (sym (is_simple_reply export old next (bytes ++ more) (no_chunk (bytes ++ more) s') s'))
       (simple_beyond (operation_of old now (number_at 8 8 bytes)) (operation_of old next (number_at 8 8 (bytes ++ more))) (same_entry a long) a.structured_is long (subst (λ (d : Decision). d.head_fault ≡ None) now_is clean)))
   reply_beyond a (as_neither c s) l clean =
@@ -326,43 +349,147 @@ module _ (export : Exporting) (old now next : Core) (bytes more : List ℕ) wher
   still_none : IsAppended old now → 16 ≤ length bytes → operation_of old now cookie_now ≡ None → operation_of old next cookie_next ≡ None
   still_none a long h = ap (operation_of old next) (at 8 8 16 bytes more long (omega arith)) ∙ none_stays old now next cookie_now a h
 
-  reply_back : IsAppended old now → IsAppended now next → IsBegun bytes → (reply export old now bytes).head_length ≤ length bytes → (reply export old next (bytes ++ more)).head_fault ≡ None → (reply export old now bytes).head_fault ≡ None
+  reply_back : IsAppended old now → IsAppended now next → IsBegun bytes → (short_reply export old now bytes).head_length ≤ length bytes → (short_reply export old next (bytes ++ more)).head_fault ≡ None → (short_reply export old now bytes).head_fault ≡ None
   reply_back a b (as_chunk c) l clean =
-      let now_is : reply export old now bytes ≡ chunk_to export now (operation_of old now cookie_now) bytes = is_chunk_reply export old now bytes c in
-      let next_is : reply export old next (bytes ++ more) ≡ chunk_to export next (operation_of old next cookie_next) (bytes ++ more) = is_chunk_reply export old next (bytes ++ more) (begun_true CHUNK_MAGIC bytes more c) in
+      let now_is : short_reply export old now bytes ≡ chunk_to export now (operation_of old now cookie_now) bytes = is_chunk_reply export old now bytes c in
+      let next_is : short_reply export old next (bytes ++ more) ≡ chunk_to export next (operation_of old next cookie_next) (bytes ++ more) = is_chunk_reply export old next (bytes ++ more) (begun_true CHUNK_MAGIC bytes more c) in
       let long : 20 ≤ length bytes = subst (λ (d : Decision). d.head_length ≤ length bytes) now_is l in
       let short : 16 ≤ length bytes = omega (arith, long) in
       ap (λ (d : Decision). d.head_fault) now_is
       ∙ chunk_back (operation_of old now cookie_now) (operation_of old next cookie_next) (same_entry export old now next bytes more b short) (still_none a short) b.structured_is (sym (ap (λ (d : Decision). d.head_fault) next_is) ∙ clean)
   reply_back a b (as_simple c s) l clean =
       let s' : begins SIMPLE_MAGIC (bytes ++ more) ≡ true = begun_true SIMPLE_MAGIC bytes more s in
-      let now_is : reply export old now bytes ≡ simple_to export now (operation_of old now cookie_now) bytes = is_simple_reply export old now bytes c s in
-      let next_is : reply export old next (bytes ++ more) ≡ simple_to export next (operation_of old next cookie_next) (bytes ++ more) = is_simple_reply export old next (bytes ++ more) (no_chunk (bytes ++ more) s') s' in
+      let now_is : short_reply export old now bytes ≡ simple_to export now (operation_of old now cookie_now) bytes = is_simple_reply export old now bytes c s in
+      let next_is : short_reply export old next (bytes ++ more) ≡ simple_to export next (operation_of old next cookie_next) (bytes ++ more) = is_simple_reply export old next (bytes ++ more) (no_chunk (bytes ++ more) s') s' in
       let long : 16 ≤ length bytes = subst (λ (d : Decision). d.head_length ≤ length bytes) now_is l in
       ap (λ (d : Decision). d.head_fault) now_is
       ∙ simple_back (operation_of old now cookie_now) (operation_of old next cookie_next) (same_entry export old now next bytes more b long) (still_none a long) b.structured_is long (sym (ap (λ (d : Decision). d.head_fault) next_is) ∙ clean)
   reply_back a b (as_neither c s) l clean =
-      let now_is : reply export old now bytes ≡ no_reply bytes = is_no_reply export old now bytes c s in
+      let now_is : short_reply export old now bytes ≡ no_reply bytes = is_no_reply export old now bytes c s in
       let long : 4 ≤ length bytes = subst (λ (d : Decision). d.head_length ≤ length bytes) now_is l in
-      let next_is : reply export old next (bytes ++ more) ≡ no_reply (bytes ++ more) = is_no_reply export old next (bytes ++ more) (neither_stays CHUNK_MAGIC bytes more long c) (neither_stays SIMPLE_MAGIC bytes more long s) in
+      let next_is : short_reply export old next (bytes ++ more) ≡ no_reply (bytes ++ more) = is_no_reply export old next (bytes ++ more) (neither_stays CHUNK_MAGIC bytes more long c) (neither_stays SIMPLE_MAGIC bytes more long s) in
       absurd (let q : Some BadMagic ≡ None = sym (ap (λ (d : Decision). d.head_fault) next_is) ∙ clean in (cc))
 
-in_replies : (old : Core) (export : Exporting) → old.phase ≡ Transmission export → IsDeciding Server old
-in_replies old export t = record {
-  F = reply export old;
-  decides = λ now l bytes. ap (λ p. decision p old now Server bytes) (Later-transmission l export t);
+-- a reply where extended headers are in force
+abbrev pub long_reply : Exporting → (old now : Core) → List ℕ → Decision
+long_reply export old now bytes = reply_in true export now (operation_of old now (number_at 8 8 bytes)) bytes
+
+-- whether a reply's bytes begin as such a chunk
+pub data IsExtendedOrNot (bytes : List ℕ) : Type 0 where
+  as_extended : begins EXTENDED_CHUNK_MAGIC bytes ≡ true → IsExtendedOrNot bytes
+  as_other : begins EXTENDED_CHUNK_MAGIC bytes ≡ false → IsExtendedOrNot bytes
+
+pub extended_or_not : (bytes : List ℕ) → IsExtendedOrNot bytes
+extended_or_not bytes = go (begins EXTENDED_CHUNK_MAGIC bytes) refl
+  where
+    go : (c : Bool) → begins EXTENDED_CHUNK_MAGIC bytes ≡ c → IsExtendedOrNot bytes
+    go true c = as_extended c
+    go false c = as_other c
+
+module _ (export : Exporting) (old now : Core) (bytes : List ℕ) where
+  pub is_extended_reply : begins EXTENDED_CHUNK_MAGIC bytes ≡ true → long_reply export old now bytes ≡ extended_chunk_to export now (operation_of old now (number_at 8 8 bytes)) bytes
+  is_extended_reply c = ap (λ b. extended_reply_by b export now (operation_of old now (number_at 8 8 bytes)) bytes) c
+
+  pub is_no_extended : begins EXTENDED_CHUNK_MAGIC bytes ≡ false → long_reply export old now bytes ≡ no_reply bytes
+  is_no_extended c = ap (λ b. extended_reply_by b export now (operation_of old now (number_at 8 8 bytes)) bytes) c
+
+long_two : (chunk : Bool) (export : Exporting) (now : Core) (o : Option Operation) (bytes : List ℕ) → 4 ≤ (extended_reply_by chunk export now o bytes).head_length
+long_two true export now o bytes = omega arith
+long_two false export now o bytes = omega arith
+
+module _ (export : Exporting) (old now next : Core) (bytes more : List ℕ) where
+  long_below : IsExtendedOrNot bytes → length (bytes ++ more) < (long_reply export old now bytes).head_length → (long_reply export old next (bytes ++ more)).head_length ≡ (long_reply export old now bytes).head_length
+  long_below (as_extended c) l = ap length_of (is_extended_reply export old next (bytes ++ more) (begun_true EXTENDED_CHUNK_MAGIC bytes more c)) ∙ sym (ap length_of (is_extended_reply export old now bytes c))
+  long_below (as_other c) l =
+      let e : (long_reply export old now bytes).head_length ≡ 4 = ap length_of (is_no_extended export old now bytes c) in
+      let low : length (bytes ++ more) < 4 = omega (arith, l, e) in
+      ap length_of (is_no_extended export old next (bytes ++ more) (too_short EXTENDED_CHUNK_MAGIC (bytes ++ more) low)) ∙ sym e
+
+  long_grows : IsExtendedOrNot bytes → (long_reply export old now bytes).head_length ≤ (long_reply export old next (bytes ++ more)).head_length
+  long_grows (as_extended c) =
+      let a : (long_reply export old now bytes).head_length ≡ 32 = ap length_of (is_extended_reply export old now bytes c) in
+      let b : (long_reply export old next (bytes ++ more)).head_length ≡ 32 = ap length_of (is_extended_reply export old next (bytes ++ more) (begun_true EXTENDED_CHUNK_MAGIC bytes more c)) in
+      omega (arith, a, b)
+  long_grows (as_other c) =
+      let a : (long_reply export old now bytes).head_length ≡ 4 = ap length_of (is_no_extended export old now bytes c) in
+      let b : 4 ≤ (long_reply export old next (bytes ++ more)).head_length = long_two (begins EXTENDED_CHUNK_MAGIC (bytes ++ more)) export next (operation_of old next (number_at 8 8 (bytes ++ more))) (bytes ++ more) in
+      omega (arith, a, b)
+
+  extended_beyond : (o o' : Option Operation) → ((e : Operation) → o ≡ Some e → o' ≡ Some e) → next.structured ≡ now.structured → 32 ≤ length bytes → extended_head_fault now.structured o (number_at 24 8 bytes) ≡ None →
+      IsSameHead (extended_chunk_to export now o bytes) (extended_chunk_to export next o' (bytes ++ more))
+  extended_beyond None o' same st l clean = absurd (no_unknown (is_too_large (number_at 24 8 bytes)) clean)
+    where
+      no_unknown : (b : Bool) → fault_if b OutOfProfile (Some UnknownCookie) ≡ None → ⊥
+      no_unknown true e = (cc)
+      no_unknown false e = (cc)
+  extended_beyond (Some e) o' same st l clean = record {
+    head_length_is = refl;
+    head_fault_is = λ i. extended_head_fault (st i) (same e refl i) (at 24 8 32 bytes more l (omega arith) i);
+    payload_length_is = at 24 8 32 bytes more l (omega arith);
+  }
+
+  long_beyond : IsAppended now next → IsExtendedOrNot bytes → (long_reply export old now bytes).head_length ≤ length bytes → (long_reply export old now bytes).head_fault ≡ None → IsSameHead (long_reply export old now bytes) (long_reply export old next (bytes ++ more))
+  long_beyond a (as_extended c) l clean =
+      let now_is : long_reply export old now bytes ≡ extended_chunk_to export now (operation_of old now (number_at 8 8 bytes)) bytes = is_extended_reply export old now bytes c in
+      let long : 32 ≤ length bytes = subst (λ (d : Decision). d.head_length ≤ length bytes) now_is l in
+      subst (λ d. IsSameHead d (long_reply export old next (bytes ++ more))) (sym now_is)
+      (subst (IsSameHead (extended_chunk_to export now (operation_of old now (number_at 8 8 bytes)) bytes)) (sym (is_extended_reply export old next (bytes ++ more) (begun_true EXTENDED_CHUNK_MAGIC bytes more c)))
+      (extended_beyond (operation_of old now (number_at 8 8 bytes)) (operation_of old next (number_at 8 8 (bytes ++ more))) (same_entry export old now next bytes more a (omega (arith, long))) a.structured_is long (subst (λ (d : Decision). d.head_fault ≡ None) now_is clean)))
+  long_beyond a (as_other c) l clean = absurd (let q : Some BadMagic ≡ None = subst (λ (d : Decision). d.head_fault ≡ None) (is_no_extended export old now bytes c) clean in (cc))
+
+  extended_back : (o o' : Option Operation) → ((e : Operation) → o ≡ Some e → o' ≡ Some e) → (o ≡ None → o' ≡ None) → next.structured ≡ now.structured → 32 ≤ length bytes → extended_head_fault next.structured o' (number_at 24 8 (bytes ++ more)) ≡ None →
+      extended_head_fault now.structured o (number_at 24 8 bytes) ≡ None
+  extended_back None o' same none st long clean = (λ i. extended_head_fault (sym st i) (sym (none refl) i) (sym (at 24 8 32 bytes more long (omega arith)) i)) ∙ clean
+  extended_back (Some e) o' same none st long clean = (λ i. extended_head_fault (sym st i) (sym (same e refl) i) (sym (at 24 8 32 bytes more long (omega arith)) i)) ∙ clean
+
+  long_back : IsAppended old now → IsAppended now next → IsExtendedOrNot bytes → (long_reply export old now bytes).head_length ≤ length bytes → (long_reply export old next (bytes ++ more)).head_fault ≡ None → (long_reply export old now bytes).head_fault ≡ None
+  long_back a b (as_extended c) l clean =
+      let now_is : long_reply export old now bytes ≡ extended_chunk_to export now (operation_of old now (cookie_now export old now next bytes more)) bytes = is_extended_reply export old now bytes c in
+      let next_is : long_reply export old next (bytes ++ more) ≡ extended_chunk_to export next (operation_of old next (cookie_next export old now next bytes more)) (bytes ++ more) = is_extended_reply export old next (bytes ++ more) (begun_true EXTENDED_CHUNK_MAGIC bytes more c) in
+      let long : 32 ≤ length bytes = subst (λ (d : Decision). d.head_length ≤ length bytes) now_is l in
+      let short : 16 ≤ length bytes = omega (arith, long) in
+      ap (λ (d : Decision). d.head_fault) now_is
+      ∙ extended_back (operation_of old now (number_at 8 8 bytes)) (operation_of old next (number_at 8 8 (bytes ++ more))) (same_entry export old now next bytes more b short) (still_none export old now next bytes more a short) b.structured_is long (sym (ap (λ (d : Decision). d.head_fault) next_is) ∙ clean)
+  long_back a b (as_other c) l clean =
+      let now_is : long_reply export old now bytes ≡ no_reply bytes = is_no_extended export old now bytes c in
+      let long : 4 ≤ length bytes = subst (λ (d : Decision). d.head_length ≤ length bytes) now_is l in
+      let next_is : long_reply export old next (bytes ++ more) ≡ no_reply (bytes ++ more) = is_no_extended export old next (bytes ++ more) (neither_stays EXTENDED_CHUNK_MAGIC bytes more long c) in
+      absurd (let q : Some BadMagic ≡ None = sym (ap (λ (d : Decision). d.head_fault) next_is) ∙ clean in (cc))
+
+-- by whether extended headers are in force
+replies_are : {old now : Core} (export : Exporting) → Later Server old now → old.phase ≡ Transmission export → (bytes : List ℕ) →
+    decision now.phase old now Server bytes ≡ Some (reply_in old.extended export now (operation_of old now (number_at 8 8 bytes)) bytes)
+replies_are {old} {now} export l t bytes =
+    ap (λ p. decision p old now Server bytes) (Later-transmission l export t)
+    ∙ ap (λ x. Some (reply_in x export now (operation_of old now (number_at 8 8 bytes)) bytes)) (Later-extended l export t)
+
+in_replies : (old : Core) (export : Exporting) (x : Bool) → old.phase ≡ Transmission export → old.extended ≡ x → IsDeciding Server old
+in_replies old export false t is = record {
+  F = short_reply export old;
+  decides = λ now l bytes. replies_are export l t bytes ∙ ap (λ x. Some (reply_in x export now (operation_of old now (number_at 8 8 bytes)) bytes)) is;
   steady = λ now l. record {
-    two = λ bytes. (let h : 4 ≤ (reply export old now bytes).head_length = reply_two (begins CHUNK_MAGIC bytes) (begins SIMPLE_MAGIC bytes) export now (operation_of old now (number_at 8 8 bytes)) bytes in omega (arith, h));
+    two = λ bytes. (let h : 4 ≤ (short_reply export old now bytes).head_length = reply_two (begins CHUNK_MAGIC bytes) (begins SIMPLE_MAGIC bytes) export now (operation_of old now (number_at 8 8 bytes)) bytes in omega (arith, h));
     below = λ next k bytes more low. reply_below export old now next bytes more (bytes_are_begun bytes) low;
     grows = λ next k bytes more. reply_grows export old now next bytes more (bytes_are_begun bytes);
     beyond = λ next k bytes more long clean. reply_beyond export old now next bytes more (Later-appended k export (Later-transmission l export t)) (bytes_are_begun bytes) long clean;
     back = λ next k bytes more long clean. reply_back export old now next bytes more (Later-appended l export t) (Later-appended k export (Later-transmission l export t)) (bytes_are_begun bytes) long clean;
   };
 }
+in_replies old export true t is = record {
+  F = long_reply export old;
+  decides = λ now l bytes. replies_are export l t bytes ∙ ap (λ x. Some (reply_in x export now (operation_of old now (number_at 8 8 bytes)) bytes)) is;
+  steady = λ now l. record {
+    two = λ bytes. (let h : 4 ≤ (long_reply export old now bytes).head_length = long_two (begins EXTENDED_CHUNK_MAGIC bytes) export now (operation_of old now (number_at 8 8 bytes)) bytes in omega (arith, h));
+    below = λ next k bytes more low. long_below export old now next bytes more (extended_or_not bytes) low;
+    grows = λ next k bytes more. long_grows export old now next bytes more (extended_or_not bytes);
+    beyond = λ next k bytes more long clean. long_beyond export old now next bytes more (Later-appended k export (Later-transmission l export t)) (extended_or_not bytes) long clean;
+    back = λ next k bytes more long clean. long_back export old now next bytes more (Later-appended l export t) (Later-appended k export (Later-transmission l export t)) (extended_or_not bytes) long clean;
+  };
+}
 
 by_disconnected : (old : Core) (export : Exporting) (b : Bool) (bytes : List ℕ) (d : Decision) → old.phase ≡ Transmission export → old.disconnected ≡ b → request_unless b old bytes ≡ Some d → IsDeciding Client old
 by_disconnected old export true bytes d t is h = absurd (cc)
-by_disconnected old export false bytes d t is h = in_requests old export t is
+by_disconnected old export false bytes d t is h = in_requests old export old.extended t is refl
 
 -- where something is decided of a side's bytes, it goes on as it began
 pub deciding : (phase : Phase) (s : Side) (old : Core) (bytes : List ℕ) (d : Decision) → old.phase ≡ phase → decision phase old old s bytes ≡ Some d → IsDeciding s old
@@ -376,5 +503,5 @@ deciding (Answering option given info) Server old bytes d p h =
     in_negotiation Server old 20 (answer old.profile option (is_proper_option option given) (takes_contexts option given) info old.selection) (ap turn p) (λ bytes. ap (λ p. decision p old old Server bytes) p)
     (answer_fixed old.profile option (is_proper_option option given) (takes_contexts option given) info old.selection)
 deciding (Transmission export) Client old bytes d p h = by_disconnected old export old.disconnected bytes d p refl h
-deciding (Transmission export) Server old bytes d p h = in_replies old export p
+deciding (Transmission export) Server old bytes d p h = in_replies old export old.extended p refl
 deciding phase s old bytes d p h = absurd (cc)

@@ -1,5 +1,6 @@
 -- What holds of each request of a core that completed messages lead to.
-use Rattle.std.proofs.Common.{◌≡◌, ℕ, zero, suc, ◌<◌, ◌≤◌, ◌⊎◌, ◌+◌, ◌^◌, ◌==◌, List, [], ◌∷◌, ◌++◌, length, refl, sym, ◌∙◌, ap, subst, inl, inr, Option, Some, None, Bool, true, false, ◌&&◌, if◌then◌else◌, eqb-true, arith, append-nil, nat_le}
+use Rattle.std.proofs.Common.{◌||◌, ◌≡◌, ℕ, zero, suc, ◌<◌, ◌≤◌, ◌⊎◌, ◌+◌, ◌^◌, ◌==◌, List, [], ◌∷◌, ◌++◌, length, refl, sym, ◌∙◌, ap, subst, inl, inr, Option, Some, None, Bool, true, false, ◌&&◌, if◌then◌else◌, eqb-true, arith, append-nil, nat_le}
+use Rattle.nbd_wire.specs.protocol.Flags.{has}
 use Rattle.nbd_laws.specs.Allowed.{IsChunk}
 use Rattle.nbd_wire.specs.declared.profile.Profile.{Profile}
 use Rattle.nbd_wire.specs.protocol.Transmission.{read_as}
@@ -7,45 +8,53 @@ use Rattle.nbd_laws.proofs.judge.KindLemmas.{kind_content}
 use Rattle.nbd_wire.specs.declared.chunks.TheConstants as chunks
 use Rattle.nbd_wire.specs.declared.commands.TheConstants as commands
 use Rattle.nbd_wire.specs.declared.message.Message.{Message}
-use Rattle.nbd_wire.specs.declared.message.Message.TheVariants.{Greeting, ClientFlags, Choice, Answer, Exported, Request, Simple, Chunk}
+use Rattle.nbd_wire.specs.declared.message.Message.TheVariants.{Greeting, ClientFlags, Choice, Answer, Exported, Request, Simple, Chunk, ExtendedRequest, ExtendedChunk}
 use Rattle.nbd_wire.specs.declared.payloads.Failure.{Failure}
 use Rattle.nbd_wire.specs.declared.payloads.Piece.{Piece}
 use Rattle.nbd_wire.specs.declared.payloads.Piece.TheVariants.{Bytes}
 use Rattle.nbd_wire.specs.protocol.Payloads.{number_at, content_of, failure_of}
 use Rattle.nbd_wire.specs.protocol.Operations.{Operation, Exporting, pieces, pieces_of}
 use Rattle.nbd_wire.specs.protocol.Pieces.{chunk_piece, piece_of}
-use Rattle.nbd_wire.specs.protocol.Rules.{MayComplete, MayReply, complete, core_with_request, reply_to}
-use Rattle.nbd_wire.specs.protocol.Sendable.{IsSendable}
+use Rattle.nbd_wire.specs.protocol.Rules.{MayComplete, MayReply, complete, core_with_request, reply_to, grants_extended, request_of_reply, written}
+use Rattle.nbd_wire.specs.protocol.Sendable.{IsSendable, carries_payload}
 use Rattle.nbd_wire.specs.protocol.States.{Phase, Transmission, Core, target, operation, with_reply_at, with_reply}
 use Rattle.nbd_laws.specs.Reached.{IsReached, at_start, after_message}
 use Rattle.nbd_laws.proofs.requests.LaidLemmas.{AreApart, AreInside, apart_snoc, inside_snoc, pieces-snoc}
-use Rattle.nbd_laws.proofs.judge.BoolLemmas.{and_true}
-use Rattle.nbd_laws.proofs.judge.AllowLemmas.{chunk_allow, simple_allow}
+use Rattle.nbd_laws.proofs.judge.BoolLemmas.{and_true, or_false}
+use Rattle.nbd_laws.proofs.judge.AllowLemmas.{chunk_allow, extended_allow, simple_allow}
+use Rattle.nbd_laws.proofs.judge.PhaseLemmas.{extended-reply_to, extended-requested}
+use Rattle.nbd_wire.specs.declared.command_flags.TheConstants as command_flags
 
-pub record IsTidy (e : Operation) : Type 0 where
+-- of a request where extended headers are in force, or not
+pub record IsTidy (extended : Bool) (e : Operation) : Type 0 where
   pub inside : AreInside e.offset e.length (pieces e)
   pub apart : AreApart (pieces e)
-  pub short : e.length < 2 ^ 32
+  pub short : extended ≡ false → e.length < 2 ^ 32
   pub carries : length e.payload ≡ (if e.command == commands.WRITE then e.length else 0)
 
-abbrev pub AreTidy : List Operation → Type 0
-AreTidy [] = Unit {0}
-AreTidy (e ∷ es) = IsTidy e × AreTidy es
+abbrev pub AreTidy : (extended : Bool) → List Operation → Type 0
+AreTidy x [] = Unit {0}
+AreTidy x (e ∷ es) = IsTidy x e × AreTidy x es
 
-pub tidy_entry : (k : ℕ) (es : List Operation) (e : Operation) → AreTidy es → operation k es ≡ Some e → IsTidy e
+-- extended headers stay in force
+tidy_still : (a b : Bool) (es : List Operation) → (a ≡ false → b ≡ false) → AreTidy b es → AreTidy a es
+tidy_still a b [] f t = tt
+tidy_still a b (e ∷ es) f t = (record { inside = t.0.inside; apart = t.0.apart; short = λ q. t.0.short (f q); carries = t.0.carries }, tidy_still a b es f t.1)
+
+pub tidy_entry : {x : Bool} (k : ℕ) (es : List Operation) (e : Operation) → AreTidy x es → operation k es ≡ Some e → IsTidy x e
 tidy_entry k [] e t h = absurd (cc)
 tidy_entry zero (x ∷ es) e t h = absurd (cc)
-tidy_entry (suc zero) (x ∷ es) e t h = let q : x ≡ e = cc in subst IsTidy q t.0
+tidy_entry {x = b} (suc zero) (x ∷ es) e t h = let q : x ≡ e = cc in subst (IsTidy b) q t.0
 tidy_entry (suc (suc k)) (x ∷ es) e t h = tidy_entry (suc k) es e t.1 h
 
-tidy_snoc : (es : List Operation) (e : Operation) → AreTidy es → IsTidy e → AreTidy (es ++ e ∷ [])
+tidy_snoc : {x : Bool} (es : List Operation) (e : Operation) → AreTidy x es → IsTidy x e → AreTidy x (es ++ e ∷ [])
 tidy_snoc [] e t h = (h, tt)
 tidy_snoc (x ∷ es) e t h = (t.0, tidy_snoc es e t.1 h)
 
-tidy_answered : (k : ℕ) (m : Message) (es : List Operation) (e : Operation) → AreTidy es → operation k es ≡ Some e → IsTidy (with_reply e m) → AreTidy (with_reply_at k m es)
+tidy_answered : {x : Bool} (k : ℕ) (m : Message) (es : List Operation) (e : Operation) → AreTidy x es → operation k es ≡ Some e → IsTidy x (with_reply e m) → AreTidy x (with_reply_at k m es)
 tidy_answered k m [] e t h r = tt
 tidy_answered zero m (x ∷ es) e t h r = t
-tidy_answered (suc zero) m (x ∷ es) e t h r = let q : e ≡ x = cc in (subst (λ y. IsTidy (with_reply y m)) q r, t.1)
+tidy_answered {x = b} (suc zero) m (x ∷ es) e t h r = let q : e ≡ x = cc in (subst (λ y. IsTidy b (with_reply y m)) q r, t.1)
 tidy_answered (suc (suc k)) m (x ∷ es) e t h r = (t.0, tidy_answered (suc k) m es e t.1 h r)
 
 pub failure_kind : (kind : ℕ) (bytes : List ℕ) (f : Failure) → failure_of kind bytes ≡ Some f → (kind ≡ chunks.ERROR) ⊎ (kind ≡ chunks.ERROR_OFFSET)
@@ -80,7 +89,7 @@ record IsOneMore (e : Operation) (more : List Piece) : Type 0 where
   inside : AreInside e.offset e.length (pieces e ++ more)
   apart : AreApart (pieces e ++ more)
 
-one_more : (e : Operation) (m : Message) → IsTidy e → IsOneMore e (piece_of e.offset m) → IsTidy (with_reply e m)
+one_more : {x : Bool} (e : Operation) (m : Message) → IsTidy x e → IsOneMore e (piece_of e.offset m) → IsTidy x (with_reply e m)
 one_more e m t h = record {
   inside = subst (AreInside e.offset e.length) (sym (pieces-snoc e.offset e.replies m)) h.inside;
   apart = subst AreApart (sym (pieces-snoc e.offset e.replies m)) h.apart;
@@ -88,19 +97,23 @@ one_more e m t h = record {
   carries = t.carries;
 }
 
-nothing_more : (e : Operation) (more : List Piece) → IsTidy e → more ≡ [] → IsOneMore e more
+nothing_more : {x : Bool} (e : Operation) (more : List Piece) → IsTidy x e → more ≡ [] → IsOneMore e more
 nothing_more e more t q = let r : pieces e ≡ pieces e ++ more = sym (append-nil (pieces e)) ∙ ap (λ l. pieces e ++ l) (sym q) in
     record { inside = subst (AreInside e.offset e.length) r t.inside; apart = subst AreApart r t.apart }
 
-piece-none : (offset flags kind cookie : ℕ) (bytes : List ℕ) → content_of kind bytes ≡ None → piece_of offset (Chunk flags kind cookie bytes) ≡ []
-unfolding piece_of
-piece-none offset flags kind cookie bytes q = ap chunk_piece q
+-- a chunk gives the piece that its payload is
+abbrev GivesPiece : Operation → (kind : ℕ) (payload : List ℕ) → Message → Type 0
+GivesPiece e kind payload m = piece_of e.offset m ≡ chunk_piece (content_of kind payload)
 
-piece-some : (offset flags kind cookie : ℕ) (bytes : List ℕ) (piece : Piece) → content_of kind bytes ≡ Some piece → piece_of offset (Chunk flags kind cookie bytes) ≡ piece ∷ []
+gives_piece : (e : Operation) (flags kind cookie : ℕ) (bytes : List ℕ) → GivesPiece e kind bytes (Chunk flags kind cookie bytes)
 unfolding piece_of
-piece-some offset flags kind cookie bytes piece q = ap chunk_piece q
+gives_piece e flags kind cookie bytes = refl
 
-simple_more : (e : Operation) (error cookie : ℕ) (bytes : List ℕ) → IsTidy e → e.replies ≡ [] → length bytes ≤ e.length → IsOneMore e (piece_of e.offset (Simple error cookie bytes))
+gives_extended : (e : Operation) (flags kind cookie at : ℕ) (bytes : List ℕ) → GivesPiece e kind bytes (ExtendedChunk flags kind cookie at bytes)
+unfolding piece_of
+gives_extended e flags kind cookie at bytes = refl
+
+simple_more : {x : Bool} (e : Operation) (error cookie : ℕ) (bytes : List ℕ) → IsTidy x e → e.replies ≡ [] → length bytes ≤ e.length → IsOneMore e (piece_of e.offset (Simple error cookie bytes))
 unfolding piece_of
 simple_more e error cookie [] t none l = nothing_more e [] t refl
 simple_more e error cookie (b ∷ bs) t none l =
@@ -108,20 +121,20 @@ simple_more e error cookie (b ∷ bs) t none l =
     let q : p ∷ [] ≡ pieces e ++ p ∷ [] = ap (λ ms. pieces_of e.offset ms ++ p ∷ []) (sym none) in
     record { inside = subst (AreInside e.offset e.length) q ((omega arith, omega (arith, l)), tt); apart = subst AreApart q ((λ x h. refl), tt) }
 
-pub tidy_chunk : (profile : Profile) (export : Exporting) (e : Operation) (flags kind cookie : ℕ) (bytes : List ℕ) → IsTidy e → IsChunk profile export e flags kind bytes → IsTidy (with_reply e (Chunk flags kind cookie bytes))
-tidy_chunk profile export e flags kind cookie bytes t h = one_more e _ t (elim h [
-  | inl q ↦ nothing_more e _ t (piece-none e.offset flags kind cookie bytes (subst (λ k. content_of k bytes ≡ None) (sym q.0) (none_content bytes)))
+pub tidy_chunk : {x : Bool} (profile : Profile) (extended : Bool) (export : Exporting) (e : Operation) (flags kind : ℕ) (bytes : List ℕ) (m : Message) → GivesPiece e kind bytes m → IsTidy x e → IsChunk profile extended export e flags kind bytes → IsTidy x (with_reply e m)
+tidy_chunk profile extended export e flags kind bytes m p t h = one_more e m t (elim h [
+  | inl q ↦ nothing_more e _ t (p ∙ ap chunk_piece (subst (λ k. content_of k bytes ≡ None) (sym q.0) (none_content bytes)))
   | inr r ↦ elim r [
-    | inl (piece, is, fit) ↦ (let s : piece ∷ [] ≡ piece_of e.offset (Chunk flags kind cookie bytes) = sym (piece-some e.offset flags kind cookie bytes piece is) in
+    | inl (piece, is, fit) ↦ (let s : piece ∷ [] ≡ piece_of e.offset m = sym (p ∙ ap chunk_piece is) in
         subst (IsOneMore e) s (record { inside = inside_snoc e.offset e.length (pieces e) piece t.inside fit.1 fit.2; apart = apart_snoc (pieces e) piece t.apart fit.3 }))
     | inr o ↦ elim o [
-      | inl (f, is, x) ↦ nothing_more e _ t (piece-none e.offset flags kind cookie bytes (sym (kind_content profile kind bytes) ∙ no_content (read_as profile kind) bytes f is))
-      | inr (k, x) ↦ nothing_more e _ t (piece-none e.offset flags kind cookie bytes (status_content kind bytes k))
+      | inl (f, is, x) ↦ nothing_more e _ t (p ∙ ap chunk_piece (sym (kind_content profile kind bytes) ∙ no_content (read_as profile kind) bytes f is))
+      | inr (y, k, x) ↦ nothing_more e _ t (p ∙ ap chunk_piece (status_content kind bytes k))
     ]
   ]
 ])
 
-pub tidy_reply : (profile : Profile) (structured : Bool) (export : Exporting) (e : Operation) (m : Message) → IsTidy e → MayReply profile structured export e m → IsTidy (with_reply e m)
+pub tidy_reply : {x : Bool} (profile : Profile) (structured : Bool) (export : Exporting) (e : Operation) (m : Message) → IsTidy x e → MayReply profile structured export e m → IsTidy x (with_reply e m)
 unfolding MayReply
 tidy_reply profile structured export e (Simple error cookie bytes) t h =
     let s = simple_allow profile structured export e error cookie bytes h in
@@ -130,31 +143,62 @@ tidy_reply profile structured export e (Simple error cookie bytes) t h =
     at_most : (b : Bool) → length bytes ≡ (if b then e.length else 0) → length bytes ≤ e.length
     at_most true q = omega (arith, q)
     at_most false q = omega (arith, q)
-tidy_reply profile structured export e (Chunk flags kind cookie bytes) t h = tidy_chunk profile export e flags kind cookie bytes t (chunk_allow profile structured export e flags kind cookie bytes h).1
+tidy_reply profile structured export e (Chunk flags kind cookie bytes) t h = tidy_chunk profile false export e flags kind bytes _ (gives_piece e flags kind cookie bytes) t (chunk_allow profile structured export e flags kind cookie bytes h).1
+tidy_reply profile structured export e (ExtendedChunk flags kind cookie at bytes) t h =
+    tidy_chunk profile true export e flags kind bytes _ (gives_extended e flags kind cookie at bytes) t (extended_allow profile structured export e flags kind cookie at bytes h).1
 tidy_reply profile structured export e m t h = absurd h
 
-tidy_replied : (core : Core) (m : Message) (k : ℕ) (e : Operation) (o : Option ℕ) → o ≡ Some k → AreTidy core.entries → operation k core.entries ≡ Some e → IsTidy (with_reply e m) → AreTidy (reply_to o core m).entries
-tidy_replied core m k e (Some j) q t is r = let same : k ≡ j = cc in subst (λ j. AreTidy (with_reply_at j m core.entries)) same (tidy_answered k m core.entries e t is r)
+tidy_replied : {x : Bool} (core : Core) (m : Message) (k : ℕ) (e : Operation) (o : Option ℕ) → o ≡ Some k → AreTidy x core.entries → operation k core.entries ≡ Some e → IsTidy x (with_reply e m) → AreTidy x (reply_to o core m).entries
+tidy_replied {x} core m k e (Some j) q t is r = let same : k ≡ j = cc in subst (λ j. AreTidy x (with_reply_at j m core.entries)) same (tidy_answered k m core.entries e t is r)
 tidy_replied core m k e None q t is r = absurd (cc)
 
-tidy_requested : (b : Bool) (core : Core) (e : Operation) → AreTidy core.entries → IsTidy e → AreTidy (core_with_request b core e).entries
+tidy_requested : {x : Bool} (b : Bool) (core : Core) (e : Operation) → AreTidy x core.entries → IsTidy x e → AreTidy x (core_with_request b core e).entries
 tidy_requested true core e t h = t
 tidy_requested false core e t h = tidy_snoc core.entries e t h
 
-pub tidy_complete : (core : Core) (phase : Phase) (m : Message) → AreTidy core.entries → IsSendable m → MayComplete core phase m → AreTidy (complete core m).entries
-unfolding MayComplete complete IsSendable
-tidy_complete core phase (Greeting flags) t sn ok = t
-tidy_complete core phase (ClientFlags flags) t sn ok = t
-tidy_complete core phase (Choice id bytes) t sn ok = t
-tidy_complete core phase (Answer option kind bytes) t sn ok = t
-tidy_complete core phase (Exported size flags padded) t sn ok = t
-tidy_complete core phase (Request flags command cookie offset len bytes) t sn ok = tidy_requested (command == commands.DISC) core _ t (record { inside = tt; apart = tt; short = sn.4; carries = sn.5 })
-tidy_complete core (Transmission export) (Simple error cookie bytes) t sn (k, e, at, is, h) =
-    tidy_replied core (Simple error cookie bytes) k e (target cookie core.entries) at t is (tidy_reply core.profile core.structured export e (Simple error cookie bytes) (tidy_entry k core.entries e t is) h)
-tidy_complete core (Transmission export) (Chunk flags kind cookie bytes) t sn (k, e, at, is, h) =
-    tidy_replied core (Chunk flags kind cookie bytes) k e (target cookie core.entries) at t is (tidy_reply core.profile core.structured export e (Chunk flags kind cookie bytes) (tidy_entry k core.entries e t is) h)
-tidy_complete core phase m t sn ok = absurd ok
+carried_by : (flags command len : ℕ) (bytes : List ℕ) → length bytes ≡ (if carries_payload flags command then len else 0) → length (written command bytes) ≡ (if command == commands.WRITE then len else 0)
+carried_by flags command len bytes h = go (command == commands.WRITE) refl
+  where
+    go : (w : Bool) → (command == commands.WRITE) ≡ w → length (if w then bytes else []) ≡ (if w then len else 0)
+    go true q = h ∙ ap (λ b. if b || has flags command_flags.PAYLOAD_LEN then len else 0) q
+    go false q = refl
 
-pub tidy : {core : Core} → IsReached core → AreTidy core.entries
+-- what may complete, by whether extended headers are in force
+tidied : (core : Core) (phase : Phase) (m : Message) → AreTidy core.extended core.entries → IsSendable m → MayComplete core phase m → AreTidy core.extended (complete core m).entries
+unfolding MayComplete complete IsSendable
+tidied core phase (Greeting flags) t sn ok = t
+tidied core phase (ClientFlags flags) t sn ok = t
+tidied core phase (Choice id bytes) t sn ok = t
+tidied core phase (Answer option kind bytes) t sn ok = t
+tidied core phase (Exported size flags padded) t sn ok = t
+tidied core phase (Request flags command cookie offset len bytes) t sn ok = tidy_requested (command == commands.DISC) core _ t (record { inside = tt; apart = tt; short = λ q. sn.4; carries = sn.5 })
+tidied core (Transmission export) (ExtendedRequest flags command cookie offset len bytes) t sn ok =
+    tidy_requested (command == commands.DISC) core _ t (record { inside = tt; apart = tt; short = λ q. absurd (let z : true ≡ false = sym ok.2 ∙ q in (cc)); carries = carried_by flags command len bytes sn.5 })
+tidied core (Transmission export) (Simple error cookie bytes) t sn (k, e, at, is, h) =
+    tidy_replied core (Simple error cookie bytes) k e (target cookie core.entries) at t is (tidy_reply core.profile core.structured export e (Simple error cookie bytes) (tidy_entry k core.entries e t is) h)
+tidied core (Transmission export) (Chunk flags kind cookie bytes) t sn (k, e, at, is, h) =
+    tidy_replied core (Chunk flags kind cookie bytes) k e (target cookie core.entries) at t is (tidy_reply core.profile core.structured export e (Chunk flags kind cookie bytes) (tidy_entry k core.entries e t is) h)
+tidied core (Transmission export) (ExtendedChunk flags kind cookie offset bytes) t sn (k, e, at, is, h) =
+    tidy_replied core (ExtendedChunk flags kind cookie offset bytes) k e (target cookie core.entries) at t is (tidy_reply core.profile core.structured export e (ExtendedChunk flags kind cookie offset bytes) (tidy_entry k core.entries e t is) h)
+tidied core phase m t sn ok = absurd ok
+
+-- a message does not end extended headers
+extended_before : (core : Core) (m : Message) → (complete core m).extended ≡ false → core.extended ≡ false
+unfolding complete
+extended_before core (Answer option kind p) q = (or_false core.extended (grants_extended option kind) q).0
+extended_before core (Greeting flags) q = q
+extended_before core (ClientFlags flags) q = q
+extended_before core (Choice id p) q = q
+extended_before core (Exported size flags padded) q = q
+extended_before core (Request flags command cookie offset len p) q = sym (extended-requested (command == commands.DISC) core _) ∙ q
+extended_before core (ExtendedRequest flags command cookie offset len p) q = sym (extended-requested (command == commands.DISC) core _) ∙ q
+extended_before core (Simple error cookie p) q = sym (extended-reply_to (request_of_reply core (Simple error cookie p)) core (Simple error cookie p)) ∙ q
+extended_before core (Chunk flags kind cookie p) q = sym (extended-reply_to (request_of_reply core (Chunk flags kind cookie p)) core (Chunk flags kind cookie p)) ∙ q
+extended_before core (ExtendedChunk flags kind cookie at p) q = sym (extended-reply_to (request_of_reply core (ExtendedChunk flags kind cookie at p)) core (ExtendedChunk flags kind cookie at p)) ∙ q
+
+pub tidy_complete : (core : Core) (phase : Phase) (m : Message) → AreTidy core.extended core.entries → IsSendable m → MayComplete core phase m → AreTidy (complete core m).extended (complete core m).entries
+tidy_complete core phase m t sn ok = tidy_still (complete core m).extended core.extended (complete core m).entries (extended_before core m) (tidied core phase m t sn ok)
+
+pub tidy : {core : Core} → IsReached core → AreTidy core.extended core.entries
 tidy at_start = tt
 tidy (after_message {c = c} m r sn ok) = tidy_complete c c.phase m (tidy r) sn ok

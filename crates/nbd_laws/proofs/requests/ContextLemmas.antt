@@ -2,7 +2,7 @@
 use Rattle.std.proofs.Common.{◌≡◌, ℕ, zero, suc, ◌==◌, List, [], ◌∷◌, ◌++◌, refl, sym, ◌∙◌, ap, subst, Option, Some, None, Bool, true, false}
 use Rattle.nbd_wire.specs.declared.commands.TheConstants as commands
 use Rattle.nbd_wire.specs.declared.message.Message.{Message}
-use Rattle.nbd_wire.specs.declared.message.Message.TheVariants.{Greeting, ClientFlags, Choice, Answer, Exported, Request, Simple, Chunk}
+use Rattle.nbd_wire.specs.declared.message.Message.TheVariants.{Greeting, ClientFlags, Choice, Answer, Exported, Request, Simple, Chunk, ExtendedRequest, ExtendedChunk}
 use Rattle.nbd_wire.specs.protocol.Contexts.{Context}
 use Rattle.nbd_wire.specs.protocol.Marks.{Item, Byte, Starts, Completes, Serves}
 use Rattle.nbd_wire.specs.protocol.Operations.{Operation, Exporting}
@@ -66,11 +66,15 @@ completed core phase (Answer option kind p) q ok s = absurd ok
 completed core Naming (Exported size flags padded) q ok s = idle core (complete core (Exported size flags padded)) (ap export_in q) refl s
 completed core phase (Exported size flags padded) q ok s = absurd ok
 completed core (Transmission export) (Request flags command cookie offset len p) q ok s = requested (command == commands.DISC) core _ export q refl s
+completed core (Transmission export) (ExtendedRequest flags command cookie offset len p) q ok s = requested (command == commands.DISC) core _ export q refl s
 completed core phase (Request flags command cookie offset len p) q ok s = absurd ok
+completed core phase (ExtendedRequest flags command cookie offset len p) q ok s = absurd ok
 completed core (Transmission export) (Simple error cookie p) q ok s = replied (request_of_reply core (Simple error cookie p)) core (Simple error cookie p) export q s
 completed core phase (Simple error cookie p) q ok s = absurd ok
 completed core (Transmission export) (Chunk flags kind cookie p) q ok s = replied (request_of_reply core (Chunk flags kind cookie p)) core (Chunk flags kind cookie p) export q s
+completed core (Transmission export) (ExtendedChunk flags kind cookie at p) q ok s = replied (request_of_reply core (ExtendedChunk flags kind cookie at p)) core (ExtendedChunk flags kind cookie at p) export q s
 completed core phase (Chunk flags kind cookie p) q ok s = absurd ok
+completed core phase (ExtendedChunk flags kind cookie at p) q ok s = absurd ok
 
 steady : (state : State) (items : List Item) → Obeys state items → IsSteady state.core → IsSteady (ends_at state items).core
 steady state [] ob s = s

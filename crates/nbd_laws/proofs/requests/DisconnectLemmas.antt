@@ -5,12 +5,12 @@ use Rattle.nbd_laws.specs.Allowed.{MayAsk}
 use Rattle.nbd_wire.specs.declared.commands.TheConstants as commands
 use Rattle.nbd_wire.specs.declared.message.Side.TheVariants.{Client}
 use Rattle.nbd_wire.specs.declared.message.Message.{Message}
-use Rattle.nbd_wire.specs.declared.message.Message.TheVariants.{Request, Simple, Chunk}
+use Rattle.nbd_wire.specs.declared.message.Message.TheVariants.{Request, Simple, Chunk, ExtendedRequest, ExtendedChunk}
 use Rattle.nbd_wire.specs.protocol.Marks.{Item, Byte, Starts, Completes, Serves}
 use Rattle.nbd_wire.specs.protocol.Operations.{Operation, Exporting}
 use Rattle.nbd_wire.specs.protocol.Rules.{MayComplete, MayStartIn, Obeys, after, request_of_reply, complete, ends_at, reply_to, core_with_request}
 use Rattle.nbd_wire.specs.protocol.States.{Core, Phase, State, Transmission, start_of}
-use Rattle.nbd_laws.proofs.runs.PrefixLemmas.{InTransmission, asks, gives, phase-complete, replies, transmission_row}
+use Rattle.nbd_laws.proofs.runs.PrefixLemmas.{InTransmission, asks, gives, phase-complete, replies, transmission_row, asks_more, gives_more}
 use Rattle.nbd_laws.proofs.runs.PartLemmas.{obeys_back, obeys_prefix}
 use Rattle.nbd_laws.specs.Service.{DisconnectsAreEmpty, NothingAfterDisconnect}
 
@@ -36,8 +36,10 @@ gone-reply_to None core m h = h
 gone-complete : (core : Core) (export : Exporting) (m : Message) → InTransmission core export m → core.disconnected ≡ true → (complete core m).disconnected ≡ true
 unfolding complete
 gone-complete core export m (asks flags command cookie offset len p x) h = gone-requested (command == commands.DISC) core _ h
+gone-complete core export m (asks_more flags command cookie offset len p x) h = gone-requested (command == commands.DISC) core _ h
 gone-complete core export m (replies error cookie p x) h = gone-reply_to (request_of_reply core (Simple error cookie p)) core (Simple error cookie p) h
 gone-complete core export m (gives flags kind cookie p x) h = gone-reply_to (request_of_reply core (Chunk flags kind cookie p)) core (Chunk flags kind cookie p) h
+gone-complete core export m (gives_more flags kind cookie at p x) h = gone-reply_to (request_of_reply core (ExtendedChunk flags kind cookie at p)) core (ExtendedChunk flags kind cookie at p) h
 
 -- in transmission, with the client gone
 record IsGone (core : Core) : Type 0 where

@@ -206,7 +206,7 @@ unfolding MayStartIn
 asked_at_start profile prefix back m export run on =
     some_of (request_of_reply (ends_at (start_of profile) prefix).core m)
     (subst (λ phase. MayStartIn phase (ends_at (start_of profile) prefix).core Server m) on
-    (obeys_back (start_of profile) prefix (Starts Server m ∷ back) run.obeys).0.2)
+    (obeys_back (start_of profile) prefix (Starts Server m ∷ back) run.obeys).0.2).0
 
 pub replies_end_as_they_start : RepliesEndAsTheyStart
 replies_end_as_they_start profile prefix inner back m n export run on none =

@@ -1,7 +1,7 @@
 -- What a request keeps as replies to it complete.
 use Rattle.std.proofs.Common.{◌≡◌, Option, ℕ, zero, suc, ◌<◌, ◌≤◌, ◌⊎◌, ◌+◌, ◌==◌, List, [], ◌∷◌, ◌++◌, length, refl, sym, ◌∙◌, ap, subst, inl, inr, Some, None, Bool, true, false, not, ◌&&◌, ◌||◌, if◌then◌else◌, eqb-true, eq-eqb, is_some, arith, IsTrue, append-nil, nat_le, nat_lt, le_refl}
 use Rattle.std.proofs.lemmas.Bool.{leb-true, ltb-true}
-use Rattle.nbd_laws.proofs.judge.AllowLemmas.{chunk_allow, finish_allow, simple_allow, total_covers}
+use Rattle.nbd_laws.proofs.judge.AllowLemmas.{chunk_allow, extended_allow, finish_allow, simple_allow, total_covers}
 use Rattle.nbd_laws.specs.Allowed.{IsChunk}
 use Rattle.nbd_laws.proofs.judge.KindLemmas.{kind_content}
 use Rattle.nbd_wire.specs.declared.profile.Profile.{Profile}
@@ -11,14 +11,14 @@ use Rattle.nbd_wire.specs.declared.chunks.TheConstants as chunks
 use Rattle.nbd_wire.specs.declared.command_flags.TheConstants as command_flags
 use Rattle.nbd_wire.specs.declared.commands.TheConstants as commands
 use Rattle.nbd_wire.specs.declared.message.Message.{Message}
-use Rattle.nbd_wire.specs.declared.message.Message.TheVariants.{Request, Simple, Chunk}
+use Rattle.nbd_wire.specs.declared.message.Message.TheVariants.{Request, Simple, Chunk, ExtendedRequest, ExtendedChunk}
 use Rattle.nbd_wire.specs.declared.payloads.Failure.{Failure}
 use Rattle.nbd_wire.specs.declared.payloads.Piece.{Piece}
 use Rattle.nbd_wire.specs.declared.payloads.Piece.TheVariants.{Bytes}
 use Rattle.nbd_wire.specs.declared.sizes.Sizes.{Sizes}
 use Rattle.nbd_wire.specs.protocol.Contexts.{Context}
 use Rattle.nbd_wire.specs.protocol.Payloads.{content_of, failure_of, number_at}
-use Rattle.nbd_wire.specs.protocol.Rules.{MayReply}
+use Rattle.nbd_wire.specs.protocol.Rules.{MayReply, written}
 use Rattle.nbd_wire.specs.protocol.Operations.{Covers, Operation, Exporting, Outcome, Success, Pending, any, ends_reply, has_failed, has_range, is_failing, is_finished, is_proper, outcome, pieces, pieces_of}
 use Rattle.nbd_wire.specs.protocol.Pieces.{byte_at, chunk_piece, holds, is_in, piece_of, piece_offset, piece_size, simple_piece}
 use Rattle.nbd_wire.specs.protocol.Flags.{has}
@@ -136,11 +136,30 @@ pub record Keeps (export : Exporting) (e : Operation) (ps : List Piece) : Type 0
 pub and_both : {a b : Bool} → IsTrue a → IsTrue b → IsTrue (a && b)
 and_both {a} {b} p q = ap (λ x. x && b) p ∙ q
 
-pub kept_chunk : (profile : Profile) (export : Exporting) (e : Operation) (flags kind cookie : ℕ) (payload : List ℕ) → IsGood export e → IsChunk profile export e flags kind payload → Keeps export e (pieces (with_reply e (Chunk flags kind cookie payload)))
-kept_chunk profile export e flags kind cookie payload g h = elim h [
-  | inl q ↦ same (no_piece e flags kind cookie payload (none_content kind payload q.0))
+-- a chunk adds the piece that its payload is
+abbrev AddsPiece : Operation → (kind : ℕ) (payload : List ℕ) → Message → Type 0
+AddsPiece e kind payload m = pieces (with_reply e m) ≡ pieces e ++ chunk_piece (content_of kind payload)
+
+adds_piece : (e : Operation) (flags kind cookie : ℕ) (payload : List ℕ) → AddsPiece e kind payload (Chunk flags kind cookie payload)
+unfolding piece_of
+adds_piece e flags kind cookie payload = pieces-with_reply e (Chunk flags kind cookie payload)
+
+adds_extended : (e : Operation) (flags kind cookie at : ℕ) (payload : List ℕ) → AddsPiece e kind payload (ExtendedChunk flags kind cookie at payload)
+unfolding piece_of
+adds_extended e flags kind cookie at payload = pieces-with_reply e (ExtendedChunk flags kind cookie at payload)
+
+added_none : (e : Operation) (kind : ℕ) (payload : List ℕ) (m : Message) → AddsPiece e kind payload m → content_of kind payload ≡ None → pieces (with_reply e m) ≡ pieces e
+added_none e kind payload m a q = a ∙ ap (λ o. pieces e ++ chunk_piece o) q ∙ append-nil (pieces e)
+
+added_one : (e : Operation) (kind : ℕ) (payload : List ℕ) (m : Message) (piece : Piece) → AddsPiece e kind payload m → content_of kind payload ≡ Some piece → pieces (with_reply e m) ≡ pieces e ++ piece ∷ []
+added_one e kind payload m piece a q = a ∙ ap (λ o. pieces e ++ chunk_piece o) q
+
+pub kept_chunk : (profile : Profile) (extended : Bool) (export : Exporting) (e : Operation) (flags kind : ℕ) (payload : List ℕ) (m : Message) → AddsPiece e kind payload m → IsGood export e → IsChunk profile extended export e flags kind payload →
+    Keeps export e (pieces (with_reply e m))
+kept_chunk profile extended export e flags kind payload m a g h = elim h [
+  | inl q ↦ same (added_none e kind payload m a (none_content kind payload q.0))
   | inr r ↦ elim r [
-    | inl (piece, is, fit) ↦ (let s : pieces e ++ piece ∷ [] ≡ pieces (with_reply e (Chunk flags kind cookie payload)) = sym (one_piece e flags kind cookie payload piece is) in
+    | inl (piece, is, fit) ↦ (let s : pieces e ++ piece ∷ [] ≡ pieces (with_reply e m) = sym (added_one e kind payload m piece a is) in
         subst (Keeps export e) s (record {
           inside = inside_snoc e.offset e.length (pieces e) piece g.inside fit.1 fit.2;
           apart = apart_snoc (pieces e) piece g.apart fit.3;
@@ -148,13 +167,13 @@ kept_chunk profile export e flags kind cookie payload g h = elim h [
           single = λ p d. subst (λ l. length (l ++ piece ∷ []) ≤ 1) (sym (fit.4 (and_both p d))) (le_refl 1);
         }))
     | inr o ↦ elim o [
-      | inl (f, is, x) ↦ same (no_piece e flags kind cookie payload (sym (kind_content profile kind payload) ∙ no_content (read_as profile kind) payload f is))
-      | inr (k, x) ↦ same (no_piece e flags kind cookie payload (status_content kind payload k))
+      | inl (f, is, x) ↦ same (added_none e kind payload m a (sym (kind_content profile kind payload) ∙ no_content (read_as profile kind) payload f is))
+      | inr (y, k, x) ↦ same (added_none e kind payload m a (status_content kind payload k))
     ]
   ]
 ]
   where
-    same : pieces (with_reply e (Chunk flags kind cookie payload)) ≡ pieces e → Keeps export e (pieces (with_reply e (Chunk flags kind cookie payload)))
+    same : pieces (with_reply e m) ≡ pieces e → Keeps export e (pieces (with_reply e m))
     same s = subst (Keeps export e) (sym s) (record { inside = g.inside; apart = g.apart; reads = g.reads; single = g.single })
 
 -- a chunk
@@ -162,7 +181,7 @@ pub good_chunk : (profile : Profile) (structured : Bool) (export : Exporting) (e
     IsGood export (with_reply e (Chunk flags kind cookie payload))
 unfolding ends_reply is_proper
 good_chunk profile structured export e flags kind cookie payload g not_true_is_false h =
-    let k : Keeps export e (pieces (with_reply e (Chunk flags kind cookie payload))) = kept_chunk profile export e flags kind cookie payload g (chunk_allow profile structured export e flags kind cookie payload h).1 in
+    let k : Keeps export e (pieces (with_reply e (Chunk flags kind cookie payload))) = kept_chunk profile false export e flags kind payload (Chunk flags kind cookie payload) (adds_piece e flags kind cookie payload) g (chunk_allow profile structured export e flags kind cookie payload h).1 in
     record { carried = g.carried; inside = k.inside; apart = k.apart; reads = k.reads; single = k.single; success = λ s. (finish k s).0; covered = λ s. (finish k s).1 }
   where
     finish : Keeps export e (pieces (with_reply e (Chunk flags kind cookie payload))) → outcome (with_reply e (Chunk flags kind cookie payload)) ≡ Success →
@@ -172,6 +191,23 @@ good_chunk profile structured export e flags kind cookie payload g not_true_is_f
         let f : Operation = with_reply e (Chunk flags kind cookie payload) in
         let done : has flags chunks.DONE ≡ true = any-last ends_reply e.replies (Chunk flags kind cookie payload) not_true_is_false w.finished in
         let r = finish_allow export f w.unfailed (subst (λ b. done_fault b export f ≡ None) done (chunk_allow profile structured export e flags kind cookie payload h).2) in
+        (r.0, λ c. total_covers f k.inside k.apart (r.1 c))
+
+-- a chunk with an extended header
+pub good_extended : (profile : Profile) (structured : Bool) (export : Exporting) (e : Operation) (flags kind cookie at : ℕ) (payload : List ℕ) → IsGood export e → is_finished e ≡ false → MayReply profile structured export e (ExtendedChunk flags kind cookie at payload) →
+    IsGood export (with_reply e (ExtendedChunk flags kind cookie at payload))
+unfolding ends_reply is_proper
+good_extended profile structured export e flags kind cookie at payload g not_true_is_false h =
+    let k : Keeps export e (pieces (with_reply e (ExtendedChunk flags kind cookie at payload))) = kept_chunk profile true export e flags kind payload (ExtendedChunk flags kind cookie at payload) (adds_extended e flags kind cookie at payload) g (extended_allow profile structured export e flags kind cookie at payload h).1 in
+    record { carried = g.carried; inside = k.inside; apart = k.apart; reads = k.reads; single = k.single; success = λ s. (finish k s).0; covered = λ s. (finish k s).1 }
+  where
+    finish : Keeps export e (pieces (with_reply e (ExtendedChunk flags kind cookie at payload))) → outcome (with_reply e (ExtendedChunk flags kind cookie at payload)) ≡ Success →
+        IsTrue (is_proper export (with_reply e (ExtendedChunk flags kind cookie at payload))) × (e.command ≡ commands.READ → Covers e (pieces (with_reply e (ExtendedChunk flags kind cookie at payload))))
+    finish k s =
+        let w : Succeeds (with_reply e (ExtendedChunk flags kind cookie at payload)) = succeeds (with_reply e (ExtendedChunk flags kind cookie at payload)) s in
+        let f : Operation = with_reply e (ExtendedChunk flags kind cookie at payload) in
+        let done : has flags chunks.DONE ≡ true = any-last ends_reply e.replies (ExtendedChunk flags kind cookie at payload) not_true_is_false w.finished in
+        let r = finish_allow export f w.unfailed (subst (λ b. done_fault b export f ≡ None) done (extended_allow profile structured export e flags kind cookie at payload h).2) in
         (r.0, λ c. total_covers f k.inside k.apart (r.1 c))
 
 -- a request with one simple reply
@@ -243,10 +279,24 @@ good_simple profile structured export e error cookie payload g may =
     subst (λ rs. IsGood export (record e { replies = rs ++ Simple error cookie payload ∷ [] })) (sym h.0) good
 
 pub good_new : (export : Exporting) (flags command cookie offset len : ℕ) (payload : List ℕ) (contexts : List Context) (sizes : Option Sizes) → IsSendable (Request flags command cookie offset len payload) →
-    IsGood export (record { flags = flags; command = command; cookie = cookie; offset = offset; length = len; payload = payload; contexts = contexts; sizes = sizes; replies = [] })
+    IsGood export (record { extended = false; flags = flags; command = command; cookie = cookie; offset = offset; length = len; payload = payload; contexts = contexts; sizes = sizes; replies = [] })
 unfolding IsSendable
 good_new export flags command cookie offset len payload contexts sizes sn = record {
   carried = λ c. sn.5 ∙ ap (λ b. if b then len else 0) (eq-eqb command commands.WRITE c);
+  inside = tt;
+  apart = tt;
+  reads = λ n. refl;
+  single = λ p d. omega arith;
+  success = λ s. absurd (cc);
+  covered = λ s. absurd (cc);
+}
+
+pub good_asked : (export : Exporting) (flags command cookie offset len : ℕ) (payload : List ℕ) (contexts : List Context) (sizes : Option Sizes) → IsSendable (ExtendedRequest flags command cookie offset len payload) →
+    IsGood export (record { extended = true; flags = flags; command = command; cookie = cookie; offset = offset; length = len; payload = written command payload; contexts = contexts; sizes = sizes; replies = [] })
+unfolding IsSendable
+good_asked export flags command cookie offset len payload contexts sizes sn = record {
+  carried = λ c. (let w : (command == commands.WRITE) ≡ true = eq-eqb command commands.WRITE c in
+      ap (λ b. length (if b then payload else [])) w ∙ sn.5 ∙ ap (λ b. if b || has flags command_flags.PAYLOAD_LEN then len else 0) w);
   inside = tt;
   apart = tt;
   reads = λ n. refl;

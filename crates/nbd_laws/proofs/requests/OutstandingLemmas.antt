@@ -1,19 +1,19 @@
 -- The outstanding requests of a core have distinct cookies.
 use Rattle.std.proofs.Common.{◌≡◌, ℕ, zero, suc, ◌+◌, ◌==◌, ◌&&◌, ◌||◌, not, ◌<◌, ◌≤◌, length, List, [], ◌∷◌, ◌++◌, refl, sym, ◌∙◌, ap, subst, Option, Some, None, Bool, true, false, if◌then◌else◌, arith, eqb-true, eq-eqb, IsTrue, is_some}
-use Rattle.nbd_laws.proofs.judge.AllowLemmas.{ask_allow}
+use Rattle.nbd_laws.proofs.judge.AllowLemmas.{ask_allow, extended_ask_allow}
 use Rattle.nbd_laws.specs.Allowed.{MayAsk}
 use Rattle.nbd_wire.specs.declared.entry.Entry.{Entry}
 use Rattle.nbd_wire.specs.protocol.Entries.{IsServedAt, MayServe}
 use Rattle.nbd_wire.specs.declared.commands.TheConstants as commands
 use Rattle.nbd_wire.specs.declared.message.Side.TheVariants.{Server}
 use Rattle.nbd_wire.specs.declared.message.Message.{Message}
-use Rattle.nbd_wire.specs.declared.message.Message.TheVariants.{Greeting, ClientFlags, Choice, Answer, Exported, Request, Simple, Chunk}
+use Rattle.nbd_wire.specs.declared.message.Message.TheVariants.{Greeting, ClientFlags, Choice, Answer, Exported, Request, Simple, Chunk, ExtendedRequest, ExtendedChunk}
 use Rattle.nbd_wire.specs.declared.profile.Profile.{Profile}
 use Rattle.nbd_wire.specs.protocol.Reports.{operations_of, report}
 use Rattle.nbd_wire.specs.protocol.Marks.{Item, Byte, Starts, Completes, Serves, service_order}
 use Rattle.nbd_wire.specs.protocol.Operations.{Operation, Exporting, any, ends_reply, is_finished}
 use Rattle.nbd_wire.specs.protocol.Rules.{MayComplete, MayStartIn, Obeys, after, request_of_reply, complete, cookie_of, ends_at, inside_at, makes_due, reply_to, core_with_request, target_of}
-use Rattle.nbd_wire.specs.protocol.States.{Core, Phase, State, Greet, Flags, Choosing, Naming, Aborting, Answering, Ended, Transmission, with_reply_at, operation, is_awaiting, start, start_of, target, target_from, with_reply, export_in}
+use Rattle.nbd_wire.specs.protocol.States.{Core, Phase, State, Greet, Flags, Choosing, Naming, Aborting, Answering, Ended, Transmission, has_contexts, with_reply_at, operation, is_awaiting, start, start_of, target, target_from, with_reply, export_in}
 use Rattle.nbd_laws.proofs.runs.PartLemmas.{obeys_back, obeys_prefix, served_in}
 use Rattle.nbd_laws.proofs.runs.ProfileLemmas.{at_base, phase_at_base}
 use Rattle.nbd_laws.specs.Service.{AnswersRequest, CookiesAreDistinct, EachReplyAnswersOne, EmptyIsExplained, ServedOnceAfterCompletion}
@@ -109,9 +109,12 @@ distinct_complete core phase (Choice id p) ok d = d
 distinct_complete core phase (Answer option kind p) ok d = d
 distinct_complete core phase (Exported size flags padded) ok d = d
 distinct_complete core (Transmission export) (Request flags command cookie offset len p) ok d = distinct_requested (command == commands.DISC) core _ offset len (ask_allow core command cookie offset len ok.0 ok.1) d
+distinct_complete core (Transmission export) (ExtendedRequest flags command cookie offset len p) ok d = distinct_requested (command == commands.DISC) core _ offset len (extended_ask_allow core (has_contexts core) flags command cookie offset len ok.0 ok.1) d
 distinct_complete core phase (Request flags command cookie offset len p) ok d = absurd ok
+distinct_complete core phase (ExtendedRequest flags command cookie offset len p) ok d = absurd ok
 distinct_complete core phase (Simple error cookie p) ok d = distinct_reply_to (request_of_reply core (Simple error cookie p)) core (Simple error cookie p) d
 distinct_complete core phase (Chunk flags kind cookie p) ok d = distinct_reply_to (request_of_reply core (Chunk flags kind cookie p)) core (Chunk flags kind cookie p) d
+distinct_complete core phase (ExtendedChunk flags kind cookie at p) ok d = distinct_reply_to (request_of_reply core (ExtendedChunk flags kind cookie at p)) core (ExtendedChunk flags kind cookie at p) d
 
 pub distinct : (state : State) (items : List Item) → Obeys state items → AreDistinct state.core.entries → AreDistinct (ends_at state items).core.entries
 distinct state [] ob d = d
@@ -215,7 +218,7 @@ each_reply_answers_one profile prefix back m export run e = go (cookie_of m) ref
 
     some : IsTrue (is_some (target_of (cookie_of m) (operations_of prefix)))
     some = subst (λ (c : Core). IsTrue (is_some (request_of_reply c m))) (at_base profile prefix)
-        (subst (λ phase. MayStartIn phase (ends_at (start_of profile) prefix).core Server m) (phase_at_base profile prefix ∙ in_transmission (ends_at start prefix).core.phase export e) ob.0.2)
+        (subst (λ phase. MayStartIn phase (ends_at (start_of profile) prefix).core Server m) (phase_at_base profile prefix ∙ in_transmission (ends_at start prefix).core.phase export e) ob.0.2).0
 
     served : (k x : ℕ) → IsTrue (makes_due (ends_at (start_of profile) prefix).core (Starts Server m) k x) → IsServedAt (inside_at (ends_at start prefix).core k) (service_order prefix) k x
     served k x h =

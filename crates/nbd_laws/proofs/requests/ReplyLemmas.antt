@@ -1,20 +1,20 @@
 -- The replies to a request are one simple reply, or chunks of which the last and only the last ends the reply.
 use Rattle.std.proofs.Common.{◌≡◌, ℕ, zero, suc, ◌==◌, ◌||◌, List, [], ◌∷◌, ◌++◌, refl, sym, ◌∙◌, ap, subst, inl, inr, Option, Some, None, Bool, true, false, not, eqb-true}
-use Rattle.nbd_laws.proofs.judge.AllowLemmas.{chunk_allow, finish_allow, simple_allow}
+use Rattle.nbd_laws.proofs.judge.AllowLemmas.{chunk_allow, extended_allow, finish_allow, simple_allow}
 use Rattle.nbd_laws.specs.Allowed.{IsChunk}
 use Rattle.nbd_wire.specs.protocol.Flags.{has}
 use Rattle.nbd_wire.specs.declared.chunks.TheConstants as chunks
 use Rattle.nbd_wire.specs.protocol.Transmission.{done_fault}
 use Rattle.nbd_wire.specs.declared.commands.TheConstants as commands
 use Rattle.nbd_wire.specs.declared.message.Message.{Message}
-use Rattle.nbd_wire.specs.declared.message.Message.TheVariants.{Greeting, ClientFlags, Choice, Answer, Exported, Request, Simple, Chunk}
+use Rattle.nbd_wire.specs.declared.message.Message.TheVariants.{Greeting, ClientFlags, Choice, Answer, Exported, Request, Simple, Chunk, ExtendedRequest, ExtendedChunk}
 use Rattle.nbd_wire.specs.protocol.Rules.{MayReply}
 use Rattle.nbd_wire.specs.protocol.Sizes.{sizes_for, sizes_kept}
 use Rattle.nbd_wire.specs.protocol.Reports.{operations_of}
 use Rattle.nbd_wire.specs.protocol.Operations.{Operation, Exporting, any, ends_reply, is_finished}
-use Rattle.nbd_wire.specs.protocol.Rules.{MayComplete, complete, cookie_of, ends_at, grants_structured, reply_to, core_with_request}
+use Rattle.nbd_wire.specs.protocol.Rules.{MayComplete, operation_asked, written, complete, cookie_of, ends_at, grants_structured, reply_to, core_with_request}
 use Rattle.nbd_wire.specs.protocol.States.{Core, Phase, Greet, Flags, Choosing, Naming, Aborting, Answering, Transmission, with_reply_at, operation, start, start_of, target, with_reply, in_force}
-use Rattle.nbd_laws.proofs.runs.PrefixLemmas.{InTransmission, asks, gives, replies, transmission_row}
+use Rattle.nbd_laws.proofs.runs.PrefixLemmas.{InTransmission, asks, gives, replies, transmission_row, asks_more, gives_more}
 use Rattle.nbd_laws.specs.Reached.{IsReached, at_start, after_message}
 use Rattle.nbd_laws.proofs.requests.OutstandingLemmas.{IsFound, both_true, find}
 use Rattle.nbd_laws.proofs.runs.ProfileLemmas.{at_base, profile_end, profile_stays}
@@ -94,12 +94,14 @@ each_answered profile structured (suc zero) m (x ∷ es) e w h r =
     moved : (profile : Profile) (structured : Bool) (x : Operation) (m : Message) (prefix : List Message) (n : Message) → IsReplyAfter profile structured x prefix n → IsReplyAfter profile structured (with_reply x m) prefix n
     moved profile structured x m prefix (Simple error cookie payload) h = (h.0, h.1, λ q. h.2 q)
     moved profile structured x m prefix (Chunk flags kind cookie payload) h = h
+    moved profile structured x m prefix (ExtendedChunk flags kind cookie at payload) h = h
     moved profile structured x m prefix (Greeting flags) h = h
     moved profile structured x m prefix (ClientFlags flags) h = h
     moved profile structured x m prefix (Choice id payload) h = h
     moved profile structured x m prefix (Answer option kind payload) h = h
     moved profile structured x m prefix (Exported size flags padded) h = h
     moved profile structured x m prefix (Request flags command cookie offset len payload) h = h
+    moved profile structured x m prefix (ExtendedRequest flags command cookie offset len payload) h = h
 each_answered profile structured (suc (suc k)) m (x ∷ es) e w h r = (w.0, each_answered profile structured (suc k) m es e w.1 h r)
 
 each_reply_to : (profile : Profile) (structured : Bool) (core : Core) (m : Message) (o : Option ℕ) (k : ℕ) (e : Operation) → o ≡ Some k → EachIsWhole profile structured core.entries → operation k core.entries ≡ Some e →
@@ -132,7 +134,7 @@ chunk_behind profile structured export e flags kind cookie p may = go (chunk_all
     f : Operation
     f = with_reply e (Chunk flags kind cookie p)
 
-    go : (structured ≡ true) × IsChunk profile export e flags kind p × (done_fault (has flags chunks.DONE) export f ≡ None) → IsReplyAfter profile structured e e.replies (Chunk flags kind cookie p)
+    go : (structured ≡ true) × IsChunk profile false export e flags kind p × (done_fault (has flags chunks.DONE) export f ≡ None) → IsReplyAfter profile structured e e.replies (Chunk flags kind cookie p)
     go h = (
       h.0,
       elim h.1 [
@@ -140,6 +142,24 @@ chunk_behind profile structured export e flags kind cookie p may = go (chunk_all
         | inr r ↦ elim r [ inl c ↦ inr (inl (c.0, c.1, c.2.0)) | inr o ↦ elim o [ inl f ↦ inr (inr (inl f)) | inr s ↦ inr (inr (inr s)) ] ]
       ],
       λ done well c n. (finish_allow export f well (subst (λ b. done_fault b export f ≡ None) done h.2)).2 c n,
+    )
+
+extended_behind : (profile : Profile) (structured : Bool) (export : Exporting) (e : Operation) (flags kind cookie at : ℕ) (p : List ℕ) → MayReply profile structured export e (ExtendedChunk flags kind cookie at p) → IsReplyAfter profile structured e e.replies (ExtendedChunk flags kind cookie at p)
+unfolding ends_reply
+extended_behind profile structured export e flags kind cookie at p may = go (extended_allow profile structured export e flags kind cookie at p may)
+  where
+    f : Operation
+    f = with_reply e (ExtendedChunk flags kind cookie at p)
+
+    go : (structured ≡ true) × IsChunk profile true export e flags kind p × (done_fault (has flags chunks.DONE) export f ≡ None) × (at ≡ e.offset) → IsReplyAfter profile structured e e.replies (ExtendedChunk flags kind cookie at p)
+    go h = (
+      h.0,
+      elim h.1 [
+        | inl q ↦ inl q
+        | inr r ↦ elim r [ inl c ↦ inr (inl (c.0, c.1, c.2.0)) | inr o ↦ elim o [ inl f ↦ inr (inr (inl f)) | inr s ↦ inr (inr (inr s)) ] ]
+      ],
+      λ done well c n. (finish_allow export f well (subst (λ b. done_fault b export f ≡ None) done h.2)).2 c n,
+      h.3,
     )
 
 structured-requested : (b : Bool) (core : Core) (e : Operation) → (core_with_request b core e).structured ≡ core.structured
@@ -153,7 +173,10 @@ structured-reply_to None core m = refl
 whole_complete : (core : Core) (export : Exporting) (m : Message) → InTransmission core export m → EachIsWhole core.profile core.structured core.entries → EachIsWhole core.profile (complete core m).structured (complete core m).entries
 unfolding complete
 whole_complete core export m (asks flags command cookie offset len p h) w =
-    let e : Operation = record { flags = flags; command = command; cookie = cookie; offset = offset; length = len; payload = p; contexts = in_force core; sizes = sizes_for core.structured command (sizes_kept core.sizing); replies = [] } in
+    let e : Operation = operation_asked false core flags command cookie offset len p in
+    subst (λ b. EachIsWhole core.profile b (core_with_request (command == commands.DISC) core e).entries) (sym (structured-requested (command == commands.DISC) core e)) (each_requested core.profile (command == commands.DISC) core.structured core e refl w)
+whole_complete core export m (asks_more flags command cookie offset len p h) w =
+    let e : Operation = operation_asked true core flags command cookie offset len (written command p) in
     subst (λ b. EachIsWhole core.profile b (core_with_request (command == commands.DISC) core e).entries) (sym (structured-requested (command == commands.DISC) core e)) (each_requested core.profile (command == commands.DISC) core.structured core e refl w)
 whole_complete core export m (replies error cookie p (k, e, found, is, h)) w =
     subst (λ b. EachIsWhole core.profile b (reply_to (target cookie core.entries) core (Simple error cookie p)).entries) (sym (structured-reply_to (target cookie core.entries) core (Simple error cookie p)))
@@ -163,6 +186,10 @@ whole_complete core export m (gives flags kind cookie p (k, e, found, is, h)) w 
     subst (λ b. EachIsWhole core.profile b (reply_to (target cookie core.entries) core (Chunk flags kind cookie p)).entries) (sym (structured-reply_to (target cookie core.entries) core (Chunk flags kind cookie p)))
     (each_reply_to core.profile core.structured core (Chunk flags kind cookie p) (target cookie core.entries) k e found w is
     (λ x. whole_snoc core.profile core.structured e (Chunk flags kind cookie p) (open_target core cookie k e found is) x (ap Some (sym (found_cookie core cookie k e found is))) (chunk_behind core.profile core.structured export e flags kind cookie p h)))
+whole_complete core export m (gives_more flags kind cookie at p (k, e, found, is, h)) w =
+    subst (λ b. EachIsWhole core.profile b (reply_to (target cookie core.entries) core (ExtendedChunk flags kind cookie at p)).entries) (sym (structured-reply_to (target cookie core.entries) core (ExtendedChunk flags kind cookie at p)))
+    (each_reply_to core.profile core.structured core (ExtendedChunk flags kind cookie at p) (target cookie core.entries) k e found w is
+    (λ x. whole_snoc core.profile core.structured e (ExtendedChunk flags kind cookie at p) (open_target core cookie k e found is) x (ap Some (sym (found_cookie core cookie k e found is))) (extended_behind core.profile core.structured export e flags kind cookie at p h)))
 
 abbrev complete_structured : Core → ℕ → ℕ → Bool
 complete_structured core option kind = core.structured || grants_structured option kind

@@ -10,7 +10,7 @@ use Rattle.nbd_wire.specs.declared.options.TheConstants as options
 use Rattle.nbd_wire.specs.declared.transmission.TheConstants as transmission
 use Rattle.nbd_wire.specs.declared.message.Side.TheVariants.{Client, Server}
 use Rattle.nbd_wire.specs.declared.message.Message.{Message}
-use Rattle.nbd_wire.specs.declared.message.Message.TheVariants.{Greeting, ClientFlags, Choice, Answer, Exported, Simple, Chunk}
+use Rattle.nbd_wire.specs.declared.message.Message.TheVariants.{Greeting, ClientFlags, Choice, Answer, Exported, Simple, Chunk, ExtendedRequest, ExtendedChunk}
 use Rattle.nbd_wire.specs.declared.payloads.Info.{Info}
 use Rattle.nbd_wire.specs.declared.payloads.Info.TheVariants.{Export, BlockSize, Other}
 use Rattle.nbd_wire.specs.protocol.Marks.{Item, Byte, Starts, Completes, Serves}
@@ -27,7 +27,7 @@ use Rattle.nbd_wire.specs.protocol.Rules.{MayComplete, request_of_reply, complet
 use Rattle.nbd_wire.specs.protocol.Sendable.{IsSendable}
 use Rattle.nbd_wire.specs.protocol.States.{Core, Phase, Greet, Flags, Choosing, Naming, Aborting, Answering, Ended, Transmission, with_reply_at, operation, start, target, with_reply, export_in, in_force}
 use Rattle.nbd_laws.specs.Soundness.{IsAfter, IsSoundAsked, IsSoundReport, ReportsAreSound}
-use Rattle.nbd_laws.proofs.runs.PrefixLemmas.{InTransmission, asks, gives, phase-complete, replies, transmission_row}
+use Rattle.nbd_laws.proofs.runs.PrefixLemmas.{InTransmission, asks, gives, phase-complete, replies, transmission_row, asks_more, gives_more}
 use Rattle.nbd_wire.specs.declared.command_flags.TheConstants as command_flags
 use Rattle.nbd_wire.specs.protocol.Statuses.{zeroes}
 use Rattle.nbd_laws.proofs.requests.LaidLemmas.{AreApart, AreInside, are_laid}
@@ -41,7 +41,7 @@ use Rattle.nbd_laws.proofs.runs.RunLemmas.{core_end-ends_at}
 use Rattle.nbd_laws.proofs.requests.ReportLemmas.{asked-report, length-report, stated, told_if}
 use Rattle.nbd_laws.proofs.service.SoonerLemmas.{IsSooner, sooner_at_end}
 use Rattle.nbd_laws.proofs.runs.TraceLemmas.{answered_by-within}
-use Rattle.nbd_laws.proofs.requests.GoodLemmas.{AreGood, IsGood, good_answered, good_chunk, good_entry, good_new, good_simple, good_snoc}
+use Rattle.nbd_laws.proofs.requests.GoodLemmas.{AreGood, IsGood, good_answered, good_chunk, good_entry, good_new, good_simple, good_snoc, good_asked, good_extended}
 use Rattle.nbd_wire.specs.protocol.Contexts.{Selection}
 
 -- what a phase says of its requests
@@ -68,11 +68,15 @@ good_requested false core export e g h = good_snoc export core.entries e g h
 good_transmitted : (core : Core) (export : Exporting) (m : Message) → InTransmission core export m → IsSendable m → AreGood export core.entries → AreGood export (complete core m).entries
 unfolding complete
 good_transmitted core export m (asks flags command cookie offset len p h) sn g = good_requested (command == commands.DISC) core export _ g (good_new export flags command cookie offset len p (in_force core) (sizes_for core.structured command (sizes_kept core.sizing)) sn)
+good_transmitted core export m (asks_more flags command cookie offset len p h) sn g = good_requested (command == commands.DISC) core export _ g (good_asked export flags command cookie offset len p (in_force core) (sizes_for core.structured command (sizes_kept core.sizing)) sn)
 good_transmitted core export m (replies error cookie p (k, e, found, is, h)) sn g =
     good_reply_to core export cookie (Simple error cookie p) (target cookie core.entries) g k e found is (good_simple core.profile core.structured export e error cookie p (good_entry export k core.entries e g is) h)
 good_transmitted core export m (gives flags kind cookie p (k, e, found, is, h)) sn g =
     good_reply_to core export cookie (Chunk flags kind cookie p) (target cookie core.entries) g k e found is
     (good_chunk core.profile core.structured export e flags kind cookie p (good_entry export k core.entries e g is) (open_target core cookie k e found is) h)
+good_transmitted core export m (gives_more flags kind cookie at p (k, e, found, is, h)) sn g =
+    good_reply_to core export cookie (ExtendedChunk flags kind cookie at p) (target cookie core.entries) g k e found is
+    (good_extended core.profile core.structured export e flags kind cookie at p (good_entry export k core.entries e g is) (open_target core cookie k e found is) h)
 
 -- after an answer to an option
 module _ (asked : ℕ) (asked_with : List ℕ) (info : Option Exporting) (es : List Operation) (g : InPhase (Answering asked asked_with info) es) where
@@ -127,12 +131,12 @@ module _ (asked : ℕ) (asked_with : List ℕ) (info : Option Exporting) (es : L
     ]
   ]
 
-  -- an ACK to an option on contexts does not lead into transmission
-  ended_in : (asked ≡ options.LIST_META_CONTEXT) ⊎ (asked ≡ options.SET_META_CONTEXT) → InPhase (ack_phase asked info) es
+  -- an ACK to an option that Wide alone follows does not lead into transmission
+  ended_in : (asked ≡ options.LIST_META_CONTEXT) ⊎ (asked ≡ options.SET_META_CONTEXT) ⊎ (asked ≡ options.EXTENDED_HEADERS) → InPhase (ack_phase asked info) es
   ended_in on = go info
     where
       no_go : (asked == options.GO) ≡ true → ⊥
-      no_go e = let q : asked ≡ options.GO = eqb-true asked options.GO e in elim on [ inl o ↦ absurd (omega arith) | inr o ↦ absurd (omega arith) ]
+      no_go e = let q : asked ≡ options.GO = eqb-true asked options.GO e in elim on [ inl o ↦ absurd (omega arith) | inr o ↦ elim o [ inl o ↦ absurd (omega arith) | inr o ↦ absurd (omega arith) ] ]
 
       go : (o : Option Exporting) → InPhase (ack_phase asked o) es
       go None = g.0
@@ -204,7 +208,7 @@ pub proper_range : (export : Exporting) (e : Operation) → IsTrue (is_proper ex
 unfolding is_proper
 proper_range export e h r =
     let a = both_true _ (not (e.command == commands.FLUSH) || ((e.offset == 0) && (e.length == 0))) h in
-    let b = both_true _ (requests_flags.has_only e.flags (requests.allowed_flags export.flags e.command)) a.0 in
+    let b = both_true _ (requests_flags.has_only e.flags (requests.allowed_flags e.extended export.flags e.command)) a.0 in
     let c = both_true _ (not (requests.is_change e.command) || not (has export.flags transmission.READ_ONLY)) b.0 in
     let d = both_true _ (requests.is_offered export.flags e.command) c.0 in
     let f = both_true (requests.is_known e) (not (has_range e.command) || nat_le (e.offset + e.length) export.size) d.0 in

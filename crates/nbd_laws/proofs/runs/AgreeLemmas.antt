@@ -9,8 +9,8 @@ use Rattle.std.proofs.Common.{◌<◌}
 use Rattle.nbd_laws.specs.Profiles.{DuesAgree, RunsAgree}
 use Rattle.nbd_wire.specs.protocol.Places.{IsUnderWayOf}
 use Rattle.nbd_wire.specs.protocol.Captures.{ArePairs}
-use Rattle.nbd_wire.specs.protocol.Decisions.{answer, answer_of, begins, chunk_last_fault, chunk_of, chunk_to, operation_of, reply_by}
-use Rattle.nbd_wire.specs.protocol.Negotiation.{ack_fault, answer_fault, info_fault, is_wide, answers_option, earlier_to, is_bad_payload, is_followed, is_good_context, is_good_info, is_on_contexts, payload_fault, success_fault}
+use Rattle.nbd_wire.specs.protocol.Decisions.{answer, answer_of, begins, chunk_last_fault, chunk_of, chunk_to, extended_chunk_of, extended_chunk_to, extended_last_fault, extended_reply_by, operation_of, reply_by, reply_in, request_by}
+use Rattle.nbd_wire.specs.protocol.Negotiation.{ack_fault, answer_fault, info_fault, is_wide, answers_option, earlier_to, is_bad_payload, is_followed, is_good_context, is_good_info, extends, payload_fault, success_fault}
 use Rattle.nbd_wire.specs.protocol.Reading.{Both, by_tests, judge_in, last_reading, read_by, reading_by_decision, staged_reading_by, request_unless, Bad, Reader, More, Reading, Rest, Whole, fresh_of, get, old_by, on_ok, reads, rest_with, settle, step}
 use Rattle.nbd_wire.specs.protocol.Tests.{fault_if}
 use Rattle.nbd_wire.specs.protocol.Explains.{IsExplainedOf}
@@ -29,7 +29,7 @@ use Rattle.nbd_laws.proofs.service.ExplainingLemmas.{explained_passes, passing_i
 use Rattle.nbd_laws.proofs.service.ServiceLemmas.{reports_ignore_service}
 use Rattle.nbd_laws.proofs.runs.RunLemmas.{fresh_held, walk_of}
 use Rattle.nbd_wire.specs.protocol.Contexts.{Selection}
-use Rattle.nbd_wire.specs.declared.magics.TheConstants.{ANSWER_MAGIC, CHUNK_MAGIC, SIMPLE_MAGIC}
+use Rattle.nbd_wire.specs.declared.magics.TheConstants.{ANSWER_MAGIC, CHUNK_MAGIC, EXTENDED_CHUNK_MAGIC, SIMPLE_MAGIC}
 use Rattle.nbd_wire.specs.declared.fault.WireFault.{WireFault}
 use Rattle.nbd_wire.specs.declared.fault.WireFault.TheVariants.{BadMagic, SuccessOfImproper}
 use Rattle.nbd_wire.specs.protocol.Captures.{Pair}
@@ -46,7 +46,7 @@ use Rattle.nbd_laws.proofs.judge.BoolLemmas.{and_false, fault_none, not_false, o
 use Rattle.nbd_laws.proofs.judge.ExactNegotiationLemmas.{no_fault_if}
 use Rattle.nbd_wire.specs.declared.entry.Entry.{Entry}
 use Rattle.nbd_wire.specs.declared.message.Message.{Message}
-use Rattle.nbd_wire.specs.declared.message.Message.TheVariants.{Greeting, ClientFlags, Choice, Answer, Exported, Request, Simple, Chunk}
+use Rattle.nbd_wire.specs.declared.message.Message.TheVariants.{Greeting, ClientFlags, Choice, Answer, Exported, Request, Simple, Chunk, ExtendedRequest, ExtendedChunk}
 use Rattle.nbd_wire.specs.declared.message.Side.{Side}
 use Rattle.nbd_wire.specs.declared.message.Side.TheVariants.{Client, Server}
 use Rattle.nbd_wire.specs.declared.options.TheConstants as options
@@ -54,10 +54,10 @@ use Rattle.nbd_wire.specs.declared.profile.Profile.{Profile}
 use Rattle.nbd_wire.specs.declared.profile.Profile.TheVariants.{Base, Wide}
 use Rattle.nbd_wire.specs.protocol.Marks.{Item, Byte, Starts, Completes, Serves, completed_messages}
 use Rattle.nbd_wire.specs.protocol.Operations.{Exporting, Operation, is_error_chunk}
-use Rattle.nbd_wire.specs.protocol.Transmission.{chunk_fault, chunk_head_fault, read_as}
+use Rattle.nbd_wire.specs.protocol.Transmission.{chunk_fault, chunk_head_fault, extended_head_fault, offset_fault, read_as}
 use Rattle.nbd_wire.specs.declared.chunks.TheConstants as chunks
 use Rattle.nbd_laws.specs.Allowed.{IsChunk}
-use Rattle.nbd_laws.proofs.judge.AllowLemmas.{chunk_allow}
+use Rattle.nbd_laws.proofs.judge.AllowLemmas.{chunk_allow, extended_allow}
 use Rattle.nbd_laws.proofs.judge.KindLemmas.{error_content, no_other, read_kind}
 use Rattle.nbd_laws.proofs.requests.GoodLemmas.{failure_kind}
 use Rattle.nbd_wire.specs.declared.answers.TheConstants as answers
@@ -80,7 +80,7 @@ follows_wide : (profile : Profile) (option : ℕ) → is_followed profile option
 follows_wide Wide option e = e
 follows_wide Base option e = go (option == options.LIST) (option == options.INFO) (option == options.GO) (option == options.STRUCTURED_REPLY) e
   where
-    go : (a b c d : Bool) → (a || (b || (c || (d || false)))) ≡ true → (a || (b || (c || (d || is_on_contexts option)))) ≡ true
+    go : (a b c d : Bool) → (a || (b || (c || (d || false)))) ≡ true → (a || (b || (c || (d || extends option)))) ≡ true
     go true b c d e = refl
     go false true c d e = refl
     go false false true d e = refl
@@ -121,8 +121,8 @@ last_wide profile earlier proper kind payload fair e =
         (λ i. g.0 i || (not (w i) || k.1 i))
 
 -- in Base a chunk is of a type that Wide reads as it is
-known_kind : (export : Exporting) (e : Operation) (flags kind : ℕ) (payload : List ℕ) → IsChunk Base export e flags kind payload → read_as Wide kind ≡ kind
-known_kind export e flags kind payload h = elim (read_kind Wide kind) [
+known_kind : (extended : Bool) (export : Exporting) (e : Operation) (flags kind : ℕ) (payload : List ℕ) → IsChunk Base extended export e flags kind payload → read_as Wide kind ≡ kind
+known_kind extended export e flags kind payload h = elim (read_kind Wide kind) [
   | inl q ↦ q
   | inr (x, q) ↦ elim h [
     | inl n ↦ absurd (other x chunks.NONE (omega arith) n.0)
@@ -130,7 +130,7 @@ known_kind export e flags kind payload h = elim (read_kind Wide kind) [
       | inl (piece, is, fit) ↦ absurd (let z : Some piece ≡ None = sym is ∙ error_content kind payload x in (cc))
       | inr o ↦ elim o [
         | inl (f, is, y) ↦ elim (failure_kind kind payload f is) [ inl k ↦ q ∙ sym k | inr k ↦ subst (λ k. read_as Wide k ≡ k) (sym k) refl ]
-        | inr (k, y) ↦ absurd (other x chunks.BLOCK_STATUS (omega arith) k)
+        | inr (z, k, y) ↦ absurd (other x chunks.BLOCK_STATUS (omega arith) k)
       ]
     ]
   ]
@@ -145,7 +145,17 @@ unfolding MayReply
 chunk_wide Wide structured export e flags kind cookie payload may = may
 chunk_wide Base structured export e flags kind cookie payload may = (
   may.0,
-  ap (λ k. chunk_fault (kind == chunks.NONE) export e (with_reply e (Chunk flags kind cookie payload)) flags k payload) (known_kind export e flags kind payload (chunk_allow Base structured export e flags kind cookie payload may).1) ∙ may.1,
+  ap (λ k. chunk_fault false (kind == chunks.NONE) export e (with_reply e (Chunk flags kind cookie payload)) flags k payload) (known_kind false export e flags kind payload (chunk_allow Base structured export e flags kind cookie payload may).1) ∙ may.1,
+)
+
+extended_wide : (profile : Profile) (structured : Bool) (export : Exporting) (e : Operation) (flags kind cookie at : ℕ) (payload : List ℕ) → MayReply profile structured export e (ExtendedChunk flags kind cookie at payload) →
+    MayReply Wide structured export e (ExtendedChunk flags kind cookie at payload)
+unfolding MayReply
+extended_wide Wide structured export e flags kind cookie at payload may = may
+extended_wide Base structured export e flags kind cookie at payload may = (
+  may.0,
+  ap (λ k. chunk_fault true (kind == chunks.NONE) export e (with_reply e (ExtendedChunk flags kind cookie at payload)) flags k payload) (known_kind true export e flags kind payload (extended_allow Base structured export e flags kind cookie at payload may).1) ∙ may.1,
+  may.2,
 )
 
 -- what may complete may do so in Wide, but for false announcements
@@ -170,6 +180,8 @@ may_wide core (Answering asked given info) (Answer option kind payload) fair (at
     last false e = last_wide core.profile _ _ kind payload (λ k sizes h e. fair (k, (sizes, h, e))) e
 may_wide core (Transmission export) (Request flags command cookie offset len payload) fair ok = ok
 may_wide core (Transmission export) (Simple error cookie payload) fair ok = ok
+may_wide core (Transmission export) (ExtendedRequest flags command cookie offset len payload) fair ok = ok
+may_wide core (Transmission export) (ExtendedChunk flags kind cookie at payload) fair (k, e, found, is, may) = (k, e, found, is, extended_wide core.profile core.structured export e flags kind cookie at payload may)
 may_wide core (Transmission export) (Chunk flags kind cookie payload) fair (k, e, found, is, may) = (k, e, found, is, chunk_wide core.profile core.structured export e flags kind cookie payload may)
 may_wide core phase m fair ok = absurd ok
 
@@ -236,8 +248,8 @@ staged_end : (fault : Option WireFault) (end other : Reading) → staged_reading
 staged_end None end other = refl
 staged_end (Some f) end other = refl
 
-followed_either : (p q : Profile) (option : ℕ) → is_on_contexts option ≡ false → is_followed p option ≡ is_followed q option
-followed_either p q option e = ap (λ x. (option == options.LIST) || ((option == options.INFO) || ((option == options.GO) || ((option == options.STRUCTURED_REPLY) || x)))) (none p (is_on_contexts option) e ∙ sym (none q (is_on_contexts option) e))
+followed_either : (p q : Profile) (option : ℕ) → extends option ≡ false → is_followed p option ≡ is_followed q option
+followed_either p q option e = ap (λ x. (option == options.LIST) || ((option == options.INFO) || ((option == options.GO) || ((option == options.STRUCTURED_REPLY) || x)))) (none p (extends option) e ∙ sym (none q (extends option) e))
   where
     none : (p : Profile) (x : Bool) → x ≡ false → (is_wide p && x) ≡ false
     none Base x e = refl
@@ -278,9 +290,9 @@ module _ (option : ℕ) (given : List ℕ) (proper takes : Bool) (info : Option 
   answer_either p q none = go (nat_lt (length bytes) 20) refl (is_error (number_at 12 4 bytes)) refl (length bytes == 20 + number_at 16 4 bytes) refl
     where
       head_same : nat_lt (length bytes) 20 ≡ false → is_error (number_at 12 4 bytes) ≡ false → at_head p false ≡ at_head q false
-      head_same l e = by (is_on_contexts option) refl
+      head_same l e = by (extends option) refl
         where
-          by : (c : Bool) → is_on_contexts option ≡ c → at_head p false ≡ at_head q false
+          by : (c : Bool) → extends option ≡ c → at_head p false ≡ at_head q false
           by true c = absurd (none (inl (c, ltb-false (length bytes) 20 l, e)))
           by false c = ap (λ f. fault_if (not (number_at 0 8 bytes == ANSWER_MAGIC)) BadMagic (answer_fault option (number_at 8 4 bytes)
               (fault_if (not f) OutOfProfile (fault_if (not (answers_option option takes (number_at 12 4 bytes))) BadReplyKind
@@ -321,12 +333,32 @@ module _ (export : Exporting) (now : Core) (q : Profile) (bytes : List ℕ) wher
       last_same : length bytes ≡ 20 + number_at 16 4 bytes → (o : Option Operation) → chunk_last_fault q export o bytes ≡ chunk_last_fault now.profile export o bytes
       last_same l None = refl
       last_same l (Some e) =
-          let known = kinds_agree (number_at 6 2 bytes) (λ is n m. none (inr (inr (magic, l, is, n, m)))) in
-          ap (λ k. chunk_fault (number_at 6 2 bytes == chunks.NONE) export e (with_reply e (chunk_of bytes)) (number_at 4 2 bytes) k (drop 20 bytes)) (known q ∙ sym (known now.profile))
+          let known = kinds_agree (number_at 6 2 bytes) (λ is n m. none (inr (inr (inl (magic, l, is, n, m))))) in
+          ap (λ k. chunk_fault false (number_at 6 2 bytes == chunks.NONE) export e (with_reply e (chunk_of bytes)) (number_at 4 2 bytes) k (drop 20 bytes)) (known q ∙ sym (known now.profile))
 
       go : (low whole : Bool) → (length bytes == 20 + number_at 16 4 bytes) ≡ whole → staged_reading_by low head whole (end q) ≡ staged_reading_by low head whole (end now.profile)
       go true w y = refl
       go false true y = ap (λ f. staged_reading_by false head true (last_reading f (chunk_of bytes))) (last_same (eqb-true _ _ y) o)
+      go false false y = staged_end head (end q) (end now.profile)
+
+  extended_either : (o : Option Operation) → begins EXTENDED_CHUNK_MAGIC bytes ≡ true → (IsParting (Transmission export) bytes → ⊥) → read_by (extended_chunk_to export (with_profile q now) o bytes) bytes ≡ read_by (extended_chunk_to export now o bytes) bytes
+  extended_either o magic none = go (nat_lt (length bytes) 32) (length bytes == 32 + number_at 24 8 bytes) refl
+    where
+      head : Option WireFault
+      head = extended_head_fault now.structured o (number_at 24 8 bytes)
+
+      end : Profile → Reading
+      end p = last_reading (extended_last_fault p export o bytes) (extended_chunk_of bytes)
+
+      last_same : length bytes ≡ 32 + number_at 24 8 bytes → (o : Option Operation) → extended_last_fault q export o bytes ≡ extended_last_fault now.profile export o bytes
+      last_same l None = refl
+      last_same l (Some e) =
+          let known = kinds_agree (number_at 6 2 bytes) (λ is n m. none (inr (inr (inr (magic, l, is, n, m))))) in
+          ap (λ k. offset_fault (chunk_fault true (number_at 6 2 bytes == chunks.NONE) export e (with_reply e (extended_chunk_of bytes)) (number_at 4 2 bytes) k (drop 32 bytes)) e (number_at 16 8 bytes)) (known q ∙ sym (known now.profile))
+
+      go : (low whole : Bool) → (length bytes == 32 + number_at 24 8 bytes) ≡ whole → staged_reading_by low head whole (end q) ≡ staged_reading_by low head whole (end now.profile)
+      go true w y = refl
+      go false true y = ap (λ f. staged_reading_by false head true (last_reading f (extended_chunk_of bytes))) (last_same (eqb-true _ _ y) o)
       go false false y = staged_end head (end q) (end now.profile)
 
 reading_in : (q : Profile) (phase : Phase) (since now : Core) (s : Side) (bytes : List ℕ) → Quiet phase s bytes → judge_in phase (with_profile q since) (with_profile q now) s bytes ≡ judge_in phase since now s bytes
@@ -346,15 +378,27 @@ reading_in q Ended since now Client bytes none = refl
 reading_in q Ended since now Server bytes none = refl
 reading_in q (Transmission export) since now Client bytes none = asked now.disconnected
   where
+    by : (x : Bool) → read_by (request_by x (with_profile q now) bytes) bytes ≡ read_by (request_by x now bytes) bytes
+    by true = refl
+    by false = refl
+
     asked : (d : Bool) → reading_by_decision (request_unless d (with_profile q now) bytes) bytes ≡ reading_by_decision (request_unless d now bytes) bytes
     asked true = refl
-    asked false = refl
-reading_in q (Transmission export) since now Server bytes none = replied (begins CHUNK_MAGIC bytes) refl (begins SIMPLE_MAGIC bytes)
+    asked false = by now.extended
+reading_in q (Transmission export) since now Server bytes none = by now.extended
   where
+    wide : (c : Bool) → begins EXTENDED_CHUNK_MAGIC bytes ≡ c → read_by (extended_reply_by c export (with_profile q now) (operation_of since now (number_at 8 8 bytes)) bytes) bytes ≡ read_by (extended_reply_by c export now (operation_of since now (number_at 8 8 bytes)) bytes) bytes
+    wide true magic = extended_either export now q bytes (operation_of since now (number_at 8 8 bytes)) magic (none refl)
+    wide false magic = refl
+
     replied : (c : Bool) → begins CHUNK_MAGIC bytes ≡ c → (s : Bool) → read_by (reply_by c s export (with_profile q now) (operation_of since now (number_at 8 8 bytes)) bytes) bytes ≡ read_by (reply_by c s export now (operation_of since now (number_at 8 8 bytes)) bytes) bytes
     replied true magic s = chunk_either export now q bytes (operation_of since now (number_at 8 8 bytes)) magic (none refl)
     replied false magic true = refl
     replied false magic false = refl
+
+    by : (x : Bool) → read_by (reply_in x export (with_profile q now) (operation_of since now (number_at 8 8 bytes)) bytes) bytes ≡ read_by (reply_in x export now (operation_of since now (number_at 8 8 bytes)) bytes) bytes
+    by false = replied (begins CHUNK_MAGIC bytes) refl (begins SIMPLE_MAGIC bytes)
+    by true = wide (begins EXTENDED_CHUNK_MAGIC bytes) refl
 
 -- a reader, held to the profile
 abbrev pub rest_in : Profile → Rest → Rest

@@ -4,7 +4,7 @@ use Rattle.std.proofs.lemmas.List.Elements.{All-head, All-tail}
 use Rattle.nbd_wire.specs.declared.answers.TheConstants as answers
 use Rattle.nbd_wire.specs.declared.commands.TheConstants as commands
 use Rattle.nbd_wire.specs.declared.message.Message.{Message}
-use Rattle.nbd_wire.specs.declared.message.Message.TheVariants.{Greeting, ClientFlags, Choice, Answer, Exported, Request, Simple, Chunk}
+use Rattle.nbd_wire.specs.declared.message.Message.TheVariants.{Greeting, ClientFlags, Choice, Answer, Exported, Request, Simple, Chunk, ExtendedRequest, ExtendedChunk}
 use Rattle.nbd_wire.specs.declared.sizes.Sizes.{Sizes}
 use Rattle.nbd_wire.specs.declared.sizes.Sizing.{Sizing}
 use Rattle.nbd_wire.specs.protocol.Marks.{Item, Byte, Starts, Completes, Serves, completed_messages}
@@ -42,8 +42,10 @@ completed core (Choice id p) = refl
 completed core (Answer option kind p) = refl
 completed core (Exported size flags padded) = refl
 completed core (Request flags command cookie offset len p) = requested (command == commands.DISC) core _
+completed core (ExtendedRequest flags command cookie offset len p) = requested (command == commands.DISC) core _
 completed core (Simple error cookie p) = replied (request_of_reply core (Simple error cookie p)) core (Simple error cookie p)
 completed core (Chunk flags kind cookie p) = replied (request_of_reply core (Chunk flags kind cookie p)) core (Chunk flags kind cookie p)
+completed core (ExtendedChunk flags kind cookie at p) = replied (request_of_reply core (ExtendedChunk flags kind cookie at p)) core (ExtendedChunk flags kind cookie at p)
 
 led : (state : State) (items : List Item) → (ends_at state items).core.sizing ≡ sizing_of state.core.sizing (completed_messages items)
 led state [] = refl
@@ -86,8 +88,10 @@ since s (Greeting flags ∷ late) none = since s late (All-tail IsNoChoice (Gree
 since s (ClientFlags flags ∷ late) none = since s late (All-tail IsNoChoice (ClientFlags flags) late none) ∙ ap (λ t. record { asked = s.asked; told = t }) (never (last_announced late) s.told)
 since s (Exported size flags padded ∷ late) none = since s late (All-tail IsNoChoice (Exported size flags padded) late none) ∙ ap (λ t. record { asked = s.asked; told = t }) (never (last_announced late) s.told)
 since s (Request flags command cookie offset len p ∷ late) none = since s late (All-tail IsNoChoice (Request flags command cookie offset len p) late none) ∙ ap (λ t. record { asked = s.asked; told = t }) (never (last_announced late) s.told)
+since s (ExtendedRequest flags command cookie offset len p ∷ late) none = since s late (All-tail IsNoChoice (ExtendedRequest flags command cookie offset len p) late none) ∙ ap (λ t. record { asked = s.asked; told = t }) (never (last_announced late) s.told)
 since s (Simple error cookie p ∷ late) none = since s late (All-tail IsNoChoice (Simple error cookie p) late none) ∙ ap (λ t. record { asked = s.asked; told = t }) (never (last_announced late) s.told)
 since s (Chunk flags kind cookie p ∷ late) none = since s late (All-tail IsNoChoice (Chunk flags kind cookie p) late none) ∙ ap (λ t. record { asked = s.asked; told = t }) (never (last_announced late) s.told)
+since s (ExtendedChunk flags kind cookie at p ∷ late) none = since s late (All-tail IsNoChoice (ExtendedChunk flags kind cookie at p) late none) ∙ ap (λ t. record { asked = s.asked; told = t }) (never (last_announced late) s.told)
 
 last_none : (o : Option Sizes) → last_sizes o None ≡ o
 last_none (Some x) = refl

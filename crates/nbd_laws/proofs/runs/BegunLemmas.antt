@@ -3,7 +3,7 @@ use Rattle.std.proofs.Common.{◌≡◌, ◌⊎◌, List, ◌++◌, refl, sym, �
 use Rattle.nbd_wire.specs.declared.message.Side.{Side}
 use Rattle.nbd_wire.specs.declared.message.Side.TheVariants.{Client, Server}
 use Rattle.nbd_wire.specs.declared.message.Message.{Message}
-use Rattle.nbd_wire.specs.declared.message.Message.TheVariants.{Greeting, ClientFlags, Choice, Answer, Exported, Request, Simple, Chunk}
+use Rattle.nbd_wire.specs.declared.message.Message.TheVariants.{Greeting, ClientFlags, Choice, Answer, Exported, Request, Simple, Chunk, ExtendedRequest, ExtendedChunk}
 use Rattle.nbd_wire.specs.protocol.Options.{turn}
 use Rattle.nbd_wire.specs.protocol.Operations.{Operation, Exporting}
 use Rattle.nbd_wire.specs.protocol.Rules.{MayComplete, MayStartIn, request_of_reply, complete, cookie_of, target_of}
@@ -28,7 +28,7 @@ starts_in Ended core s m h = inl h
 
 reply_answers : (export : Exporting) (core : Core) (m : Message) → MayStartIn (Transmission export) core Server m → IsTrue (is_some (request_of_reply core m))
 unfolding MayStartIn
-reply_answers export core m h = h
+reply_answers export core m h = h.0
 
 target_stays : (c : Option ℕ) (es more : List Operation) → IsTrue (is_some (target_of c es)) → target_of c es ≡ target_of c (es ++ more)
 target_stays None es more h = absurd (cc)
@@ -51,11 +51,13 @@ pub asks_only : (core : Core) (m : Message) → side m ≡ Client → request_of
 asks_only core (ClientFlags flags) e = refl
 asks_only core (Choice id payload) e = refl
 asks_only core (Request flags command cookie offset len payload) e = refl
+asks_only core (ExtendedRequest flags command cookie offset len payload) e = refl
 asks_only core (Greeting flags) e = refl
 asks_only core (Answer option kind payload) e = refl
 asks_only core (Exported size flags padded) e = refl
 asks_only core (Simple error cookie payload) e = absurd (cc)
 asks_only core (Chunk flags kind cookie payload) e = absurd (cc)
+asks_only core (ExtendedChunk flags kind cookie at payload) e = absurd (cc)
 
 -- an open message of a side began in its place
 abbrev pub BegunOpen : Core → Side → Open → Type 0

@@ -8,7 +8,7 @@ use Rattle.nbd_wire.specs.declared.handshake.TheConstants as handshake
 use Rattle.nbd_wire.specs.declared.options.TheConstants as options
 use Rattle.nbd_wire.specs.declared.message.Side.TheVariants.{Server}
 use Rattle.nbd_wire.specs.declared.message.Message.{Message}
-use Rattle.nbd_wire.specs.declared.message.Message.TheVariants.{Greeting, ClientFlags, Choice, Answer, Exported, Request, Simple, Chunk}
+use Rattle.nbd_wire.specs.declared.message.Message.TheVariants.{Greeting, ClientFlags, Choice, Answer, Exported, Request, Simple, Chunk, ExtendedRequest, ExtendedChunk}
 use Rattle.nbd_wire.specs.protocol.Marks.{Item, Byte, Starts, Completes, Serves, completed_messages}
 use Rattle.nbd_wire.specs.protocol.Options.{ack_phase, asks_nothing, reply_phase, selection_after, selection_at, selection_told, takes_contexts, with_context, choice_phase, is_error, is_proper_option, last_info, next_phase}
 use Rattle.nbd_wire.specs.protocol.Payloads.{info_of, context_of, name_in, queries_of}
@@ -185,8 +185,10 @@ choice_steps last (ClientFlags flags) ms = refl
 choice_steps last (Answer option kind p) ms = refl
 choice_steps last (Exported size flags padded) ms = refl
 choice_steps last (Request flags command cookie offset len p) ms = refl
+choice_steps last (ExtendedRequest flags command cookie offset len p) ms = refl
 choice_steps last (Simple error cookie p) ms = refl
 choice_steps last (Chunk flags kind cookie p) ms = refl
+choice_steps last (ExtendedChunk flags kind cookie at p) ms = refl
 
 info_steps : (last : Option Exporting) (m : Message) (ms : List Message) → info_after last (m ∷ ms) ≡ info_after (info_step last m) ms
 info_steps last (Choice id p) ms = refl
@@ -195,8 +197,10 @@ info_steps last (Greeting flags) ms = refl
 info_steps last (ClientFlags flags) ms = refl
 info_steps last (Exported size flags padded) ms = refl
 info_steps last (Request flags command cookie offset len p) ms = refl
+info_steps last (ExtendedRequest flags command cookie offset len p) ms = refl
 info_steps last (Simple error cookie p) ms = refl
 info_steps last (Chunk flags kind cookie p) ms = refl
+info_steps last (ExtendedChunk flags kind cookie at p) ms = refl
 
 told_steps : (told : List Context) (m : Message) (ms : List Message) → contexts_after told (m ∷ ms) ≡ contexts_after (told_step told m) ms
 told_steps told (Choice id p) ms = refl
@@ -205,8 +209,10 @@ told_steps told (Greeting flags) ms = refl
 told_steps told (ClientFlags flags) ms = refl
 told_steps told (Exported size flags padded) ms = refl
 told_steps told (Request flags command cookie offset len p) ms = refl
+told_steps told (ExtendedRequest flags command cookie offset len p) ms = refl
 told_steps told (Simple error cookie p) ms = refl
 told_steps told (Chunk flags kind cookie p) ms = refl
+told_steps told (ExtendedChunk flags kind cookie at p) ms = refl
 
 knows_complete : (core : Core) (phase : Phase) (m : Message) (choice : Option Chosen) (last : Option Exporting) (told : List Context) → core.phase ≡ phase → MayComplete core phase m → Knows phase core.selection choice last told →
     Knows (complete core m).phase (complete core m).selection (choice_step choice m) (info_step last m) (told_step told m)

@@ -1,14 +1,14 @@
 -- Of two messages of a side that may complete, neither's bytes are a proper prefix of the other's.
 use Rattle.std.proofs.Common.{◌≡◌, ℕ, zero, suc, ◌<◌, ◌^◌, ◌==◌, List, [], ◌∷◌, ◌++◌, length, drop, refl, sym, ◌∙◌, ap, subst, Option, Some, None, Bool, true, false, not, if◌then◌else◌, arith, length-append, append-nil, slice_index}
 use Rattle.byteorder.specs.Numbers.{big_number-reads_back}
-use Rattle.nbd_laws.proofs.judge.AllowLemmas.{ask_allow}
+use Rattle.nbd_laws.proofs.judge.AllowLemmas.{ask_allow, extended_ask_allow}
 use Rattle.nbd_laws.specs.Allowed.{MayAsk}
 use Rattle.nbd_wire.specs.declared.commands.TheConstants as commands
 use Rattle.nbd_wire.specs.declared.handshake.TheConstants as handshake
 use Rattle.nbd_wire.specs.declared.message.Side.{Side}
 use Rattle.nbd_wire.specs.declared.message.Side.TheVariants.{Client, Server}
 use Rattle.nbd_wire.specs.declared.message.Message.{Message}
-use Rattle.nbd_wire.specs.declared.message.Message.TheVariants.{Greeting, ClientFlags, Choice, Answer, Exported, Request, Simple, Chunk}
+use Rattle.nbd_wire.specs.declared.message.Message.TheVariants.{Greeting, ClientFlags, Choice, Answer, Exported, Request, Simple, Chunk, ExtendedRequest, ExtendedChunk}
 use Rattle.nbd_wire.specs.protocol.Encoding.{enc, head, tail}
 use Rattle.nbd_wire.specs.protocol.Payloads.{number_at}
 use Rattle.nbd_wire.specs.protocol.Transmission.{simple_length}
@@ -17,9 +17,9 @@ use Rattle.nbd_wire.specs.protocol.Operations.{Operation, Exporting}
 use Rattle.nbd_wire.specs.protocol.Flags.{has}
 use Rattle.nbd_wire.specs.protocol.Rules.{AnswersOne, MayStartIn, MayComplete, complete, core_with_request, reply_to, request_of_reply}
 use Rattle.nbd_wire.specs.protocol.Options.{turn}
-use Rattle.nbd_wire.specs.protocol.Sendable.{IsSendable}
+use Rattle.nbd_wire.specs.protocol.Sendable.{IsSendable, carries_payload}
 use Rattle.nbd_wire.specs.protocol.Sides.{side}
-use Rattle.nbd_wire.specs.protocol.States.{Core, Phase, Greet, Flags, Choosing, Naming, Aborting, Answering, Ended, Transmission, is_awaiting, target, target_from, operation}
+use Rattle.nbd_wire.specs.protocol.States.{Core, Phase, Greet, Flags, Choosing, Naming, Aborting, Answering, Ended, Transmission, has_contexts, is_awaiting, target, target_from, operation}
 use Rattle.nbd_laws.specs.Prefixes.{NoProperPrefix}
 use Rattle.nbd_laws.proofs.runs.FollowLemmas.{IsBegun}
 use Rattle.nbd_laws.proofs.reading.ReaderLemmas.{Later, at_once, behind}
@@ -99,6 +99,29 @@ request_prefix flags flags' command command' cookie cookie' offset offset' len l
       r.1,
     )
 
+-- the bytes of a request with an extended header, by its flags, type and length
+same_payload : (flags flags' command command' len len' : ℕ) (p p' : List ℕ) → flags ≡ flags' → command ≡ command' → len ≡ len' → length p ≡ (if carries_payload flags command then len else 0) → length p' ≡ (if carries_payload flags' command' then len' else 0) → length p ≡ length p'
+same_payload flags flags' command command' len len' p p' f c l h h' = h ∙ (λ i. if carries_payload (f i) (c i) then (l i) else 0) ∙ sym h'
+
+extended_request_prefix : (flags flags' command command' cookie cookie' offset offset' len len' : ℕ) (p p' left : List ℕ) →
+    IsSendable (ExtendedRequest flags command cookie offset len p) → IsSendable (ExtendedRequest flags' command' cookie' offset' len' p') →
+    enc (ExtendedRequest flags command cookie offset len p) ≡ enc (ExtendedRequest flags' command' cookie' offset' len' p') ++ left →
+    IsSame (ExtendedRequest flags command cookie offset len p) (ExtendedRequest flags' command' cookie' offset' len' p') left
+unfolding enc head tail IsSendable
+extended_request_prefix flags flags' command command' cookie cookie' offset offset' len len' p p' left h h' e =
+    let m : List ℕ = enc (ExtendedRequest flags command cookie offset len p) in
+    let n : List ℕ = enc (ExtendedRequest flags' command' cookie' offset' len' p') ++ left in
+    let f : flags ≡ flags' = sym (big_number-reads_back 2 flags (drop 6 m) h.0) ∙ ap (number_at 4 2) e ∙ big_number-reads_back 2 flags' (drop 6 n) h'.0 in
+    let c : command ≡ command' = sym (big_number-reads_back 2 command (drop 8 m) h.1) ∙ ap (number_at 6 2) e ∙ big_number-reads_back 2 command' (drop 8 n) h'.1 in
+    let k : cookie ≡ cookie' = sym (big_number-reads_back 8 cookie (drop 16 m) h.2) ∙ ap (number_at 8 8) e ∙ big_number-reads_back 8 cookie' (drop 16 n) h'.2 in
+    let o : offset ≡ offset' = sym (big_number-reads_back 8 offset (drop 24 m) h.3) ∙ ap (number_at 16 8) e ∙ big_number-reads_back 8 offset' (drop 24 n) h'.3 in
+    let l : len ≡ len' = sym (big_number-reads_back 8 len p h.4) ∙ ap (number_at 24 8) e ∙ big_number-reads_back 8 len' (p' ++ left) h'.4 in
+    let r : (p ≡ p') × (left ≡ []) = same_prefix p p' left (same_payload flags flags' command command' len len' p p' f c l h.5 h'.5) (ap (drop 32) e) in (
+      ap (λ x. ExtendedRequest x command cookie offset len p) f ∙ ap (λ x. ExtendedRequest flags' x cookie offset len p) c ∙ ap (λ x. ExtendedRequest flags' command' x offset len p) k
+          ∙ ap (λ x. ExtendedRequest flags' command' cookie' x len p) o ∙ ap (λ x. ExtendedRequest flags' command' cookie' offset' x p) l ∙ ap (ExtendedRequest flags' command' cookie' offset' len') r.0,
+      r.1,
+    )
+
 simple_fields : (error error' cookie cookie' : ℕ) (p p' left : List ℕ) → error < 2 ^ 32 → error' < 2 ^ 32 → cookie < 2 ^ 64 → cookie' < 2 ^ 64 →
     enc (Simple error cookie p) ≡ enc (Simple error' cookie' p') ++ left → (error ≡ error') × (cookie ≡ cookie') × (p ≡ p' ++ left)
 unfolding enc head tail
@@ -122,6 +145,24 @@ chunk_prefix flags flags' kind kind' cookie cookie' p p' left h h' e =
     let r : (p ≡ p') × (left ≡ []) = same_prefix p p' left l (ap (drop 20) e) in
     (ap (λ x. Chunk x kind cookie p) f ∙ ap (λ x. Chunk flags' x cookie p) c ∙ ap (λ x. Chunk flags' kind' x p) k ∙ ap (Chunk flags' kind' cookie') r.0, r.1)
 
+extended_chunk_prefix : (flags flags' kind kind' cookie cookie' at at' : ℕ) (p p' left : List ℕ) →
+    IsSendable (ExtendedChunk flags kind cookie at p) → IsSendable (ExtendedChunk flags' kind' cookie' at' p') →
+    enc (ExtendedChunk flags kind cookie at p) ≡ enc (ExtendedChunk flags' kind' cookie' at' p') ++ left → IsSame (ExtendedChunk flags kind cookie at p) (ExtendedChunk flags' kind' cookie' at' p') left
+unfolding enc head tail IsSendable
+extended_chunk_prefix flags flags' kind kind' cookie cookie' at at' p p' left h h' e =
+    let m : List ℕ = enc (ExtendedChunk flags kind cookie at p) in
+    let n : List ℕ = enc (ExtendedChunk flags' kind' cookie' at' p') ++ left in
+    let f : flags ≡ flags' = sym (big_number-reads_back 2 flags (drop 6 m) h.0) ∙ ap (number_at 4 2) e ∙ big_number-reads_back 2 flags' (drop 6 n) h'.0 in
+    let c : kind ≡ kind' = sym (big_number-reads_back 2 kind (drop 8 m) h.1) ∙ ap (number_at 6 2) e ∙ big_number-reads_back 2 kind' (drop 8 n) h'.1 in
+    let k : cookie ≡ cookie' = sym (big_number-reads_back 8 cookie (drop 16 m) h.2) ∙ ap (number_at 8 8) e ∙ big_number-reads_back 8 cookie' (drop 16 n) h'.2 in
+    let o : at ≡ at' = sym (big_number-reads_back 8 at (drop 24 m) h.3) ∙ ap (number_at 16 8) e ∙ big_number-reads_back 8 at' (drop 24 n) h'.3 in
+    let l : length p ≡ length p' = sym (big_number-reads_back 8 (length p) p (wide h.4.0)) ∙ ap (number_at 24 8) e ∙ big_number-reads_back 8 (length p') (p' ++ left) (wide h'.4.0) in
+    let r : (p ≡ p') × (left ≡ []) = same_prefix p p' left l (ap (drop 32) e) in
+    (ap (λ x. ExtendedChunk x kind cookie at p) f ∙ ap (λ x. ExtendedChunk flags' x cookie at p) c ∙ ap (λ x. ExtendedChunk flags' kind' x at p) k ∙ ap (λ x. ExtendedChunk flags' kind' cookie' x p) o ∙ ap (ExtendedChunk flags' kind' cookie' at') r.0, r.1)
+  where
+    wide : {n : ℕ} → n < 2 ^ 32 → n < 2 ^ 64
+    wide l = omega (arith, l)
+
 -- the two kinds of reply begin with different bytes
 simple_no_chunk : (error cookie flags kind cookie' : ℕ) (p p' left : List ℕ) → enc (Simple error cookie p) ≡ enc (Chunk flags kind cookie' p') ++ left → ⊥
 unfolding enc head tail
@@ -133,6 +174,42 @@ chunk_no_simple : (error cookie flags kind cookie' : ℕ) (p p' left : List ℕ)
 unfolding enc head tail
 chunk_no_simple error cookie flags kind cookie' p p' left e =
     let q : slice_index (enc (Chunk flags kind cookie' p')) 1 ≡ slice_index (enc (Simple error cookie p) ++ left) 1 = ap (λ l. slice_index l 1) e in
+    absurd (omega arith)
+
+request_no_extended : (f c k o l f' c' k' o' l' : ℕ) (p p' left : List ℕ) → enc (Request f c k o l p) ≡ enc (ExtendedRequest f' c' k' o' l' p') ++ left → ⊥
+unfolding enc head tail
+request_no_extended f c k o l f' c' k' o' l' p p' left e =
+    let q : slice_index (enc (Request f c k o l p)) 1 ≡ slice_index (enc (ExtendedRequest f' c' k' o' l' p') ++ left) 1 = ap (λ l. slice_index l 1) e in
+    absurd (omega arith)
+
+extended_no_request : (f c k o l f' c' k' o' l' : ℕ) (p p' left : List ℕ) → enc (ExtendedRequest f c k o l p) ≡ enc (Request f' c' k' o' l' p') ++ left → ⊥
+unfolding enc head tail
+extended_no_request f c k o l f' c' k' o' l' p p' left e =
+    let q : slice_index (enc (ExtendedRequest f c k o l p)) 1 ≡ slice_index (enc (Request f' c' k' o' l' p') ++ left) 1 = ap (λ l. slice_index l 1) e in
+    absurd (omega arith)
+
+simple_no_extended : (error k f' kind' k' at' : ℕ) (p p' left : List ℕ) → enc (Simple error k p) ≡ enc (ExtendedChunk f' kind' k' at' p') ++ left → ⊥
+unfolding enc head tail
+simple_no_extended error k f' kind' k' at' p p' left e =
+    let q : slice_index (enc (Simple error k p)) 1 ≡ slice_index (enc (ExtendedChunk f' kind' k' at' p') ++ left) 1 = ap (λ l. slice_index l 1) e in
+    absurd (omega arith)
+
+extended_no_simple : (f kind k at error' k' : ℕ) (p p' left : List ℕ) → enc (ExtendedChunk f kind k at p) ≡ enc (Simple error' k' p') ++ left → ⊥
+unfolding enc head tail
+extended_no_simple f kind k at error' k' p p' left e =
+    let q : slice_index (enc (ExtendedChunk f kind k at p)) 1 ≡ slice_index (enc (Simple error' k' p') ++ left) 1 = ap (λ l. slice_index l 1) e in
+    absurd (omega arith)
+
+chunk_no_extended : (f kind k f' kind' k' at' : ℕ) (p p' left : List ℕ) → enc (Chunk f kind k p) ≡ enc (ExtendedChunk f' kind' k' at' p') ++ left → ⊥
+unfolding enc head tail
+chunk_no_extended f kind k f' kind' k' at' p p' left e =
+    let q : slice_index (enc (Chunk f kind k p)) 1 ≡ slice_index (enc (ExtendedChunk f' kind' k' at' p') ++ left) 1 = ap (λ l. slice_index l 1) e in
+    absurd (omega arith)
+
+extended_no_chunk : (f kind k at f' kind' k' : ℕ) (p p' left : List ℕ) → enc (ExtendedChunk f kind k at p) ≡ enc (Chunk f' kind' k' p') ++ left → ⊥
+unfolding enc head tail
+extended_no_chunk f kind k at f' kind' k' p p' left e =
+    let q : slice_index (enc (ExtendedChunk f kind k at p)) 1 ≡ slice_index (enc (Chunk f' kind' k' p') ++ left) 1 = ap (λ l. slice_index l 1) e in
     absurd (omega arith)
 
 -- the claim for two messages, from that for their shapes
@@ -227,12 +304,16 @@ pub data InTransmission (core : Core) (export : Exporting) : Message → Type 0 
   asks : (flags command cookie offset len : ℕ) (p : List ℕ) → MayAsk (command == commands.DISC) core cookie offset len → InTransmission core export (Request flags command cookie offset len p)
   replies : (error cookie : ℕ) (p : List ℕ) → AnswersOne core export cookie (Simple error cookie p) → InTransmission core export (Simple error cookie p)
   gives : (flags kind cookie : ℕ) (p : List ℕ) → AnswersOne core export cookie (Chunk flags kind cookie p) → InTransmission core export (Chunk flags kind cookie p)
+  asks_more : (flags command cookie offset len : ℕ) (p : List ℕ) → MayAsk (command == commands.DISC) core cookie offset len → InTransmission core export (ExtendedRequest flags command cookie offset len p)
+  gives_more : (flags kind cookie at : ℕ) (p : List ℕ) → AnswersOne core export cookie (ExtendedChunk flags kind cookie at p) → InTransmission core export (ExtendedChunk flags kind cookie at p)
 
 pub transmission_row : (core : Core) (export : Exporting) (m : Message) → MayComplete core (Transmission export) m → InTransmission core export m
 unfolding MayComplete
 transmission_row core export (Request flags command cookie offset len p) ok = asks flags command cookie offset len p (ask_allow core command cookie offset len ok.0 ok.1)
 transmission_row core export (Simple error cookie p) ok = replies error cookie p ok
 transmission_row core export (Chunk flags kind cookie p) ok = gives flags kind cookie p ok
+transmission_row core export (ExtendedRequest flags command cookie offset len p) ok = asks_more flags command cookie offset len p (extended_ask_allow core (has_contexts core) flags command cookie offset len ok.0 ok.1)
+transmission_row core export (ExtendedChunk flags kind cookie at p) ok = gives_more flags kind cookie at p ok
 transmission_row core export m ok = absurd ok
 
 phase-requested : (b : Bool) (core : Core) (e : Operation) → (core_with_request b core e).phase ≡ core.phase
@@ -249,6 +330,8 @@ unfolding complete
 phase-complete core export m (asks flags command cookie offset len p h) = phase-requested (command == commands.DISC) core _
 phase-complete core export m (replies error cookie p h) = phase-reply_to (request_of_reply core (Simple error cookie p)) core (Simple error cookie p)
 phase-complete core export m (gives flags kind cookie p h) = phase-reply_to (request_of_reply core (Chunk flags kind cookie p)) core (Chunk flags kind cookie p)
+phase-complete core export m (asks_more flags command cookie offset len p h) = phase-requested (command == commands.DISC) core _
+phase-complete core export m (gives_more flags kind cookie at p h) = phase-reply_to (request_of_reply core (ExtendedChunk flags kind cookie at p)) core (ExtendedChunk flags kind cookie at p)
 
 pub in_transmission : {core : Core} {export : Exporting} {m : Message} → core.phase ≡ Transmission export → MayComplete core core.phase m → InTransmission core export m
 in_transmission {core} {export} {m} t ok = transmission_row core export m (subst (λ phase. MayComplete core phase m) t ok)
@@ -288,6 +371,8 @@ unfolding complete
 target_asked core export m cookie k e ne (asks flags command c offset len p h) t = target_requested (command == commands.DISC) core _ cookie k e t
 target_asked core export m cookie k e ne (replies error c p h) t = absurd (ne refl)
 target_asked core export m cookie k e ne (gives flags kind c p h) t = absurd (ne refl)
+target_asked core export m cookie k e ne (asks_more flags command c offset len p h) t = target_requested (command == commands.DISC) core _ cookie k e t
+target_asked core export m cookie k e ne (gives_more flags kind c at p h) t = absurd (ne refl)
 
 pub target_later : {c d : Core} {export : Exporting} → Later Server c d → c.phase ≡ Transmission export → (cookie k : ℕ) (e : Operation) → IsTarget c cookie k e → IsTarget d cookie k e
 target_later at_once t cookie k e h = h
@@ -324,6 +409,23 @@ transmitted now end export s m n left l t sd sd' sn sn' (replies error c p h) (g
 transmitted now end export s m n left l t sd sd' sn sn' (gives f kind c p h) (asks flags command cookie offset len p' h') e = (let q : Client ≡ Server = sd' ∙ sym sd in absurd (cc))
 transmitted now end export s m n left l t sd sd' sn sn' (gives f kind c p h) (replies error' c' p' h') e = absurd (chunk_no_simple error' c' f kind c p' p left e)
 transmitted now end export s m n left l t sd sd' sn sn' (gives f kind c p h) (gives f' kind' c' p' h') e = chunk_prefix f f' kind kind' c c' p p' left sn sn' e
+transmitted now end export s m n left l t sd sd' sn sn' (asks flags command cookie offset len p h) (asks_more flags' command' cookie' offset' len' p' h') e = absurd (request_no_extended flags command cookie offset len flags' command' cookie' offset' len' p p' left e)
+transmitted now end export s m n left l t sd sd' sn sn' (asks flags command cookie offset len p h) (gives_more f' kind' c' at' p' h') e = (let q : Client ≡ Server = sd ∙ sym sd' in absurd (cc))
+transmitted now end export s m n left l t sd sd' sn sn' (replies error c p h) (asks_more flags' command' cookie' offset' len' p' h') e = (let q : Client ≡ Server = sd' ∙ sym sd in absurd (cc))
+transmitted now end export s m n left l t sd sd' sn sn' (replies error c p h) (gives_more f' kind' c' at' p' h') e = absurd (simple_no_extended error c f' kind' c' at' p p' left e)
+transmitted now end export s m n left l t sd sd' sn sn' (gives f kind c p h) (asks_more flags' command' cookie' offset' len' p' h') e = (let q : Client ≡ Server = sd' ∙ sym sd in absurd (cc))
+transmitted now end export s m n left l t sd sd' sn sn' (gives f kind c p h) (gives_more f' kind' c' at' p' h') e = absurd (chunk_no_extended f kind c f' kind' c' at' p p' left e)
+transmitted now end export s m n left l t sd sd' sn sn' (asks_more flags command cookie offset len p h) (asks flags' command' cookie' offset' len' p' h') e = absurd (extended_no_request flags command cookie offset len flags' command' cookie' offset' len' p p' left e)
+transmitted now end export s m n left l t sd sd' sn sn' (asks_more flags command cookie offset len p h) (replies error' c' p' h') e = (let q : Client ≡ Server = sd ∙ sym sd' in absurd (cc))
+transmitted now end export s m n left l t sd sd' sn sn' (asks_more flags command cookie offset len p h) (gives f' kind' c' p' h') e = (let q : Client ≡ Server = sd ∙ sym sd' in absurd (cc))
+transmitted now end export s m n left l t sd sd' sn sn' (asks_more flags command cookie offset len p h) (asks_more flags' command' cookie' offset' len' p' h') e =
+    extended_request_prefix flags flags' command command' cookie cookie' offset offset' len len' p p' left sn sn' e
+transmitted now end export s m n left l t sd sd' sn sn' (asks_more flags command cookie offset len p h) (gives_more f' kind' c' at' p' h') e = (let q : Client ≡ Server = sd ∙ sym sd' in absurd (cc))
+transmitted now end export s m n left l t sd sd' sn sn' (gives_more f kind c at p h) (asks flags' command' cookie' offset' len' p' h') e = (let q : Client ≡ Server = sd' ∙ sym sd in absurd (cc))
+transmitted now end export s m n left l t sd sd' sn sn' (gives_more f kind c at p h) (replies error' c' p' h') e = absurd (extended_no_simple f kind c at error' c' p p' left e)
+transmitted now end export s m n left l t sd sd' sn sn' (gives_more f kind c at p h) (gives f' kind' c' p' h') e = absurd (extended_no_chunk f kind c at f' kind' c' p p' left e)
+transmitted now end export s m n left l t sd sd' sn sn' (gives_more f kind c at p h) (asks_more flags' command' cookie' offset' len' p' h') e = (let q : Client ≡ Server = sd' ∙ sym sd in absurd (cc))
+transmitted now end export s m n left l t sd sd' sn sn' (gives_more f kind c at p h) (gives_more f' kind' c' at' p' h') e = extended_chunk_prefix f f' kind kind' c c' at at' p p' left sn sn' e
 
 -- a message that may complete is no proper prefix of one that the side could have begun and may complete now or later
 pub same_message : (old now end : Core) (s : Side) (m n : Message) (left : List ℕ) → Later s old now → Later s now end → IsBegun old s m → IsBegun old s n →

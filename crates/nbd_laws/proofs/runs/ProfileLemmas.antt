@@ -3,7 +3,7 @@ use Rattle.std.proofs.Common.{◌≡◌, ℕ, ◌==◌, List, [], ◌∷◌, ◌
 use Rattle.nbd_wire.specs.declared.commands.TheConstants as commands
 use Rattle.nbd_wire.specs.declared.entry.Entry.{Entry}
 use Rattle.nbd_wire.specs.declared.message.Message.{Message}
-use Rattle.nbd_wire.specs.declared.message.Message.TheVariants.{Greeting, ClientFlags, Choice, Answer, Exported, Request, Simple, Chunk}
+use Rattle.nbd_wire.specs.declared.message.Message.TheVariants.{Greeting, ClientFlags, Choice, Answer, Exported, Request, Simple, Chunk, ExtendedRequest, ExtendedChunk}
 use Rattle.nbd_wire.specs.declared.message.Side.TheVariants.{Client, Server}
 use Rattle.nbd_wire.specs.declared.profile.Profile.{Profile}
 use Rattle.nbd_wire.specs.declared.profile.Profile.TheVariants.{Base}
@@ -30,8 +30,10 @@ complete_with q core (Choice id p) = refl
 complete_with q core (Answer option kind p) = refl
 complete_with q core (Exported size flags padded) = refl
 complete_with q core (Request flags command cookie offset len p) = requested_with q (command == commands.DISC) core _
+complete_with q core (ExtendedRequest flags command cookie offset len p) = requested_with q (command == commands.DISC) core _
 complete_with q core (Simple error cookie p) = replied_with q (request_of_reply core (Simple error cookie p)) core (Simple error cookie p)
 complete_with q core (Chunk flags kind cookie p) = replied_with q (request_of_reply core (Chunk flags kind cookie p)) core (Chunk flags kind cookie p)
+complete_with q core (ExtendedChunk flags kind cookie at p) = replied_with q (request_of_reply core (ExtendedChunk flags kind cookie at p)) core (ExtendedChunk flags kind cookie at p)
 
 -- a message leaves the profile
 pub profile_stays : (core : Core) (m : Message) → (complete core m).profile ≡ core.profile

@@ -10,7 +10,7 @@ use Rattle.nbd_wire.specs.declared.answers.TheConstants as answers
 use Rattle.nbd_wire.specs.declared.commands.TheConstants as commands
 use Rattle.nbd_wire.specs.declared.options.TheConstants as options
 use Rattle.nbd_wire.specs.declared.message.Message.{Message}
-use Rattle.nbd_wire.specs.declared.message.Message.TheVariants.{Greeting, ClientFlags, Choice, Answer, Exported, Request, Simple, Chunk}
+use Rattle.nbd_wire.specs.declared.message.Message.TheVariants.{Greeting, ClientFlags, Choice, Answer, Exported, Request, Simple, Chunk, ExtendedRequest, ExtendedChunk}
 use Rattle.nbd_wire.specs.declared.message.Side.{Side}
 use Rattle.nbd_wire.specs.declared.message.Side.TheVariants.{Client, Server}
 use Rattle.nbd_wire.specs.declared.profile.Profile.{Profile}
@@ -29,10 +29,10 @@ use Rattle.nbd_wire.proofs.ListedFormLemmas.{go-only, is_go-exact}
 use Rattle.nbd_wire.proofs.QueryLemmas.{context-long, context-reads, name_is, queries_of-form, queries_of-found}
 use Rattle.nbd_laws.specs.Selecting.{AreSelected, ChooseNone, ChooseNoOther, ContextsAreSelected, Names, telling}
 use Rattle.nbd_wire.specs.protocol.Reading.{Both, get}
-use Rattle.nbd_laws.proofs.judge.BoolLemmas.{and_true}
+use Rattle.nbd_laws.proofs.judge.BoolLemmas.{and_true, or_true}
 use Rattle.nbd_laws.proofs.reading.ReaderLemmas.{Open, Idle, Busy, Walk, ended, serving, opening, middle, final, loose}
 use Rattle.nbd_laws.proofs.runs.FollowLemmas.{Follows, each_with, follows}
-use Rattle.nbd_laws.proofs.runs.PrefixLemmas.{InTransmission, asks, gives, phase-complete, replies, transmission_row}
+use Rattle.nbd_laws.proofs.runs.PrefixLemmas.{InTransmission, asks, gives, phase-complete, replies, transmission_row, asks_more, gives_more}
 use Rattle.nbd_laws.proofs.runs.ReachLemmas.{IsSendableOpen}
 use Rattle.nbd_laws.proofs.runs.RunLemmas.{core_end-ends_at, walk_of}
 use Rattle.nbd_laws.proofs.service.InsideLemmas.{core_end}
@@ -151,8 +151,11 @@ telling-selection core asked info context at l =
 abbrev granting : Message
 granting = Answer options.SET_META_CONTEXT answers.ACK []
 
-abbrev structuring : Message
-structuring = Answer options.STRUCTURED_REPLY answers.ACK []
+abbrev structuring : ℕ → Message
+structuring option = Answer option answers.ACK []
+
+abbrev IsStructuring : ℕ → Type 0
+IsStructuring option = (option ≡ options.STRUCTURED_REPLY) ⊎ (option ≡ options.EXTENDED_HEADERS)
 
 granting-phase : (core : Core) (asked : List ℕ) (info : Option Exporting) → core.phase ≡ Answering options.SET_META_CONTEXT asked info → (complete core granting).phase ≡ Choosing
 granting-phase core asked info at = answer-phase core options.SET_META_CONTEXT asked info options.SET_META_CONTEXT answers.ACK [] at ∙ granted-phase asked info []
@@ -175,7 +178,7 @@ NoSet phase = (asked : List ℕ) (info : Option Exporting) → phase ≢ Answeri
 record Goes (core : Core) (m : Message) : Type 0 where
   no_choice : (id : ℕ) (payload : List ℕ) → m ≢ Choice id payload
   agreed_is : (complete core m).brings_contexts ≡ core.brings_contexts
-  structured_is : ((complete core m).structured ≡ core.structured) ⊎ (m ≡ structuring)
+  structured_is : ((complete core m).structured ≡ core.structured) ⊎ ((o : ℕ) × IsStructuring o × (m ≡ structuring o))
   leads : (id : ℕ) (payload : List ℕ) → Leads core.phase id payload → Leads (complete core m).phase id payload
 
 -- what it does to the selection
@@ -224,21 +227,26 @@ module _ (asked : ℕ) (p : List ℕ) (kind : ℕ) (answer : List ℕ) where
     ],
   )
 
-grants_both : (option kind : ℕ) → grants_structured option kind ≡ true → (option ≡ options.STRUCTURED_REPLY) × (kind ≡ answers.ACK)
+grants_both : (option kind : ℕ) → grants_structured option kind ≡ true → IsStructuring option × (kind ≡ answers.ACK)
 grants_both option kind e =
-    let r = and_true (option == options.STRUCTURED_REPLY) (kind == answers.ACK) e in
-    (eqb-true option options.STRUCTURED_REPLY r.0, eqb-true kind answers.ACK r.1)
+    let r = and_true ((option == options.STRUCTURED_REPLY) || (option == options.EXTENDED_HEADERS)) (kind == answers.ACK) e in (
+      elim (or_true (option == options.STRUCTURED_REPLY) (option == options.EXTENDED_HEADERS) r.0) [
+        | inl h ↦ inl (eqb-true option options.STRUCTURED_REPLY h)
+        | inr h ↦ inr (eqb-true option options.EXTENDED_HEADERS h)
+      ],
+      eqb-true kind answers.ACK r.1,
+    )
 
 or_no : (a b : Bool) → b ≡ false → (a || b) ≡ a
 or_no true b e = refl
 or_no false b e = e
 
-answer-structured : (core : Core) (option kind : ℕ) (answer : List ℕ) → (kind ≡ answers.ACK → answer ≡ []) → ((complete core (Answer option kind answer)).structured ≡ core.structured) ⊎ (Answer option kind answer ≡ structuring)
+answer-structured : (core : Core) (option kind : ℕ) (answer : List ℕ) → (kind ≡ answers.ACK → answer ≡ []) → ((complete core (Answer option kind answer)).structured ≡ core.structured) ⊎ ((o : ℕ) × IsStructuring o × (Answer option kind answer ≡ structuring o))
 unfolding complete
 answer-structured core option kind answer none = go (grants_structured option kind) refl
   where
-    go : (b : Bool) → grants_structured option kind ≡ b → ((core.structured || grants_structured option kind) ≡ core.structured) ⊎ (Answer option kind answer ≡ structuring)
-    go true e = let r = grants_both option kind e in inr (ap (λ o. Answer o kind answer) r.0 ∙ ap (λ k. Answer options.STRUCTURED_REPLY k answer) r.1 ∙ ap (Answer options.STRUCTURED_REPLY answers.ACK) (none r.1))
+    go : (b : Bool) → grants_structured option kind ≡ b → ((core.structured || grants_structured option kind) ≡ core.structured) ⊎ ((o : ℕ) × IsStructuring o × (Answer option kind answer ≡ structuring o))
+    go true e = let r = grants_both option kind e in inr (option, r.0, ap (λ k. Answer option k answer) r.1 ∙ ap (Answer option answers.ACK) (none r.1))
     go false e = inl (or_no core.structured (grants_structured option kind) e)
 
 answer-agreed : (core : Core) (option kind : ℕ) (answer : List ℕ) → (complete core (Answer option kind answer)).brings_contexts ≡ core.brings_contexts
@@ -384,13 +392,17 @@ quietly core m phase no_choice steady at no_set leads = goes m
 steady_in : (core : Core) (export : Exporting) (m : Message) → InTransmission core export m → IsSteady core (complete core m)
 unfolding complete
 steady_in core export m (asks flags command cookie offset len p h) = steady_request (command == commands.DISC) core _
+steady_in core export m (asks_more flags command cookie offset len p h) = steady_request (command == commands.DISC) core _
 steady_in core export m (replies error cookie p h) = steady_reply (request_of_reply core (Simple error cookie p)) core (Simple error cookie p)
 steady_in core export m (gives flags kind cookie p h) = steady_reply (request_of_reply core (Chunk flags kind cookie p)) core (Chunk flags kind cookie p)
+steady_in core export m (gives_more flags kind cookie at p h) = steady_reply (request_of_reply core (ExtendedChunk flags kind cookie at p)) core (ExtendedChunk flags kind cookie at p)
 
 no_choice_in : (core : Core) (export : Exporting) (m : Message) → InTransmission core export m → (id : ℕ) (payload : List ℕ) → m ≢ Choice id payload
 no_choice_in core export m (asks flags command cookie offset len p h) id payload q = cc
+no_choice_in core export m (asks_more flags command cookie offset len p h) id payload q = cc
 no_choice_in core export m (replies error cookie p h) id payload q = cc
 no_choice_in core export m (gives flags kind cookie p h) id payload q = cc
+no_choice_in core export m (gives_more flags kind cookie at p h) id payload q = cc
 
 -- an answer to ABORT is none to STRUCTURED_REPLY
 no_grant : (option kind : ℕ) → option ≡ options.ABORT → grants_structured option kind ≡ false
@@ -496,6 +508,10 @@ record Granted (messages : List Message) (selection : Selection) : Type 0 where
 abbrev NamesSame : (id : ℕ) (payload name : List ℕ) → Type 0
 NamesSame id payload name = (id ≡ options.EXPORT_NAME) × (payload ≡ name) ⊎ (id ≡ options.GO) × (name_in payload ≡ name)
 
+-- an ACK that puts structured replies in force is one of these
+abbrev SplitsBy : List Message → Type 0
+SplitsBy messages = (o : ℕ) × IsStructuring o × Splits messages (structuring o)
+
 -- the option that was chosen last names the export of what was granted
 record Agreed (messages : List Message) (phase : Phase) (selection : Selection) : Type 0 where
   front : List Message
@@ -504,7 +520,7 @@ record Agreed (messages : List Message) (phase : Phase) (selection : Selection) 
   late : List Message
   cut : messages ≡ front ++ Choice id payload ∷ late
   granted : Granted front selection
-  structured : Splits front structuring
+  structured : SplitsBy front
   last_choice : ChooseNone late
   named : NamesSame id payload selection.export_name
   of_bytes : AreBytes payload
@@ -514,7 +530,7 @@ record Agreed (messages : List Message) (phase : Phase) (selection : Selection) 
 record Looked (core : Core) (messages : List Message) : Type 0 where
   asked : (with : List ℕ) (info : Option Exporting) → core.phase ≡ Answering options.SET_META_CONTEXT with info → Asked messages core.selection with
   granted : core.selection.granted ≡ true → Granted messages core.selection
-  structured : core.structured ≡ true → Splits messages structuring
+  structured : core.structured ≡ true → SplitsBy messages
   agreed : core.brings_contexts ≡ true → Agreed messages core.phase core.selection
 
 granted_more : (messages : List Message) (selection : Selection) (m : Message) → ((payload : List ℕ) → m ≢ Choice options.SET_META_CONTEXT payload) → Granted messages selection → Granted (messages ++ m ∷ []) selection
@@ -652,7 +668,7 @@ module _ (core : Core) (messages : List Message) (l : Looked core messages) (id 
       record {
         asked = λ with info q. subst (λ s. Asked now s with) (sym same) (asked_so with info q);
         granted = λ g. subst (λ s. Granted now s) (sym same) (still_granted (subst (λ (s : Selection). s.granted ≡ true) same g));
-        structured = λ s. splits_more messages (Choice id p ∷ []) structuring (l.structured (sym (choice-structured core id p) ∙ s));
+        structured = λ s. (let h = l.structured (sym (choice-structured core id p) ∙ s) in (h.0, h.1, splits_more messages (Choice id p ∷ []) (structuring h.0) h.2));
         agreed = λ a. subst (λ s. Agreed now next.phase s) (sym same) (agreed_so a);
       }
 
@@ -688,10 +704,10 @@ module _ (core : Core) (messages : List Message) (l : Looked core messages) (m :
   abbrev gone : Core
   gone = complete core m
 
-  structured_grown : gone.structured ≡ true → Splits grown structuring
+  structured_grown : gone.structured ≡ true → SplitsBy grown
   structured_grown s = elim g.structured_is [
-    | inl e ↦ splits_more messages (m ∷ []) structuring (l.structured (sym e ∙ s))
-    | inr e ↦ splits_behind messages (m ∷ []) structuring (record { before = []; after = []; at = ap (λ x. x ∷ []) e })
+    | inl e ↦ (let h = l.structured (sym e ∙ s) in (h.0, h.1, splits_more messages (m ∷ []) (structuring h.0) h.2))
+    | inr (o, so, e) ↦ (o, so, splits_behind messages (m ∷ []) (structuring o) (record { before = []; after = []; at = ap (λ x. x ∷ []) e }))
   ]
 
   no_agreed : (asked : List ℕ) (info : Option Exporting) → core.phase ≡ Answering options.SET_META_CONTEXT asked info → gone.brings_contexts ≡ true → ⊥
@@ -762,13 +778,17 @@ module _ (messages : List Message) (export : Exporting) (selection : Selection) 
   abbrev question : List Message
   question = Choice options.SET_META_CONTEXT g.asked ∷ (map telling selection.contexts ++ granting ∷ [])
 
-  questioned : All (λ m. m ≢ structuring) question
-  questioned = All-cons (λ m. m ≢ structuring) (Choice options.SET_META_CONTEXT g.asked) (map telling selection.contexts ++ granting ∷ []) (λ q. cc)
-      (All-push (λ m. m ≢ structuring) (map telling selection.contexts) granting (All-map (λ m. m ≢ structuring) telling selection.contexts (All-weaker IsShort (λ c. telling c ≢ structuring) (λ c short q. cc) selection.contexts g.ids)) (λ q. cc))
+  questioned : (o : ℕ) → IsStructuring o → All (λ m. m ≢ structuring o) question
+  questioned o so = All-cons (λ m. m ≢ structuring o) (Choice options.SET_META_CONTEXT g.asked) (map telling selection.contexts ++ granting ∷ []) (λ q. cc)
+      (All-push (λ m. m ≢ structuring o) (map telling selection.contexts) granting (All-map (λ m. m ≢ structuring o) telling selection.contexts (All-weaker IsShort (λ c. telling c ≢ structuring o) (λ c short q. cc) selection.contexts g.ids)) no_grant_of)
+    where
+      no_grant_of : granting ≢ structuring o
+      no_grant_of q = (let r : options.SET_META_CONTEXT ≡ o = cc in elim so [ inl e ↦ absurd (omega (arith, e, r)) | inr e ↦ absurd (omega (arith, e, r)) ])
 
   selected_so : AreSelected messages selection.contexts
   selected_so =
-      let s : Splits (g.early ++ g.between) structuring = splits_without g.early question g.between structuring questioned (subst (λ x. Splits x structuring) (g.cut ∙ ap (λ x. g.early ++ (Choice options.SET_META_CONTEXT g.asked ∷ x)) (sym (append_assoc (map telling selection.contexts) (granting ∷ []) g.between))) a.structured) in
+      let o : ℕ = a.structured.0 in
+      let s : Splits (g.early ++ g.between) (structuring o) = splits_without g.early question g.between (structuring o) (questioned o a.structured.1) (subst (λ x. Splits x (structuring o)) (g.cut ∙ ap (λ x. g.early ++ (Choice options.SET_META_CONTEXT g.asked ∷ x)) (sym (append_assoc (map telling selection.contexts) (granting ∷ []) g.between))) a.structured.2) in
       record {
         early = g.early;
         asked = g.asked;
@@ -786,6 +806,8 @@ module _ (messages : List Message) (export : Exporting) (selection : Selection) 
         names = names_so;
         before = s.before;
         after = s.after;
+        granting = o;
+        grants = a.structured.1;
         structured = s.at;
       }
 
@@ -809,8 +831,10 @@ structured_stays core (Choice id p) h = h
 structured_stays core (Answer option kind p) h = ap (λ b. b || grants_structured option kind) h
 structured_stays core (Exported size flags padded) h = h
 structured_stays core (Request flags command cookie offset len p) h = (steady_request (command == commands.DISC) core _).structured_is ∙ h
+structured_stays core (ExtendedRequest flags command cookie offset len p) h = (steady_request (command == commands.DISC) core _).structured_is ∙ h
 structured_stays core (Simple error cookie p) h = (steady_reply (request_of_reply core (Simple error cookie p)) core (Simple error cookie p)).structured_is ∙ h
 structured_stays core (Chunk flags kind cookie p) h = (steady_reply (request_of_reply core (Chunk flags kind cookie p)) core (Chunk flags kind cookie p)).structured_is ∙ h
+structured_stays core (ExtendedChunk flags kind cookie at p) h = (steady_reply (request_of_reply core (ExtendedChunk flags kind cookie at p)) core (ExtendedChunk flags kind cookie at p)).structured_is ∙ h
 
 structured_led : (ms : List Message) (core : Core) → core.structured ≡ true → (led core ms).structured ≡ true
 structured_led [] core h = h
@@ -820,14 +844,17 @@ or_yes : (a : Bool) → (a || true) ≡ true
 or_yes true = refl
 or_yes false = refl
 
-structured_now : (core : Core) → (complete core structuring).structured ≡ true
+structured_now : (core : Core) (o : ℕ) → IsStructuring o → (complete core (structuring o)).structured ≡ true
 unfolding complete
-structured_now core = or_yes core.structured
+structured_now core o so = ap (λ b. core.structured || b) (elim so [
+  | inl e ↦ subst (λ x. grants_structured x answers.ACK ≡ true) (sym e) refl
+  | inr e ↦ subst (λ x. grants_structured x answers.ACK ≡ true) (sym e) refl
+]) ∙ or_yes core.structured
 
-structured_by : (ms : List Message) (core : Core) → Splits ms structuring → (led core ms).structured ≡ true
-structured_by ms core s =
-    ap (λ l. (led core l).structured) s.at ∙ ap (λ (c : Core). c.structured) (led-append s.before (structuring ∷ s.after) core)
-    ∙ structured_led s.after (complete (led core s.before) structuring) (structured_now (led core s.before))
+structured_by : (ms : List Message) (core : Core) → SplitsBy ms → (led core ms).structured ≡ true
+structured_by ms core (o, so, s) =
+    ap (λ l. (led core l).structured) s.at ∙ ap (λ (c : Core). c.structured) (led-append s.before (structuring o ∷ s.after) core)
+    ∙ structured_led s.after (complete (led core s.before) (structuring o)) (structured_now (led core s.before) o so)
 
 -- messages that do not choose SET_META_CONTEXT, after its answer
 record IsLeft (old now : Core) : Type 0 where
@@ -966,9 +993,9 @@ module _ (core : Core) (messages : List Message) (contexts : List Context) (a : 
   selected_at_end = left_late.selection_is ∙ choice-selection at_choice a.id a.payload ∙ selection_left a.id a.payload at_choice.selection no_set_then ∙ selected_at_choice
 
   structured_at_choice : at_choice.structured ≡ true
-  structured_at_choice = elim (splits-append a.early a.between a.before a.after structuring a.structured) [
-    | inl s ↦ structured_led a.between at_grant (structured_stays at_answer granting (structured_led (map telling contexts) at_question (structured_stays at_first asks_for (structured_by a.early core s))))
-    | inr s ↦ structured_by a.between at_grant s
+  structured_at_choice = elim (splits-append a.early a.between a.before a.after (structuring a.granting) a.structured) [
+    | inl s ↦ structured_led a.between at_grant (structured_stays at_answer granting (structured_led (map telling contexts) at_question (structured_stays at_first asks_for (structured_by a.early core (a.granting, a.grants, s)))))
+    | inr s ↦ structured_by a.between at_grant (a.granting, a.grants, s)
   ]
 
   agreed_at_end : at_end.brings_contexts ≡ true

@@ -6,7 +6,7 @@ use Rattle.nbd_wire.specs.declared.entry.Entry.{Entry}
 use Rattle.nbd_wire.specs.declared.message.Side.{Side}
 use Rattle.nbd_wire.specs.declared.message.Side.TheVariants.{Client, Server}
 use Rattle.nbd_wire.specs.declared.message.Message.{Message}
-use Rattle.nbd_wire.specs.declared.message.Message.TheVariants.{Greeting, ClientFlags, Choice, Answer, Exported, Request, Simple, Chunk}
+use Rattle.nbd_wire.specs.declared.message.Message.TheVariants.{Greeting, ClientFlags, Choice, Answer, Exported, Request, Simple, Chunk, ExtendedRequest, ExtendedChunk}
 use Rattle.nbd_wire.specs.protocol.Encoding.{enc, head}
 use Rattle.nbd_wire.specs.protocol.Sides.{side}
 use Rattle.nbd_wire.specs.protocol.Marks.{Item, Byte, Starts, Completes, Serves, pairs, completed_messages}
@@ -47,8 +47,10 @@ length-complete core (Choice id payload) = inl refl
 length-complete core (Answer option kind payload) = inl refl
 length-complete core (Exported size flags padded) = inl refl
 length-complete core (Request flags command cookie offset len payload) = length-requested _ core _
+length-complete core (ExtendedRequest flags command cookie offset len payload) = length-requested _ core _
 length-complete core (Simple error cookie payload) = inl (length-reply_to (request_of_reply core (Simple error cookie payload)) core (Simple error cookie payload))
 length-complete core (Chunk flags kind cookie payload) = inl (length-reply_to (request_of_reply core (Chunk flags kind cookie payload)) core (Chunk flags kind cookie payload))
+length-complete core (ExtendedChunk flags kind cookie at payload) = inl (length-reply_to (request_of_reply core (ExtendedChunk flags kind cookie at payload)) core (ExtendedChunk flags kind cookie at payload))
 
 target_from-within : (n cookie : ℕ) (es : List Operation) (k : ℕ) → target_from n cookie es ≡ Some k → (0 < k) × (k ≤ n + length es)
 target_from-within n cookie [] k e = absurd (cc)
@@ -65,12 +67,14 @@ target-within cookie es k e = let q : (0 < k) × (k ≤ 0 + length es) = target_
 pub answered_by-within : (core : Core) (m : Message) (k : ℕ) → request_of_reply core m ≡ Some k → (0 < k) × (k ≤ length core.entries)
 answered_by-within core (Simple error cookie payload) k e = target-within cookie core.entries k e
 answered_by-within core (Chunk flags kind cookie payload) k e = target-within cookie core.entries k e
+answered_by-within core (ExtendedChunk flags kind cookie at payload) k e = target-within cookie core.entries k e
 answered_by-within core (Greeting flags) k e = absurd (cc)
 answered_by-within core (ClientFlags flags) k e = absurd (cc)
 answered_by-within core (Choice id payload) k e = absurd (cc)
 answered_by-within core (Answer option kind payload) k e = absurd (cc)
 answered_by-within core (Exported size flags padded) k e = absurd (cc)
 answered_by-within core (Request flags command cookie offset len payload) k e = absurd (cc)
+answered_by-within core (ExtendedRequest flags command cookie offset len payload) k e = absurd (cc)
 
 -- a request that a message answers has completed
 pub answering : (core : Core) (m : Message) (k : ℕ) → is_reply_to core m k ≡ true → (0 < k) × (k ≤ length core.entries)
@@ -200,8 +204,10 @@ enc-long (Choice id payload) b e = (cc)
 enc-long (Answer option kind payload) b e = (cc)
 enc-long (Exported size flags padded) b e = (cc)
 enc-long (Request flags command cookie offset len payload) b e = (cc)
+enc-long (ExtendedRequest flags command cookie offset len payload) b e = (cc)
 enc-long (Simple error cookie payload) b e = (cc)
 enc-long (Chunk flags kind cookie payload) b e = (cc)
+enc-long (ExtendedChunk flags kind cookie at payload) b e = (cc)
 
 -- a new guess for one side
 guess_with : (olds ends : Both Rest) (opens : Both Open) (s : Side) (rest : Rest) (o : Open) →

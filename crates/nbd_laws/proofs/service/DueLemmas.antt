@@ -4,7 +4,7 @@ use Rattle.std.proofs.lemmas.Bool.{eqb-true, leb-true, le-leb}
 use Rattle.nbd_wire.specs.declared.entry.Entry.{Entry}
 use Rattle.nbd_wire.specs.declared.commands.TheConstants as commands
 use Rattle.nbd_wire.specs.declared.message.Message.{Message}
-use Rattle.nbd_wire.specs.declared.message.Message.TheVariants.{Greeting, ClientFlags, Choice, Answer, Exported, Request, Simple, Chunk}
+use Rattle.nbd_wire.specs.declared.message.Message.TheVariants.{Greeting, ClientFlags, Choice, Answer, Exported, Request, Simple, Chunk, ExtendedRequest, ExtendedChunk}
 use Rattle.nbd_wire.specs.declared.message.Side.TheVariants.{Client, Server}
 use Rattle.nbd_wire.specs.declared.profile.Profile.{Profile}
 use Rattle.nbd_wire.specs.protocol.Marks.{Item, Byte, Starts, Completes, Serves}
@@ -164,8 +164,10 @@ shown_complete core (Choice id p) k x = noted_none (shown_at core k x) (length c
 shown_complete core (Answer option kind p) k x = noted_none (shown_at core k x) (length core.entries)
 shown_complete core (Exported size flags padded) k x = noted_none (shown_at core k x) (length core.entries)
 shown_complete core (Request flags command cookie offset len p) k x = request_shown (command == commands.DISC) core _ k x (length core.entries)
+shown_complete core (ExtendedRequest flags command cookie offset len p) k x = request_shown (command == commands.DISC) core _ k x (length core.entries)
 shown_complete core (Simple error cookie p) k x = reply_shown (request_of_reply core (Simple error cookie p)) core (Simple error cookie p) k x
 shown_complete core (Chunk flags kind cookie p) k x = reply_shown (request_of_reply core (Chunk flags kind cookie p)) core (Chunk flags kind cookie p) k x
+shown_complete core (ExtendedChunk flags kind cookie at p) k x = reply_shown (request_of_reply core (ExtendedChunk flags kind cookie at p)) core (ExtendedChunk flags kind cookie at p) k x
 
 pub ended_complete : (core : Core) (m : Message) (k : ℕ) → (complete core m).ended_at k ≡ noted (core.ended_at k) (is_reply_to core m k && ends_reply m) (length core.entries)
 unfolding complete
@@ -175,8 +177,10 @@ ended_complete core (Choice id p) k = noted_none (core.ended_at k) (length core.
 ended_complete core (Answer option kind p) k = noted_none (core.ended_at k) (length core.entries)
 ended_complete core (Exported size flags padded) k = noted_none (core.ended_at k) (length core.entries)
 ended_complete core (Request flags command cookie offset len p) k = request_ended (command == commands.DISC) core _ k (length core.entries)
+ended_complete core (ExtendedRequest flags command cookie offset len p) k = request_ended (command == commands.DISC) core _ k (length core.entries)
 ended_complete core (Simple error cookie p) k = reply_ended (request_of_reply core (Simple error cookie p)) core (Simple error cookie p) k
 ended_complete core (Chunk flags kind cookie p) k = reply_ended (request_of_reply core (Chunk flags kind cookie p)) core (Chunk flags kind cookie p) k
+ended_complete core (ExtendedChunk flags kind cookie at p) k = reply_ended (request_of_reply core (ExtendedChunk flags kind cookie at p)) core (ExtendedChunk flags kind cookie at p) k
 
 -- what was noted, or is noted now
 pub noted_cases : (o : Option ℕ) (b : Bool) (n v : ℕ) → noted o b n ≡ Some v → (o ≡ Some v) ⊎ ((b ≡ true) × (v ≡ n))

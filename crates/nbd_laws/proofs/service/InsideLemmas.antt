@@ -3,14 +3,14 @@ use Rattle.std.proofs.Common.{◌≡◌, ℕ, zero, suc, ◌<◌, ◌≤◌, ◌
 use Rattle.nbd_wire.specs.declared.commands.TheConstants as commands
 use Rattle.nbd_wire.specs.declared.entry.Entry.{Entry}
 use Rattle.nbd_wire.specs.declared.message.Message.{Message}
-use Rattle.nbd_wire.specs.declared.message.Message.TheVariants.{Greeting, ClientFlags, Choice, Answer, Exported, Request, Simple, Chunk}
+use Rattle.nbd_wire.specs.declared.message.Message.TheVariants.{Greeting, ClientFlags, Choice, Answer, Exported, Request, Simple, Chunk, ExtendedRequest, ExtendedChunk}
 use Rattle.nbd_wire.specs.declared.profile.Profile.{Profile}
 use Rattle.nbd_wire.specs.declared.profile.Profile.TheVariants.{Base, Wide}
 use Rattle.nbd_wire.specs.protocol.Marks.{Item, Byte, Starts, Completes, Serves}
 use Rattle.nbd_wire.specs.protocol.Operations.{Exporting, Operation, is_proper}
 use Rattle.nbd_wire.specs.protocol.Rules.{MayComplete, Obeys, complete, core_with_request, inside_at, inside_operation, is_by_chunk, reply_to, request_of_reply}
 use Rattle.nbd_wire.specs.protocol.States.{Core, Phase, Greet, Flags, Choosing, Naming, Aborting, Answering, Transmission, export_in, operation, with_reply, with_reply_at}
-use Rattle.nbd_laws.proofs.runs.PrefixLemmas.{InTransmission, asks, gives, in_transmission, phase-complete, replies, transmission_row}
+use Rattle.nbd_laws.proofs.runs.PrefixLemmas.{InTransmission, asks, gives, in_transmission, phase-complete, replies, transmission_row, asks_more, gives_more}
 use Rattle.nbd_laws.proofs.runs.TraceLemmas.{length-complete}
 
 -- the core after the items
@@ -90,8 +90,10 @@ inside_transmitted : (core : Core) (export : Exporting) (m : Message) → InTran
     inside_operation o (operation k (complete core m).entries) ≡ inside_operation o (operation k core.entries)
 unfolding complete
 inside_transmitted core export m (asks flags command cookie offset len p h) o k l = ap (inside_operation o) (operation_requested (command == commands.DISC) core _ k l)
+inside_transmitted core export m (asks_more flags command cookie offset len p h) o k l = ap (inside_operation o) (operation_requested (command == commands.DISC) core _ k l)
 inside_transmitted core export m (replies error cookie p h) o k l = inside_reply_to o (request_of_reply core (Simple error cookie p)) core (Simple error cookie p) k
 inside_transmitted core export m (gives flags kind cookie p h) o k l = inside_reply_to o (request_of_reply core (Chunk flags kind cookie p)) core (Chunk flags kind cookie p) k
+inside_transmitted core export m (gives_more flags kind cookie at p h) o k l = inside_reply_to o (request_of_reply core (ExtendedChunk flags kind cookie at p)) core (ExtendedChunk flags kind cookie at p) k
 
 inside_complete : (core : Core) (m : Message) → MayComplete core core.phase m → IsSettled core → (k : ℕ) → 0 < k → k ≤ length core.entries → inside_at (complete core m) k ≡ inside_at core k
 inside_complete core m ok settled k p l =
@@ -135,8 +137,10 @@ chunk_complete q core (Choice id p) k l = refl
 chunk_complete q core (Answer option kind p) k l = refl
 chunk_complete q core (Exported size flags padded) k l = refl
 chunk_complete q core (Request flags command cookie offset len p) k l = ap (is_by_chunk q) (sym (operation_requested (command == commands.DISC) core _ k l))
+chunk_complete q core (ExtendedRequest flags command cookie offset len p) k l = ap (is_by_chunk q) (sym (operation_requested (command == commands.DISC) core _ k l))
 chunk_complete q core (Simple error cookie p) k l = sym (chunk_reply_to q (request_of_reply core (Simple error cookie p)) core (Simple error cookie p) k)
 chunk_complete q core (Chunk flags kind cookie p) k l = sym (chunk_reply_to q (request_of_reply core (Chunk flags kind cookie p)) core (Chunk flags kind cookie p) k)
+chunk_complete q core (ExtendedChunk flags kind cookie at p) k l = sym (chunk_reply_to q (request_of_reply core (ExtendedChunk flags kind cookie at p)) core (ExtendedChunk flags kind cookie at p) k)
 
 -- whether a request is served by chunk is the same at the end
 pub chunk_end : (q : Profile) (core : Core) (items : List Item) (k : ℕ) → k ≤ length core.entries → is_by_chunk q (operation k core.entries) ≡ is_by_chunk q (operation k (core_end core items).entries)

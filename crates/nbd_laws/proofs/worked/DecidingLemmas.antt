@@ -9,14 +9,14 @@ use Rattle.nbd_wire.specs.declared.commands.TheConstants as commands
 use Rattle.nbd_wire.specs.declared.message.Side.{Side}
 use Rattle.nbd_wire.specs.declared.message.Side.TheVariants.{Client, Server}
 use Rattle.nbd_wire.specs.declared.message.Message.{Message}
-use Rattle.nbd_wire.specs.declared.message.Message.TheVariants.{Greeting, ClientFlags, Choice, Answer, Exported, Request, Simple, Chunk}
+use Rattle.nbd_wire.specs.declared.message.Message.TheVariants.{Greeting, ClientFlags, Choice, Answer, Exported, Request, Simple, Chunk, ExtendedRequest, ExtendedChunk}
 use Rattle.nbd_wire.specs.protocol.Encoding.{AreBytes}
 use Rattle.nbd_wire.specs.protocol.Options.{turn}
 use Rattle.nbd_wire.specs.protocol.Operations.{Exporting, Operation, ends_reply, has_range, is_proper, proper_on}
 use Rattle.nbd_wire.specs.protocol.Pieces.{is_in}
-use Rattle.nbd_wire.specs.protocol.Rules.{IsServedFor, MayStartIn, gives, inside_at, inside_operation, is_by_chunk, is_reply_to, is_request, is_this, request_of_reply}
+use Rattle.nbd_wire.specs.protocol.Rules.{IsServedFor, MayStartIn, gives, inside_at, inside_operation, is_by_chunk, is_reply_to, is_request, is_this, request_of_reply, is_extended}
 use Rattle.nbd_wire.specs.protocol.Marks.{Completes, Starts}
-use Rattle.nbd_wire.specs.protocol.Sendable.{IsPayload, IsSendable}
+use Rattle.nbd_wire.specs.protocol.Sendable.{carries_payload, IsPayload, IsSendable}
 use Rattle.nbd_wire.specs.protocol.Sides.{same_side}
 use Rattle.nbd_wire.specs.protocol.States.{Core, Phase, State, Greet, Flags, Choosing, Naming, Aborting, Answering, Ended, Transmission, export_in, operation}
 
@@ -105,6 +105,11 @@ is_sendable (Request flags command cookie offset len payload) =
     && ((length payload == (if command == commands.WRITE then len else 0)) && are_bytes payload)))))
 is_sendable (Simple error cookie payload) = nat_lt error (2 ^ 32) && (nat_lt cookie (2 ^ 64) && is_payload payload)
 is_sendable (Chunk flags kind cookie payload) = nat_lt flags (2 ^ 16) && (nat_lt kind (2 ^ 16) && (nat_lt cookie (2 ^ 64) && is_payload payload))
+is_sendable (ExtendedRequest flags command cookie offset len payload) =
+    nat_lt flags (2 ^ 16) && (nat_lt command (2 ^ 16) && (nat_lt cookie (2 ^ 64) && (nat_lt offset (2 ^ 64) && (nat_lt len (2 ^ 64)
+    && ((length payload == (if carries_payload flags command then len else 0)) && is_payload payload)))))
+is_sendable (ExtendedChunk flags kind cookie offset payload) =
+    nat_lt flags (2 ^ 16) && (nat_lt kind (2 ^ 16) && (nat_lt cookie (2 ^ 64) && (nat_lt offset (2 ^ 64) && is_payload payload)))
 
 pub sendable : (m : Message) → IsTrue (is_sendable m) → IsSendable m
 unfolding IsSendable
@@ -137,6 +142,27 @@ sendable (Chunk flags kind cookie payload) e =
     let b = both (nat_lt kind (2 ^ 16)) _ a.1 in
     let c = both (nat_lt cookie (2 ^ 64)) _ b.1 in
     (ltb-true flags (2 ^ 16) a.0, ltb-true kind (2 ^ 16) b.0, ltb-true cookie (2 ^ 64) c.0, payload_is payload c.1)
+sendable (ExtendedRequest flags command cookie offset len payload) e =
+    let a = both (nat_lt flags (2 ^ 16)) _ e in
+    let b = both (nat_lt command (2 ^ 16)) _ a.1 in
+    let c = both (nat_lt cookie (2 ^ 64)) _ b.1 in
+    let d = both (nat_lt offset (2 ^ 64)) _ c.1 in
+    let f = both (nat_lt len (2 ^ 64)) _ d.1 in
+    let g = both (length payload == (if carries_payload flags command then len else 0)) (is_payload payload) f.1 in (
+      ltb-true flags (2 ^ 16) a.0,
+      ltb-true command (2 ^ 16) b.0,
+      ltb-true cookie (2 ^ 64) c.0,
+      ltb-true offset (2 ^ 64) d.0,
+      ltb-true len (2 ^ 64) f.0,
+      eqb-true (length payload) (if carries_payload flags command then len else 0) g.0,
+      payload_is payload g.1,
+    )
+sendable (ExtendedChunk flags kind cookie offset payload) e =
+    let a = both (nat_lt flags (2 ^ 16)) _ e in
+    let b = both (nat_lt kind (2 ^ 16)) _ a.1 in
+    let c = both (nat_lt cookie (2 ^ 64)) _ b.1 in
+    let d = both (nat_lt offset (2 ^ 64)) _ c.1 in
+    (ltb-true flags (2 ^ 16) a.0, ltb-true kind (2 ^ 16) b.0, ltb-true cookie (2 ^ 64) c.0, ltb-true offset (2 ^ 64) d.0, payload_is payload d.1)
 
 abbrev pub is_turn : Option Side → Side → Bool
 is_turn (Some t) s = same_side t s
@@ -146,15 +172,30 @@ pub turn_is : (t : Option Side) (s : Side) → IsTrue (is_turn t s) → t ≡ So
 turn_is (Some t) s e = ap Some (same_sides t s e)
 turn_is None s e = absurd (cc)
 
+abbrev pub same_bool : Bool → Bool → Bool
+same_bool true b = b
+same_bool false b = not b
+
+same_bools : (a b : Bool) → IsTrue (same_bool a b) → a ≡ b
+same_bools true true e = refl
+same_bools true false e = absurd (cc)
+same_bools false true e = absurd (cc)
+same_bools false false e = refl
+
 abbrev pub may_start_in : Phase → Core → Side → Message → Bool
-may_start_in (Transmission export) core Client m = is_request m && not core.disconnected
-may_start_in (Transmission export) core Server m = is_some (request_of_reply core m)
+may_start_in (Transmission export) core Client m = is_request m && (not core.disconnected && same_bool (is_extended m) core.extended)
+may_start_in (Transmission export) core Server m = is_some (request_of_reply core m) && same_bool (is_extended m) core.extended
 may_start_in phase core s m = is_turn (turn phase) s
 
 pub starts_in : (phase : Phase) (core : Core) (s : Side) (m : Message) → IsTrue (may_start_in phase core s m) → MayStartIn phase core s m
 unfolding MayStartIn
-starts_in (Transmission export) core Client m e = (let h = both (is_request m) (not core.disconnected) e in (h.0, was_false core.disconnected h.1))
-starts_in (Transmission export) core Server m e = e
+starts_in (Transmission export) core Client m e =
+    let h = both (is_request m) (not core.disconnected && same_bool (is_extended m) core.extended) e in
+    let g = both (not core.disconnected) (same_bool (is_extended m) core.extended) h.1 in
+    (h.0, was_false core.disconnected g.0, same_bools (is_extended m) core.extended g.1)
+starts_in (Transmission export) core Server m e =
+    let h = both (is_some (request_of_reply core m)) (same_bool (is_extended m) core.extended) e in
+    (h.0, same_bools (is_extended m) core.extended h.1)
 starts_in Greet core s m e = turn_is (turn Greet) s e
 starts_in Flags core s m e = turn_is (turn Flags) s e
 starts_in Choosing core s m e = turn_is (turn Choosing) s e

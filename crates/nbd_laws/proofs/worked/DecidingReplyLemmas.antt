@@ -1,8 +1,8 @@
 -- Tests that decide the rules of replies by computing.
-use Rattle.std.proofs.Common.{◌≡◌, ℕ, ◌==◌, ◌&&◌, length, refl, Option, Some, None, Bool, false, IsTrue, eqb-true}
+use Rattle.std.proofs.Common.{◌≡◌, ℕ, ◌==◌, ◌&&◌, length, refl, Option, Some, None, Bool, true, false, IsTrue, eqb-true}
 use Rattle.nbd_wire.specs.declared.chunks.TheConstants as chunks
 use Rattle.nbd_wire.specs.declared.message.Message.{Message}
-use Rattle.nbd_wire.specs.declared.message.Message.TheVariants.{Simple, Chunk}
+use Rattle.nbd_wire.specs.declared.message.Message.TheVariants.{Simple, Chunk, ExtendedRequest, ExtendedChunk}
 use Rattle.nbd_wire.specs.protocol.Transmission.{simple_length, chunk_fault, read_as, chunk_head_fault, simple_fault, simple_last_fault}
 use Rattle.nbd_wire.specs.protocol.Rules.{MayReply}
 use Rattle.nbd_wire.specs.declared.profile.Profile.{Profile}
@@ -16,7 +16,10 @@ abbrev pub may_reply : Profile → Bool → Exporting → Operation → Message 
 may_reply profile structured export e (Simple error cookie payload) =
     (length payload == simple_length e error) && (is_clean (simple_fault structured (Some e) error) && is_clean (simple_last_fault export (Some e) error))
 may_reply profile structured export e (Chunk flags kind cookie payload) =
-    is_clean (chunk_head_fault structured (Some e)) && is_clean (chunk_fault (kind == chunks.NONE) export e (with_reply e (Chunk flags kind cookie payload)) flags (read_as profile kind) payload)
+    is_clean (chunk_head_fault structured (Some e)) && is_clean (chunk_fault false (kind == chunks.NONE) export e (with_reply e (Chunk flags kind cookie payload)) flags (read_as profile kind) payload)
+may_reply profile structured export e (ExtendedChunk flags kind cookie offset payload) =
+    is_clean (chunk_head_fault structured (Some e))
+    && (is_clean (chunk_fault true (kind == chunks.NONE) export e (with_reply e (ExtendedChunk flags kind cookie offset payload)) flags (read_as profile kind) payload) && (offset == e.offset))
 may_reply profile structured export e m = false
 
 pub reply_is : (profile : Profile) (structured : Bool) (export : Exporting) (e : Operation) (m : Message) → IsTrue (may_reply profile structured export e m) → MayReply profile structured export e m
@@ -26,6 +29,10 @@ reply_is profile structured export e (Simple error cookie payload) h =
     let b = both (is_clean (simple_fault structured (Some e) error)) _ a.1 in
     (eqb-true (length payload) (simple_length e error) a.0, clean_is _ b.0, clean_is _ b.1)
 reply_is profile structured export e (Chunk flags kind cookie payload) h = let a = both (is_clean (chunk_head_fault structured (Some e))) _ h in (clean_is _ a.0, clean_is _ a.1)
+reply_is profile structured export e (ExtendedChunk flags kind cookie offset payload) h =
+    let a = both (is_clean (chunk_head_fault structured (Some e))) _ h in
+    let b = both _ (offset == e.offset) a.1 in
+    (clean_is _ a.0, clean_is _ b.0, eqb-true offset e.offset b.1)
 reply_is profile structured export e m h = absurd (cc)
 
 abbrev pub replies_to : Core → Exporting → Message → Option Operation → Bool

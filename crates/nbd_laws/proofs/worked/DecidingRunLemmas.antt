@@ -15,7 +15,7 @@ use Rattle.nbd_wire.specs.declared.profile.Profile.{Profile}
 use Rattle.nbd_wire.specs.declared.profile.Profile.TheVariants.{Base}
 use Rattle.nbd_laws.specs.Prefixes.{ended_messages}
 use Rattle.nbd_wire.specs.protocol.States.{Core, Phase, State, Greet, Flags, Choosing, Naming, Aborting, Answering, Transmission, start, start_of, target}
-use Rattle.nbd_laws.proofs.worked.DecidingLemmas.{are_equal, both, clean_is, equal_bools, is_clean, is_fresh, is_sendable, is_served_for, may_start_in, same_sides, sendable, serves_end, serves_start, starts_in, true_is_fresh}
+use Rattle.nbd_laws.proofs.worked.DecidingLemmas.{was_false, are_equal, both, clean_is, equal_bools, is_clean, is_fresh, is_sendable, is_served_for, may_start_in, same_sides, sendable, serves_end, serves_start, starts_in, true_is_fresh}
 use Rattle.nbd_wire.specs.protocol.Options.{is_proper_option, takes_contexts}
 use Rattle.nbd_wire.specs.protocol.Negotiation.{abort_fault, answer_fault, answer_head_fault, answer_last_fault, client_flags_fault, export_fault, greeting_fault}
 use Rattle.nbd_wire.specs.protocol.Transmission.{cookie_fault, request_fault}
@@ -31,7 +31,7 @@ may_complete core (Answering asked given info) (Answer option kind payload) =
     is_clean (answer_head_fault core.profile asked (is_proper_option asked given) (takes_contexts asked given) info option kind (length payload))
     && is_clean (answer_last_fault core.profile asked (is_proper_option asked given) core.selection kind payload)
 may_complete core (Transmission export) (Request flags command cookie offset len payload) =
-    is_clean (request_fault command offset len) && is_clean (cookie_fault command (target cookie core.entries))
+    is_clean (request_fault command offset len) && (is_clean (cookie_fault command (target cookie core.entries)) && not core.extended)
 may_complete core (Transmission export) (Simple error cookie payload) = answers_target core export (Simple error cookie payload) (target cookie core.entries)
 may_complete core (Transmission export) (Chunk flags kind cookie payload) = answers_target core export (Chunk flags kind cookie payload) (target cookie core.entries)
 may_complete core phase m = false
@@ -46,7 +46,10 @@ completes core Naming (Exported size flags padded) h =
     (are_equal padded (not (has core.client_flags handshake.C_NO_ZEROES)) b.0, clean_is _ b.1)
 completes core Aborting (Answer option kind payload) h = clean_is _ h
 completes core (Answering asked given info) (Answer option kind payload) h = let a = both (is_clean (answer_head_fault core.profile asked _ _ info option kind (length payload))) _ h in (clean_is _ a.0, clean_is _ a.1)
-completes core (Transmission export) (Request flags command cookie offset len payload) h = let a = both (is_clean (request_fault command offset len)) _ h in (clean_is _ a.0, clean_is _ a.1)
+completes core (Transmission export) (Request flags command cookie offset len payload) h =
+    let a = both (is_clean (request_fault command offset len)) _ h in
+    let b = both (is_clean (cookie_fault command (target cookie core.entries))) (not core.extended) a.1 in
+    (clean_is _ a.0, clean_is _ b.0, was_false core.extended b.1)
 completes core (Transmission export) (Simple error cookie payload) h = answers_one core export cookie (Simple error cookie payload) h
 completes core (Transmission export) (Chunk flags kind cookie payload) h = answers_one core export cookie (Chunk flags kind cookie payload) h
 completes core phase m h = absurd (cc)

@@ -80,7 +80,7 @@ module _ (state : State) (core : Core) (place : ℕ) (s : Shows state core) (l :
       ∙ ap (λ (p : definitions.Phase). last_fault_by p core (Simple head place len) payload) (sym a.phase_is)
 
   pub chunk_end : (head : ChunkHead) → place_at state.outstanding head.cookie ≡ Some place → (payload : List ℕ) (r : Option WireFault) →
-      ((export : Exporting) (e : Operation) → e.contexts ≡ in_force core → IsShown export e x → is_finished e ≡ false → r ≡ chunk_fault_to core.profile export (Some e) head.flags head.kind head.cookie payload) →
+      ((export : Exporting) (e : Operation) → e.contexts ≡ in_force core → IsShown export e x → is_finished e ≡ false → r ≡ chunk_fault_to core.profile export (Some e) head payload) →
       r ≡ last_fault_by core.phase core (Chunk head place) payload
   chunk_end head g payload r o =
       let a = exchange_shown_at state core place s l in
@@ -89,5 +89,5 @@ module _ (state : State) (core : Core) (place : ℕ) (s : Shows state core) (l :
       let same : b.e ≡ a.e = same_Some _ _ (sym numbered ∙ a.numbered) in
       o a.export a.e (asked_at (in_force core) (place + 1) core.entries a.e s.asked_with a.numbered) (read_at a)
       (subst (λ (e : Operation). is_finished e ≡ false) same (open_target core head.cookie (suc place) b.e b.found b.numbered))
-      ∙ ap (λ to. chunk_fault_to core.profile a.export to head.flags head.kind head.cookie payload) (sym a.numbered)
+      ∙ ap (λ to. chunk_fault_to core.profile a.export to head payload) (sym a.numbered)
       ∙ ap (λ (p : definitions.Phase). last_fault_by p core (Chunk head place) payload) (sym a.phase_is)

@@ -105,8 +105,8 @@ naming_of (Transmission export) e = absurd (cc)
 -- a phase's message has this length of its head, and bytes of this length are whole
 pub head_in : (state : State) (s : Side) (head : List ℕ) (n : ℕ) (phase : program_phase.Phase) → state.phase ≡ phase →
     ((core : Core) (counted : ℕ) → Shows state core → (d : Decision) × (decision_by_count counted core s head ≡ Some d) × (d.head_length ≡ n)) →
-    (length head ≡ n → whole_head_by phase state.disconnected s head) → HasHeadLength state s head n
-head_in state s head n phase is decided whole = record { decided = decided; whole = λ e. subst (λ p. whole_head_by p state.disconnected s head) (sym is) (whole e) }
+    (length head ≡ n → whole_head_by phase state.disconnected state.extended s head) → HasHeadLength state s head n
+head_in state s head n phase is decided whole = record { decided = decided; whole = λ e. subst (λ p. whole_head_by p state.disconnected state.extended s head) (sym is) (whole e) }
 
 -- what is decided in a phase
 pub decided_in : (counted : ℕ) (core : Core) (s : Side) (head : List ℕ) (p : Phase) (d : Decision) → core.phase ≡ p → decision_with p (operation_counted counted core) core s head ≡ Some d →

@@ -1,9 +1,9 @@
 -- A reply whose head has come.
-use Rattle.std.proofs.Common.{◌≡◌, ℕ, zero, suc, ◌+◌, ◌<◌, [], ◌∷◌, ◌==◌, ◌&&◌, ◌||◌, ◌++◌, not, List, length, drop, arith, nat_le, inl, inr, Result, Ok, Err, IfOk, IfErr, refl, sym, ◌∙◌, ap, subst, Option, Some, None, true, false, if◌then◌else◌, slice_get}
+use Rattle.std.proofs.Common.{◌≡◌, ℕ, zero, suc, ◌+◌, ◌<◌, ◌≤◌, [], ◌∷◌, ◌==◌, ◌&&◌, ◌||◌, ◌++◌, not, List, length, drop, arith, nat_le, nat_lt, inl, inr, Result, Ok, Err, IfOk, IfErr, refl, sym, ◌∙◌, ap, subst, Option, Some, None, Bool, true, false, if◌then◌else◌, slice_get}
 use Rattle.nbd_wire.specs.declared.commands.TheConstants as commands
 use Rattle.nbd_wire.specs.declared.fault.WireFault.{WireFault}
-use Rattle.nbd_wire.specs.declared.fault.WireFault.TheVariants.{SimpleForbidden, ChunkForbidden}
-use Rattle.nbd_wire.specs.declared.magics.TheConstants.{CHUNK_MAGIC, SIMPLE_MAGIC}
+use Rattle.nbd_wire.specs.declared.fault.WireFault.TheVariants.{BadMagic, SimpleForbidden, ChunkForbidden, OutOfProfile}
+use Rattle.nbd_wire.specs.declared.magics.TheConstants.{CHUNK_MAGIC, EXTENDED_CHUNK_MAGIC, SIMPLE_MAGIC}
 use Rattle.nbd_wire.specs.declared.message.Message.TheVariants as messages
 use Rattle.nbd_wire.specs.protocol.Payloads.{number_at}
 use Rattle.nbd_wire.specs.declared.heads.transmission.ChunkHead.{ChunkHead}
@@ -12,9 +12,10 @@ use Rattle.nbd_wire.specs.protocol.Operations.{Exporting, Operation, asks_status
 use Rattle.nbd_wire.specs.protocol.States.{Core, Transmission, in_force, operation, target}
 use Rattle.nbd_laws.proofs.requests.OutstandingLemmas.{find}
 use Rattle.nbd_session.specs.internal.Counted.{operation_counted}
-use Rattle.nbd_wire.specs.protocol.Decisions.{Decision, begins, chunk_last_fault, chunk_to, reply_by, reply_with, simple_to}
+use Rattle.nbd_wire.specs.protocol.Decisions.{Decision, begins, chunk_last_fault, chunk_to, extended_chunk_to, extended_last_fault, extended_reply_by, no_reply, reply_by, reply_in, reply_with, simple_of, simple_to}
+use Rattle.nbd_wire.specs.protocol.Reading.{Bad, last_reading, reading_by_decision, staged_reading_by}
 use Rattle.nbd_wire.specs.protocol.Tests.{fault_if}
-use Rattle.nbd_wire.specs.protocol.Transmission.{is_none_yet, chunk_head_fault, simple_fault, simple_last_fault, simple_payload_length}
+use Rattle.nbd_wire.specs.protocol.Transmission.{is_none_yet, chunk_head_fault, extended_head_fault, simple_fault, simple_last_fault, simple_payload_length}
 use Rattle.nbd_laws.proofs.judge.SteadyLemmas.{begun_true, no_chunk}
 use Rattle.nbd_state.specs.Showing.{IsShown}
 use Rattle.nbd_laws.specs.Selecting.{AreAskedWith}
@@ -23,13 +24,11 @@ use Rattle.nbd_session.specs.internal.Asking.{is_simple_forbidden}
 use Rattle.nbd_state.specs.declared.asked.Exchange.{Exchange}
 use Rattle.nbd_session.specs.declared.expected.Expected.{Expected}
 use Rattle.nbd_session.specs.declared.expected.Expected.TheVariants.{Simple, Chunk}
-use Rattle.nbd_session.specs.internal.Expecting.{HasReplyLength, IsChunkOf, IsPlaceOf, IsReplyHead, IsSimpleOf, chunk_fault_to, expected_decision, last_fault_by}
-use Rattle.nbd_session.specs.internal.Leading.{chunk_head_of, simple_head_of, some_if}
-use Rattle.std.proofs.lemmas.Bool.{and_parts, lt-leb}
+use Rattle.nbd_session.specs.internal.Expecting.{HasReplyLength, IsChunkOf, IsNoReply, IsPlaceOf, IsReplyHead, IsSimpleOf, chunk_fault_to, expected_decision, head_fault_by, is_too_long, last_fault_by}
+use Rattle.nbd_session.specs.internal.Leading.{chunk_fields, chunk_head_length, chunk_head_of, chunk_magic, simple_head_of, some_if}
+use Rattle.nbd_state.specs.Heads.{chunk_of}
+use Rattle.std.proofs.lemmas.Bool.{and_parts, le-ltb, lt-leb}
 use Rattle.nbd_session.proofs.expecting.HeadLemmas.{after_head, fields_stay}
-
-abbrev pub chunk_fields : List ℕ → ChunkHead
-chunk_fields head = record { flags = number_at 4 2 head; kind = number_at 6 2 head; cookie = number_at 8 8 head; length = number_at 16 4 head }
 
 -- a number of a request is at most the count of all
 pub operation_within : (es : List Operation) (k : ℕ) (e : Operation) → operation (suc k) es ≡ Some e → k < length es
@@ -60,9 +59,9 @@ module _ (export : Exporting) (core : Core) (counted place : ℕ) (exchanges : L
   forbidden_of h found is =
       ap (λ to. simple_fault core.structured to h.error) found.2 ∙ ap (λ b. fault_if b SimpleForbidden None) (same_test h found (shown_here h found) ∙ is)
 
-  pub simple_of : (h : SimpleHead) (len : ℕ) → IsPlaceOf export core counted h.cookie exchanges (Some place) → is_simple_forbidden core x.asked h.error ≡ false →
+  pub simple_is : (h : SimpleHead) (len : ℕ) → IsPlaceOf export core counted h.cookie exchanges (Some place) → is_simple_forbidden core x.asked h.error ≡ false →
       len ≡ (if (x.asked.command == commands.READ) && (h.error == 0) then x.asked.length else 0) → IsSimpleOf export core (operation_counted counted core h.cookie) h.error h.cookie (Simple h place len)
-  simple_of h len found free is =
+  simple_is h len found free is =
       let e : Operation = found.0 in
       let shown : IsShown export e x = shown_here h found in
       let no = same_test h found shown ∙ free in
@@ -75,18 +74,18 @@ module _ (export : Exporting) (core : Core) (counted place : ℕ) (exchanges : L
       }
 
 module _ (export : Exporting) (core : Core) (counted place : ℕ) (exchanges : List Exchange) where
-  pub chunk_of : (h : ChunkHead) → IsPlaceOf export core counted h.cookie exchanges (Some place) → core.structured ≡ true → IsChunkOf export core (operation_counted counted core h.cookie) h (Chunk h place)
-  chunk_of h found structured = record {
-    no_fault = ap (chunk_head_fault core.structured) found.2 ∙ ap (λ b. fault_if (not b) ChunkForbidden None) structured;
+  pub chunk_is : (h : ChunkHead) → is_too_long h.at h.length ≡ false → IsPlaceOf export core counted h.cookie exchanges (Some place) → core.structured ≡ true → IsChunkOf export core (operation_counted counted core h.cookie) h (Chunk h place)
+  chunk_is h short found structured = record {
+    no_fault = ap (λ b. fault_if b OutOfProfile (chunk_head_fault core.structured (operation_counted counted core h.cookie))) short ∙ ap (chunk_head_fault core.structured) found.2 ∙ ap (λ b. fault_if (not b) ChunkForbidden None) structured;
     length_is = refl;
-    last_is = λ payload. ap (λ to. chunk_fault_to core.profile export to h.flags h.kind h.cookie payload) (found.3 ∙ sym found.2);
+    last_is = λ payload. ap (λ to. chunk_fault_to core.profile export to h payload) (found.3 ∙ sym found.2);
     message_is = λ payload. refl;
     placed = found.6;
   }
 
-module _ (export : Exporting) (core : Core) (counted : ℕ) (head : List ℕ) (h : SimpleHead) (begun : begins SIMPLE_MAGIC head ≡ true) (len : length head ≡ 16) (is : h ≡ record { error = number_at 4 4 head; cookie = number_at 8 8 head }) where
+module _ (export : Exporting) (core : Core) (counted : ℕ) (short : core.extended ≡ false) (head : List ℕ) (h : SimpleHead) (begun : begins SIMPLE_MAGIC head ≡ true) (len : length head ≡ 16) (is : h ≡ record { error = number_at 4 4 head; cookie = number_at 8 8 head }) where
   by_simple : (bytes : List ℕ) → begins SIMPLE_MAGIC bytes ≡ true → reply_with export (operation_counted counted core) core bytes ≡ simple_to export core (operation_counted counted core (number_at 8 8 bytes)) bytes
-  by_simple bytes b = (λ i. reply_by (no_chunk bytes b i) (b i) export core (operation_counted counted core (number_at 8 8 bytes)) bytes)
+  by_simple bytes b = ap (λ x. reply_in x export core (operation_counted counted core (number_at 8 8 bytes)) bytes) short ∙ (λ i. reply_by (no_chunk bytes b i) (b i) export core (operation_counted counted core (number_at 8 8 bytes)) bytes)
 
   pub simple_refused : (fault : WireFault) → simple_fault core.structured (operation_counted counted core h.cookie) h.error ≡ Some fault → (reply_with export (operation_counted counted core) core head).head_fault ≡ Some fault
   simple_refused fault bad = ap (λ (d : Decision). d.head_fault) (by_simple head begun) ∙ ap (λ (g : SimpleHead). simple_fault core.structured (operation_counted counted core g.cookie) g.error) (sym is) ∙ bad
@@ -105,49 +104,99 @@ module _ (export : Exporting) (core : Core) (counted : ℕ) (head : List ℕ) (h
       by_simple (head ++ payload) (begun_true SIMPLE_MAGIC head payload begun)
       ∙ (λ i. record { head_length = 16; head_fault = fault i; payload_length = more i; last_fault = last i; message = message i })
 
-module _ (export : Exporting) (core : Core) (counted : ℕ) (head : List ℕ) (h : ChunkHead) (begun : begins CHUNK_MAGIC head ≡ true) (len : length head ≡ 20) (is : h ≡ chunk_fields head) where
-  by_chunk : (bytes : List ℕ) → begins CHUNK_MAGIC bytes ≡ true → reply_with export (operation_counted counted core) core bytes ≡ chunk_to export core (operation_counted counted core (number_at 8 8 bytes)) bytes
-  by_chunk bytes b = (λ i. reply_by (b i) (begins SIMPLE_MAGIC bytes) export core (operation_counted counted core (number_at 8 8 bytes)) bytes)
+-- the same fields, with more bytes after the head
+fields_same : (x : Bool) (head payload : List ℕ) → length head ≡ chunk_head_length x → chunk_fields x (head ++ payload) ≡ chunk_fields x head
+fields_same false head payload len =
+    let at = fields_stay 20 head payload len in
+    λ i. record { at = None; flags = at 4 2 (omega arith) i; kind = at 6 2 (omega arith) i; cookie = at 8 8 (omega arith) i; length = at 16 4 (omega arith) i }
+fields_same true head payload len =
+    let at = fields_stay 32 head payload len in
+    λ i. record { at = Some (at 16 8 (omega arith) i); flags = at 4 2 (omega arith) i; kind = at 6 2 (omega arith) i; cookie = at 8 8 (omega arith) i; length = at 24 8 (omega arith) i }
 
-  pub chunk_refused : (fault : WireFault) → chunk_head_fault core.structured (operation_counted counted core h.cookie) ≡ Some fault → (reply_with export (operation_counted counted core) core head).head_fault ≡ Some fault
-  chunk_refused fault bad = ap (λ (d : Decision). d.head_fault) (by_chunk head begun) ∙ ap (λ (g : ChunkHead). chunk_head_fault core.structured (operation_counted counted core g.cookie)) (sym is) ∙ bad
+-- what is decided of a chunk, by whether its header is an extended one
+abbrev chunk_decided : (x : Bool) → Exporting → Core → Option Operation → List ℕ → Decision
+chunk_decided false export core to bytes = chunk_to export core to bytes
+chunk_decided true export core to bytes = extended_chunk_to export core to bytes
 
-  pub chunk_decision : (payload : List ℕ) (x : Expected) → core.phase ≡ Transmission export → IsChunkOf export core (operation_counted counted core h.cookie) h x →
-      reply_with export (operation_counted counted core) core (head ++ payload) ≡ expected_decision core x 20 payload
-  chunk_decision payload x phase o =
-      let at = fields_stay 20 head payload len in
-      let same : chunk_fields (head ++ payload) ≡ h = (λ i. record { flags = at 4 2 (omega arith) i; kind = at 6 2 (omega arith) i; cookie = at 8 8 (omega arith) i; length = at 16 4 (omega arith) i }) ∙ sym is in
-      let to : operation_counted counted core (number_at 8 8 (head ++ payload)) ≡ operation_counted counted core h.cookie = ap (λ (g : ChunkHead). operation_counted counted core g.cookie) same in
-      let fault = ap (chunk_head_fault core.structured) to ∙ o.no_fault in
-      let more = ap (λ (g : ChunkHead). g.length) same ∙ sym o.length_is in
-      let last = last_chunk (operation_counted counted core (number_at 8 8 (head ++ payload)))
-      ∙ (λ i. chunk_fault_to core.profile export (to i) (same i).flags (same i).kind (same i).cookie (after_head 20 head payload len i))
-      ∙ sym (ap (λ p. last_fault_by p core x payload) phase ∙ o.last_is payload) in
-      let message = (λ i. messages.Chunk (same i).flags (same i).kind (same i).cookie (after_head 20 head payload len i)) ∙ sym (o.message_is payload) in
-      by_chunk (head ++ payload) (begun_true CHUNK_MAGIC head payload begun)
-      ∙ (λ i. record { head_length = 20; head_fault = fault i; payload_length = more i; last_fault = last i; message = message i })
+module _ (export : Exporting) (core : Core) (counted : ℕ) where
+  abbrev named : ℕ → Option Operation
+  named cookie = operation_counted counted core cookie
+
+  -- the same, by its fields and the bytes after its head
+  abbrev by_fields : (x : Bool) → ChunkHead → List ℕ → Decision
+  by_fields x h rest = record {
+    head_length = chunk_head_length x;
+    head_fault = head_fault_by h.at core.structured (named h.cookie) h.length;
+    payload_length = h.length;
+    last_fault = chunk_fault_to core.profile export (named h.cookie) h rest;
+    message = chunk_of h rest;
+  }
+
+  decided_by_fields : (x : Bool) (bytes : List ℕ) → chunk_decided x export core (named (number_at 8 8 bytes)) bytes ≡ by_fields x (chunk_fields x bytes) (drop (chunk_head_length x) bytes)
+  decided_by_fields false bytes = λ i. record {
+    head_length = 20;
+    head_fault = chunk_head_fault core.structured (named (number_at 8 8 bytes));
+    payload_length = number_at 16 4 bytes;
+    last_fault = last (named (number_at 8 8 bytes)) i;
+    message = messages.Chunk (number_at 4 2 bytes) (number_at 6 2 bytes) (number_at 8 8 bytes) (drop 20 bytes);
+  }
     where
-      last_chunk : (to : Option Operation) → chunk_last_fault core.profile export to (head ++ payload) ≡ chunk_fault_to core.profile export to (number_at 4 2 (head ++ payload)) (number_at 6 2 (head ++ payload)) (number_at 8 8 (head ++ payload)) (drop 20 (head ++ payload))
-      last_chunk None = refl
-      last_chunk (Some e) = refl
+      last : (to : Option Operation) → chunk_last_fault core.profile export to bytes ≡ chunk_fault_to core.profile export to (chunk_fields false bytes) (drop 20 bytes)
+      last None = refl
+      last (Some e) = refl
+  decided_by_fields true bytes = λ i. record {
+    head_length = 32;
+    head_fault = extended_head_fault core.structured (named (number_at 8 8 bytes)) (number_at 24 8 bytes);
+    payload_length = number_at 24 8 bytes;
+    last_fault = last (named (number_at 8 8 bytes)) i;
+    message = messages.ExtendedChunk (number_at 4 2 bytes) (number_at 6 2 bytes) (number_at 8 8 bytes) (number_at 16 8 bytes) (drop 32 bytes);
+  }
+    where
+      last : (to : Option Operation) → extended_last_fault core.profile export to bytes ≡ chunk_fault_to core.profile export to (chunk_fields true bytes) (drop 32 bytes)
+      last None = refl
+      last (Some e) = refl
+
+  by_chunk : (x : Bool) → core.extended ≡ x → (bytes : List ℕ) → begins (chunk_magic x) bytes ≡ true → reply_with export named core bytes ≡ by_fields x (chunk_fields x bytes) (drop (chunk_head_length x) bytes)
+  by_chunk false extended bytes b =
+      ap (λ x. reply_in x export core (named (number_at 8 8 bytes)) bytes) extended
+      ∙ ap (λ c. reply_by c (begins SIMPLE_MAGIC bytes) export core (named (number_at 8 8 bytes)) bytes) b ∙ decided_by_fields false bytes
+  by_chunk true extended bytes b =
+      ap (λ x. reply_in x export core (named (number_at 8 8 bytes)) bytes) extended
+      ∙ ap (λ c. extended_reply_by c export core (named (number_at 8 8 bytes)) bytes) b ∙ decided_by_fields true bytes
+
+  module _ (x : Bool) (extended : core.extended ≡ x) (head : List ℕ) (h : ChunkHead) (begun : begins (chunk_magic x) head ≡ true) (len : length head ≡ chunk_head_length x) (is : h ≡ chunk_fields x head) where
+    pub chunk_refused : (fault : WireFault) → head_fault_by h.at core.structured (named h.cookie) h.length ≡ Some fault → (reply_with export named core head).head_fault ≡ Some fault
+    chunk_refused fault bad =
+        ap (λ (d : Decision). d.head_fault) (by_chunk x extended head begun)
+        ∙ ap (λ (g : ChunkHead). head_fault_by g.at core.structured (named g.cookie) g.length) (sym is) ∙ bad
+
+    pub chunk_decision : (payload : List ℕ) (y : Expected) → core.phase ≡ Transmission export → IsChunkOf export core (named h.cookie) h y → reply_with export named core (head ++ payload) ≡ expected_decision core y (length head) payload
+    chunk_decision payload y phase o =
+        let same : chunk_fields x (head ++ payload) ≡ h = fields_same x head payload len ∙ sym is in
+        let last = sym (ap (λ p. last_fault_by p core y payload) phase ∙ o.last_is payload) in
+        by_chunk x extended (head ++ payload) (begun_true (chunk_magic x) head payload begun)
+        ∙ (λ i. by_fields x (same i) (after_head (chunk_head_length x) head payload len i))
+        ∙ (λ i. record { head_length = sym len i; head_fault = o.no_fault i; payload_length = sym o.length_is i; last_fault = last i; message = sym (o.message_is payload) i })
 
 abbrev pub simple_fields : List ℕ → SimpleHead
 simple_fields head = record { error = number_at 4 4 head; cookie = number_at 8 8 head }
 
--- a reply's head that has 16 bytes is a simple one's, and any other a chunk's
-pub is_simple : (head : List ℕ) → IsReplyHead head → length head ≡ 16 → begins SIMPLE_MAGIC head ≡ true
-is_simple head (inl a) len = a.0
-is_simple head (inr b) len = (let no : 20 ≡ 16 = sym b.1 ∙ len in absurd (omega (arith, no)))
+-- a reply's head without an extended header that has 16 bytes is a simple one's, and any other a chunk's
+pub is_chunk : (x : Bool) (head : List ℕ) → IsReplyHead x head → (x || not (length head == 16)) ≡ true → (begins (chunk_magic x) head ≡ true) × (length head ≡ chunk_head_length x)
+is_chunk true head b t = b
+is_chunk false head (inr b) t = b
+is_chunk false head (inl a) t = absurd (let q : false ≡ true = sym (ap (λ n. not (n == 16)) a.1) ∙ t in cc)
 
-pub is_chunk : (head : List ℕ) → IsReplyHead head → (length head ≡ 16 → ⊥) → (begins CHUNK_MAGIC head ≡ true) × (length head ≡ 20)
-is_chunk head (inl a) ne = absurd (ne a.1)
-is_chunk head (inr b) ne = b
+pub is_simple : (x : Bool) (head : List ℕ) → IsReplyHead x head → (x || not (length head == 16)) ≡ false → (x ≡ false) × (begins SIMPLE_MAGIC head ≡ true) × (length head ≡ 16)
+is_simple true head b t = absurd (cc)
+is_simple false head (inl a) t = (refl, a.0, a.1)
+is_simple false head (inr b) t = absurd (let q : true ≡ false = sym (ap (λ n. not (n == 16)) b.1) ∙ t in cc)
 
 pub simple_found : (head : List ℕ) → begins SIMPLE_MAGIC head ≡ true → simple_head_of head ≡ Some (simple_fields head)
 simple_found head b = ap (λ t. some_if t (simple_fields head)) (and_parts (nat_le 4 (length head)) (number_at 0 4 head == SIMPLE_MAGIC) b).1
 
-pub chunk_found : (head : List ℕ) → begins CHUNK_MAGIC head ≡ true → chunk_head_of head ≡ Some (chunk_fields head)
-chunk_found head b = ap (λ t. some_if t (chunk_fields head)) (and_parts (nat_le 4 (length head)) (number_at 0 4 head == CHUNK_MAGIC) b).1
+pub chunk_found : (x : Bool) (head : List ℕ) → begins (chunk_magic x) head ≡ true → chunk_head_of x head ≡ Some (chunk_fields x head)
+chunk_found x head b = ap (λ t. some_if t (chunk_fields x head)) (and_parts (nat_le 4 (length head)) (number_at 0 4 head == chunk_magic x) b).1
 
 pub if_ok : {A E : Type 0} (r : Result A E) (P Q : A → Type 0) → IfOk r P → ((x : A) → P x → Q x) → IfOk r Q
 if_ok (Ok x) P Q p f = f x p
@@ -157,24 +206,55 @@ pub if_err : {A E : Type 0} (r : Result A E) (P Q : E → Type 0) → IfErr r P 
 if_err (Ok x) P Q p f = tt
 if_err (Err e) P Q p f = f e p
 
--- the length of a reply's head is that of its kind
-pub reply_head_is : (export : Exporting) (core : Core) (counted : ℕ) (head : List ℕ) → IsReplyHead head → (reply_with export (operation_counted counted core) core head).head_length ≡ length head
-reply_head_is export core counted head (inl a) =
-    ap (λ (d : Decision). d.head_length) (λ i. reply_by (no_chunk head a.0 i) (a.0 i) export core (operation_counted counted core (number_at 8 8 head)) head) ∙ sym a.1
-reply_head_is export core counted head (inr b) =
-    ap (λ (d : Decision). d.head_length) (λ i. reply_by (b.0 i) (begins SIMPLE_MAGIC head) export core (operation_counted counted core (number_at 8 8 head)) head) ∙ sym b.1
+-- what is decided of a reply, by whether extended headers are in force
+module _ (export : Exporting) (core : Core) (counted : ℕ) (head : List ℕ) where
+  abbrev there : Option Operation
+  there = operation_counted counted core (number_at 8 8 head)
 
--- the length that a reply's bytes tell is that which the judge sees
-pub reply_begins : (export : Exporting) (core : Core) (counted : ℕ) (head : List ℕ) (n : ℕ) → HasReplyLength head n → (reply_with export (operation_counted counted core) core head).head_length ≡ n
-reply_begins export core counted head n (inl a) =
-    let none : nat_le 4 (length head) ≡ false = lt-leb 4 (length head) a.0 in
-    ap (λ (d : Decision). d.head_length) (λ i. reply_by (none i && (number_at 0 4 head == CHUNK_MAGIC)) (none i && (number_at 0 4 head == SIMPLE_MAGIC)) export core (operation_counted counted core (number_at 8 8 head)) head) ∙ sym a.1
-reply_begins export core counted head n (inr (inl a)) =
-    ap (λ (d : Decision). d.head_length) (λ i. reply_by (no_chunk head a.0 i) (a.0 i) export core (operation_counted counted core (number_at 8 8 head)) head) ∙ sym a.1
-reply_begins export core counted head n (inr (inr b)) =
-    ap (λ (d : Decision). d.head_length) (λ i. reply_by (b.0 i) (begins SIMPLE_MAGIC head) export core (operation_counted counted core (number_at 8 8 head)) head) ∙ sym b.1
+  length_in : (x : Bool) → core.extended ≡ x → (reply_with export (operation_counted counted core) core head).head_length ≡ (reply_in x export core there head).head_length
+  length_in x extended = ap (λ x. (reply_in x export core there head).head_length) extended
 
-pub reply_whole : (head : List ℕ) (n : ℕ) → HasReplyLength head n → length head ≡ n → IsReplyHead head
-reply_whole head n (inl a) e = (let f : n ≡ 4 = a.1 in absurd (omega (arith, a.0, e, f)))
-reply_whole head n (inr (inl a)) e = inl (a.0, e ∙ a.1)
-reply_whole head n (inr (inr b)) e = inr (b.0, e ∙ b.1)
+  -- the length of a reply's head is that of its kind
+  pub reply_head_is : (x : Bool) → core.extended ≡ x → IsReplyHead x head → (reply_with export (operation_counted counted core) core head).head_length ≡ length head
+  reply_head_is false extended (inl a) =
+      length_in false extended ∙ ap (λ (d : Decision). d.head_length) (λ i. reply_by (no_chunk head a.0 i) (a.0 i) export core there head) ∙ sym a.1
+  reply_head_is false extended (inr b) =
+      length_in false extended ∙ ap (λ (d : Decision). d.head_length) (λ i. reply_by (b.0 i) (begins SIMPLE_MAGIC head) export core there head) ∙ sym b.1
+  reply_head_is true extended b =
+      length_in true extended ∙ ap (λ (d : Decision). d.head_length) (λ i. extended_reply_by (b.0 i) export core there head) ∙ sym b.1
+
+  -- the length that a reply's bytes tell is that which the judge sees
+  pub reply_begins : (x : Bool) → core.extended ≡ x → (n : ℕ) → HasReplyLength x head n → (reply_with export (operation_counted counted core) core head).head_length ≡ n
+  reply_begins false extended n (inl a) =
+      let none : nat_le 4 (length head) ≡ false = lt-leb 4 (length head) a.0 in
+      length_in false extended
+      ∙ ap (λ (d : Decision). d.head_length) (λ i. reply_by (none i && (number_at 0 4 head == CHUNK_MAGIC)) (none i && (number_at 0 4 head == SIMPLE_MAGIC)) export core there head) ∙ sym a.1
+  reply_begins false extended n (inr (inl a)) =
+      length_in false extended ∙ ap (λ (d : Decision). d.head_length) (λ i. reply_by (no_chunk head a.0 i) (a.0 i) export core there head) ∙ sym a.1
+  reply_begins false extended n (inr (inr b)) =
+      length_in false extended ∙ ap (λ (d : Decision). d.head_length) (λ i. reply_by (b.0 i) (begins SIMPLE_MAGIC head) export core there head) ∙ sym b.1
+  reply_begins true extended n (inl a) =
+      let none : nat_le 4 (length head) ≡ false = lt-leb 4 (length head) a.0 in
+      length_in true extended ∙ ap (λ (d : Decision). d.head_length) (λ i. extended_reply_by (none i && (number_at 0 4 head == EXTENDED_CHUNK_MAGIC)) export core there head) ∙ sym a.1
+  reply_begins true extended n (inr b) =
+      length_in true extended ∙ ap (λ (d : Decision). d.head_length) (λ i. extended_reply_by (b.0 i) export core there head) ∙ sym b.1
+
+  -- bytes that begin with another number than a reply's
+  pub no_reply_bad : (x : Bool) → core.extended ≡ x → (fault : WireFault) → IsNoReply x head fault → reading_by_decision (Some (reply_with export (operation_counted counted core) core head)) head ≡ Bad fault
+  no_reply_bad x extended fault o = ap (λ d. reading_by_decision (Some d) head) (ap (λ x. reply_in x export core there head) extended) ∙ go x o
+    where
+      bad : 4 ≤ length head → fault ≡ BadMagic → reading_by_decision (Some (no_reply head)) head ≡ Bad fault
+      bad long f =
+          let a : nat_lt (length head) 4 ≡ false = le-ltb (length head) 4 long in
+          (λ i. staged_reading_by (a i) (Some BadMagic) (length head == 4) (last_reading None (simple_of head))) ∙ ap Bad (sym f)
+
+      go : (x : Bool) → IsNoReply x head fault → reading_by_decision (Some (reply_in x export core there head)) head ≡ Bad fault
+      go false (f, long, s, c) = (λ i. reading_by_decision (Some (reply_by (c i) (s i) export core there head)) head) ∙ bad long f
+      go true (f, long, c) = (λ i. reading_by_decision (Some (extended_reply_by (c i) export core there head)) head) ∙ bad long f
+
+pub reply_whole : (x : Bool) (head : List ℕ) (n : ℕ) → HasReplyLength x head n → length head ≡ n → IsReplyHead x head
+reply_whole false head n (inl a) e = (let f : n ≡ 4 = a.1 in absurd (omega (arith, a.0, e, f)))
+reply_whole false head n (inr (inl a)) e = inl (a.0, e ∙ a.1)
+reply_whole false head n (inr (inr b)) e = inr (b.0, e ∙ b.1)
+reply_whole true head n (inl a) e = (let f : n ≡ 4 = a.1 in absurd (omega (arith, a.0, e, f)))
+reply_whole true head n (inr b) e = (b.0, e ∙ b.1)

@@ -1,52 +1,106 @@
 -- A request whose head has come.
-use Rattle.std.proofs.Common.{◌≡◌, ℕ, ◌==◌, ◌&&◌, not, List, ◌++◌, length, sym, ◌∙◌, ap, Some, None, Bool, true, false, arith}
-use Rattle.nbd_wire.specs.declared.commands.TheConstants as commands
-use Rattle.nbd_wire.specs.declared.fault.WireFault.TheVariants.{BadMagic, BadDisconnect}
+use Rattle.std.proofs.Common.{◌≡◌, ℕ, ◌<◌, ◌≤◌, ◌+◌, ◌==◌, ◌&&◌, not, List, ◌++◌, length, drop, min, refl, sym, ◌∙◌, ap, Option, Some, None, Bool, true, false, arith}
+use Rattle.nbd_wire.specs.declared.fault.WireFault.{WireFault}
+use Rattle.nbd_wire.specs.declared.fault.WireFault.TheVariants.{BadMagic, BadDisconnect, OutOfProfile}
 use Rattle.nbd_wire.specs.declared.heads.transmission.RequestHead.{RequestHead}
-use Rattle.nbd_wire.specs.declared.magics.TheConstants.{REQUEST_MAGIC}
+use Rattle.nbd_wire.specs.declared.message.Message.{Message}
 use Rattle.nbd_wire.specs.declared.message.Message.TheVariants as messages
+use Rattle.nbd_wire.specs.protocol.Encoding.{AreBytes}
 use Rattle.nbd_wire.specs.protocol.Payloads.{number_at}
-use Rattle.nbd_wire.specs.protocol.States.{Core, target}
-use Rattle.nbd_wire.specs.protocol.Decisions.{request}
+use Rattle.nbd_wire.specs.protocol.States.{Core, has_contexts, target}
+use Rattle.nbd_wire.specs.protocol.Decisions.{Decision, request, request_by}
 use Rattle.nbd_wire.specs.protocol.Tests.{fault_if}
-use Rattle.nbd_wire.specs.protocol.Transmission.{cookie_fault, request_payload_length}
+use Rattle.nbd_wire.specs.protocol.Transmission.{cookie_fault}
+use Rattle.nbd_wire.proofs.NumberLemmas.{number_at-lt}
 use Rattle.nbd_session.specs.declared.expected.Expected.TheVariants.{Request}
-use Rattle.nbd_session.specs.internal.Expecting.{expected_decision}
-use Rattle.nbd_session.specs.internal.Leading.{request_head_of}
+use Rattle.nbd_session.specs.internal.Asking.{is_bad_disconnect, is_beyond}
+use Rattle.nbd_session.specs.internal.Expecting.{expected_decision, message_of, request_length}
+use Rattle.nbd_session.specs.internal.Leading.{request_fields, request_head_length, request_head_of, request_magic}
 use Rattle.nbd_session.proofs.expecting.HeadLemmas.{after_head, fields_stay, none_read, some_read}
 
-abbrev fields : List ℕ → RequestHead
-fields head = record { flags = number_at 4 2 head; command = number_at 6 2 head; cookie = number_at 8 8 head; offset = number_at 16 8 head; length = number_at 24 4 head }
+-- what is refused of a head with these fields, by whether it begins with its number
+abbrev head_fault : (contexts magic : Bool) → RequestHead → Option WireFault
+head_fault contexts magic h = fault_if (not magic) BadMagic (fault_if (is_beyond contexts h) OutOfProfile (fault_if (is_bad_disconnect h) BadDisconnect None))
 
--- a DISC with an offset or a length
-abbrev pub is_bad : RequestHead → Bool
-is_bad h = (h.command == commands.DISC) && not ((h.offset == 0) && (h.length == 0))
+-- what is decided of a request, by its fields
+abbrev by_fields : (x : Bool) → Core → (magic : Bool) → RequestHead → Message → Decision
+by_fields x now magic h message = record {
+  head_length = request_head_length x;
+  head_fault = head_fault (has_contexts now) magic h;
+  payload_length = request_length x h.flags h.command h.length;
+  last_fault = cookie_fault h.command (target h.cookie now.entries);
+  message = message;
+}
 
-pub no_request : (head : List ℕ) (now : Core) → None ≡ request_head_of head → (request now head).head_fault ≡ Some BadMagic
-no_request head now e =
-    let f = none_read (number_at 0 4 head == REQUEST_MAGIC) (fields head) e in
-    ap (λ b. fault_if (not b) BadMagic (fault_if ((number_at 6 2 head == commands.DISC) && not ((number_at 16 8 head == 0) && (number_at 24 4 head == 0))) BadDisconnect None)) f
+module _ (x : Bool) (now : Core) (extended : now.extended ≡ x) where
+  request_decided : (bytes : List ℕ) → request now bytes ≡ by_fields x now (number_at 0 4 bytes == request_magic x) (request_fields x bytes) ((request_by x now bytes).message)
+  request_decided bytes = ap (λ b. request_by b now bytes) extended ∙ go x
+    where
+      go : (x : Bool) → request_by x now bytes ≡ by_fields x now (number_at 0 4 bytes == request_magic x) (request_fields x bytes) ((request_by x now bytes).message)
+      go false = refl
+      go true = refl
 
-fault_of : (magic : Bool) (h : RequestHead) → magic ≡ true → (bad : Bool) → is_bad h ≡ bad → fault_if (not magic) BadMagic (fault_if (is_bad h) BadDisconnect None) ≡ fault_if bad BadDisconnect None
-fault_of magic h m bad e = ap (λ b. fault_if (not b) BadMagic (fault_if (is_bad h) BadDisconnect None)) m ∙ ap (λ b. fault_if b BadDisconnect None) e
+  pub request_head_is : (bytes : List ℕ) → (request now bytes).head_length ≡ request_head_length x
+  request_head_is bytes = ap (λ (d : Decision). d.head_length) (request_decided bytes)
 
-pub bad_request : (head : List ℕ) (h : RequestHead) (now : Core) → Some h ≡ request_head_of head → is_bad h ≡ true → (request now head).head_fault ≡ Some BadDisconnect
-bad_request head h now e bad =
-    let r = some_read (number_at 0 4 head == REQUEST_MAGIC) (fields head) h e in
-    fault_of (number_at 0 4 head == REQUEST_MAGIC) (fields head) r.0 true (sym (ap is_bad r.1) ∙ bad)
+  fault_is : (bytes : List ℕ) → (request now bytes).head_fault ≡ head_fault (has_contexts now) (number_at 0 4 bytes == request_magic x) (request_fields x bytes)
+  fault_is bytes = ap (λ (d : Decision). d.head_fault) (request_decided bytes)
 
-pub good_request : (head payload : List ℕ) (h : RequestHead) (now : Core) → length head ≡ 28 → Some h ≡ request_head_of head → is_bad h ≡ false → request now (head ++ payload) ≡ expected_decision now (Request h) 28 payload
-good_request head payload h now len e good =
-    let r = some_read (number_at 0 4 head == REQUEST_MAGIC) (fields head) h e in
+  module _ (head : List ℕ) where
+    pub no_request : None ≡ request_head_of x head → (request now head).head_fault ≡ Some BadMagic
+    no_request e =
+        let f = none_read (number_at 0 4 head == request_magic x) (request_fields x head) e in
+        fault_is head ∙ ap (λ b. head_fault (has_contexts now) b (request_fields x head)) f
+
+    module _ (h : RequestHead) (e : Some h ≡ request_head_of x head) where
+      fault_here : (request now head).head_fault ≡ head_fault (has_contexts now) true h
+      fault_here =
+          let r = some_read (number_at 0 4 head == request_magic x) (request_fields x head) h e in
+          fault_is head ∙ (λ i. head_fault (has_contexts now) (r.0 i) (sym r.1 i))
+
+      pub beyond_request : is_beyond (has_contexts now) h ≡ true → (request now head).head_fault ≡ Some OutOfProfile
+      beyond_request b = fault_here ∙ ap (λ t. fault_if t OutOfProfile (fault_if (is_bad_disconnect h) BadDisconnect None)) b
+
+      pub bad_request : is_beyond (has_contexts now) h ≡ false → is_bad_disconnect h ≡ true → (request now head).head_fault ≡ Some BadDisconnect
+      bad_request b d = fault_here ∙ (λ i. fault_if (b i) OutOfProfile (fault_if (d i) BadDisconnect None))
+
+-- the same fields, with more bytes after the head
+four : (x : Bool) → 0 + 4 ≤ request_head_length x
+four false = omega arith
+four true = omega arith
+
+same_fields : (x : Bool) (head payload : List ℕ) → length head ≡ request_head_length x → request_fields x (head ++ payload) ≡ request_fields x head
+same_fields false head payload len =
     let at = fields_stay 28 head payload len in
-    let same : fields (head ++ payload) ≡ h =
-    (λ i. record { flags = at 4 2 (omega arith) i; command = at 6 2 (omega arith) i; cookie = at 8 8 (omega arith) i; offset = at 16 8 (omega arith) i; length = at 24 4 (omega arith) i }) ∙ sym r.1 in
-    let magic : (number_at 0 4 (head ++ payload) == REQUEST_MAGIC) ≡ true = ap (λ n. n == REQUEST_MAGIC) (at 0 4 (omega arith)) ∙ r.0 in
-    let none = fault_of (number_at 0 4 (head ++ payload) == REQUEST_MAGIC) (fields (head ++ payload)) magic false (ap is_bad same ∙ good) in
-    (λ i. record {
-      head_length = 28;
-      head_fault = none i;
-      payload_length = request_payload_length (same i).command (same i).length;
-      last_fault = cookie_fault (same i).command (target (same i).cookie now.entries);
-      message = messages.Request (same i).flags (same i).command (same i).cookie (same i).offset (same i).length (after_head 28 head payload len i);
+    λ i. record { extended = false; flags = at 4 2 (omega arith) i; command = at 6 2 (omega arith) i; cookie = at 8 8 (omega arith) i; offset = at 16 8 (omega arith) i; length = at 24 4 (omega arith) i }
+same_fields true head payload len =
+    let at = fields_stay 32 head payload len in
+    λ i. record { extended = true; flags = at 4 2 (omega arith) i; command = at 6 2 (omega arith) i; cookie = at 8 8 (omega arith) i; offset = at 16 8 (omega arith) i; length = at 24 8 (omega arith) i }
+
+same_message : (x : Bool) (now : Core) (head payload : List ℕ) → AreBytes head → length head ≡ request_head_length x → (request_by x now (head ++ payload)).message ≡ message_of (Request (request_fields x head)) payload
+same_message false now head payload b len =
+    let at = fields_stay 28 head payload len in
+    let short = number_at-lt 24 4 head b in
+    let least : number_at 24 4 head ≡ min (number_at 24 4 head) 0xffffffff = omega (arith, short) in
+    (λ i. messages.Request (at 4 2 (omega arith) i) (at 6 2 (omega arith) i) (at 8 8 (omega arith) i) (at 16 8 (omega arith) i) ((at 24 4 (omega arith) ∙ least) i) (after_head 28 head payload len i))
+same_message true now head payload b len =
+    let at = fields_stay 32 head payload len in
+    (λ i. messages.ExtendedRequest (at 4 2 (omega arith) i) (at 6 2 (omega arith) i) (at 8 8 (omega arith) i) (at 16 8 (omega arith) i) (at 24 8 (omega arith) i) (after_head 32 head payload len i))
+
+pub good_request : (x : Bool) (now : Core) → now.extended ≡ x → (head payload : List ℕ) (h : RequestHead) → AreBytes head → length head ≡ request_head_length x → Some h ≡ request_head_of x head →
+    is_beyond (has_contexts now) h ≡ false → is_bad_disconnect h ≡ false → request now (head ++ payload) ≡ expected_decision now (Request h) (length head) payload
+good_request x now extended head payload h b len e within good =
+    let r = some_read (number_at 0 4 head == request_magic x) (request_fields x head) h e in
+    let same : request_fields x (head ++ payload) ≡ h = same_fields x head payload len ∙ sym r.1 in
+    let magic : (number_at 0 4 (head ++ payload) == request_magic x) ≡ true = ap (λ n. n == request_magic x) (fields_stay (request_head_length x) head payload len 0 4 (four x)) ∙ r.0 in
+    let message : (request_by x now (head ++ payload)).message ≡ message_of (Request h) payload = same_message x now head payload b len ∙ ap (λ g. message_of (Request g) payload) (sym r.1) in
+    let is : h.extended ≡ x = ap (λ (g : RequestHead). g.extended) r.1 in
+    request_decided x now extended (head ++ payload)
+    ∙ (λ i. by_fields x now (magic i) (same i) (message i))
+    ∙ (λ i. record {
+      head_length = sym len i;
+      head_fault = fault_if (within i) OutOfProfile (fault_if (good i) BadDisconnect None);
+      payload_length = request_length (sym is i) h.flags h.command h.length;
+      last_fault = cookie_fault h.command (target h.cookie now.entries);
+      message = message_of (Request h) payload;
     })

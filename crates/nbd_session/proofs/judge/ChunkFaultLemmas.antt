@@ -1,5 +1,5 @@
 -- What a chunk and the end of its reply are refused for, by the sizes of pieces.
-use Rattle.std.proofs.Common.{◌≡◌, ◌⊎◌, ℕ, ◌+◌, ◌≤◌, ◌==◌, if◌then◌else◌, eqb-true, List, [], ◌∷◌, ◌++◌, length, min, refl, sym, ◌∙◌, ap, arith, Bool, true, false, not, ◌&&◌, ◌||◌, nat_le, Option, Some, None, fold, subst, inl, inr, add_assoc, zero-add, ne_eqb}
+use Rattle.std.proofs.Common.{◌≡◌, ◌⊎◌, ℕ, ◌+◌, ◌≤◌, ◌==◌, if◌then◌else◌, eqb-true, List, [], ◌∷◌, ◌++◌, length, min, refl, sym, ◌∙◌, ap, arith, Bool, true, false, not, ◌&&◌, ◌||◌, nat_le, Option, Some, None, fold, subst, inl, inr, add_assoc, zero-add, ne_eqb, is_some}
 use Rattle.nbd_wire.specs.declared.chunks.TheConstants as chunks
 use Rattle.nbd_wire.specs.declared.message.Message.{Message}
 use Rattle.nbd_wire.specs.declared.message.Message.TheVariants.{Chunk}
@@ -13,11 +13,14 @@ use Rattle.nbd_wire.specs.protocol.States.{with_reply}
 use Rattle.nbd_wire.specs.declared.fault.WireFault.{WireFault}
 use Rattle.nbd_wire.specs.declared.fault.WireFault.TheVariants.{BadChunk, BadContent}
 use Rattle.std.specs.Prelude.{option_to_list}
-use Rattle.nbd_wire.specs.protocol.Contexts.{Status}
+use Rattle.nbd_wire.specs.protocol.Contexts.{Context, Status}
+use Rattle.nbd_state.specs.Heads.{chunk_with}
+use Rattle.nbd_state.proofs.HeadLemmas.{chunk_fails, chunk_gives}
 use Rattle.nbd_wire.specs.protocol.Statuses.{status_in, statuses}
-use Rattle.nbd_session.specs.internal.Asking.{done_by, finish_by, lacks_by}
+use Rattle.nbd_session.specs.internal.Asking.{done_by, elsewhere_fault, finish_by, is_status, lacks_by}
+use Rattle.nbd_session.specs.internal.Expecting.{chunk_fault_by}
 use Rattle.nbd_wire.specs.protocol.Tests.{fault_if}
-use Rattle.nbd_wire.specs.protocol.Transmission.{chunk_fault, content_fault, done_fault, finish_fault, fits_failure, fits_read, fits_status, read_as, status_if, total}
+use Rattle.nbd_wire.specs.protocol.Transmission.{chunk_fault, content_fault, done_fault, finish_fault, fits_failure, fits_read, fits_status, offset_fault, read_as, status_if, total}
 use Rattle.nbd_state.proofs.ReplyLemmas.{any-snoc, or-false, proper-same}
 use Rattle.nbd_laws.proofs.judge.BoolLemmas.{and_true}
 use Rattle.nbd_laws.proofs.judge.KindLemmas.{kind_content, kind_error, kind_status, no_other}
@@ -44,39 +47,43 @@ finish-by : (export : Exporting) (e : Operation) (failed : Bool) (ps : List Piec
 finish-by export e true ps = refl
 finish-by export e false ps = refl
 
-total-more : (e : Operation) (flags kind cookie : ℕ) (payload : List ℕ) (o : Option Piece) → content_of kind payload ≡ o → total (pieces (with_reply e (Chunk flags kind cookie payload))) ≡ total (pieces e) + total (chunk_piece o)
-unfolding piece_of
-total-more e flags kind cookie payload o q =
-    ap total (pieces-snoc e.offset e.replies (Chunk flags kind cookie payload))
-    ∙ total-append (pieces e) (chunk_piece (content_of kind payload))
-    ∙ ap (λ o. total (pieces e) + total (chunk_piece o)) q
+module _ (at : Option ℕ) (export : Exporting) (e : Operation) (flags kind cookie : ℕ) (payload : List ℕ) where
+  -- the chunk, and its request with it
+  abbrev this : Message
+  this = chunk_with at flags kind cookie payload
 
-failed-more : (e : Operation) (flags kind cookie : ℕ) (payload : List ℕ) → has_failed (with_reply e (Chunk flags kind cookie payload)) ≡ (has_failed e || is_error_chunk kind)
-unfolding is_failing
-failed-more e flags kind cookie payload = any-snoc is_failing e.replies (Chunk flags kind cookie payload)
+  abbrev with_this : Operation
+  with_this = with_reply e this
 
--- the end of a reply after one more chunk without an error
-done-more : (export : Exporting) (e : Operation) (flags kind cookie : ℕ) (payload : List ℕ) (o : Option Piece) → content_of kind payload ≡ o → is_error_chunk kind ≡ false → (done : Bool) →
-    done_fault done export (with_reply e (Chunk flags kind cookie payload)) ≡ done_by done (finish_by e.command e.length (is_proper export e) (has_failed e) (total (pieces e) + total (chunk_piece o)) (lacks (with_reply e (Chunk flags kind cookie payload))))
-done-more export e flags kind cookie payload o q k false = refl
-done-more export e flags kind cookie payload o q k true =
-    let m : Message = Chunk flags kind cookie payload in
-    let w : Operation = with_reply e m in
-    finish-by export w (has_failed w) (pieces w)
-    ∙ ap (λ p. finish_by e.command e.length p (has_failed w) (total (pieces w)) (lacks w)) (proper-same export e m)
-    ∙ ap (λ f. finish_by e.command e.length (is_proper export e) f (total (pieces w)) (lacks w)) (failed-more e flags kind cookie payload ∙ ap (λ b. has_failed e || b) k ∙ or-false (has_failed e))
-    ∙ ap (λ n. finish_by e.command e.length (is_proper export e) (has_failed e) n (lacks w)) (total-more e flags kind cookie payload o q)
+  total-more : (o : Option Piece) → content_of kind payload ≡ o → total (pieces with_this) ≡ total (pieces e) + total (chunk_piece o)
+  total-more o q =
+      ap total (pieces-snoc e.offset e.replies this)
+      ∙ total-append (pieces e) (piece_of e.offset this)
+      ∙ ap (λ ps. total (pieces e) + total ps) (chunk_gives flags kind cookie payload e.offset at ∙ ap chunk_piece q)
+
+  failed-more : has_failed with_this ≡ (has_failed e || is_error_chunk kind)
+  failed-more = any-snoc is_failing e.replies this ∙ ap (λ b. has_failed e || b) (chunk_fails flags kind cookie payload at)
+
+  -- the end of a reply after one more chunk without an error
+  done-more : (o : Option Piece) → content_of kind payload ≡ o → is_error_chunk kind ≡ false → (done : Bool) →
+      done_fault done export with_this ≡ done_by done (finish_by e.command e.length (is_proper export e) (has_failed e) (total (pieces e) + total (chunk_piece o)) (lacks with_this))
+  done-more o q k false = refl
+  done-more o q k true =
+      finish-by export with_this (has_failed with_this) (pieces with_this)
+      ∙ ap (λ p. finish_by e.command e.length p (has_failed with_this) (total (pieces with_this)) (lacks with_this)) (proper-same export e this)
+      ∙ ap (λ f. finish_by e.command e.length (is_proper export e) f (total (pieces with_this)) (lacks with_this)) (failed-more ∙ ap (λ b. has_failed e || b) k ∙ or-false (has_failed e))
+      ∙ ap (λ n. finish_by e.command e.length (is_proper export e) (has_failed e) n (lacks with_this)) (total-more o q)
 
 -- a chunk of type NONE
-pub none-chunk : (profile : Profile) (export : Exporting) (e : Operation) (flags kind cookie : ℕ) (payload : List ℕ) → kind ≡ chunks.NONE →
-    chunk_fault (kind == chunks.NONE) export e (with_reply e (Chunk flags kind cookie payload)) flags (read_as profile kind) payload
-    ≡ fault_if (not (length payload == 0) || not (has flags chunks.DONE)) BadChunk (done_by (has flags chunks.DONE) (finish_by e.command e.length (is_proper export e) (has_failed e) (total (pieces e)) (lacks (with_reply e (Chunk flags kind cookie payload)))))
-none-chunk profile export e flags kind cookie payload k =
-    subst (λ k. chunk_fault (k == chunks.NONE) export e (with_reply e (Chunk flags k cookie payload)) flags (read_as profile k) payload
-    ≡ fault_if (not (length payload == 0) || not (has flags chunks.DONE)) BadChunk (done_by (has flags chunks.DONE) (finish_by e.command e.length (is_proper export e) (has_failed e) (total (pieces e)) (lacks (with_reply e (Chunk flags k cookie payload)))))) (sym k)
+pub none-chunk : (at : Option ℕ) (profile : Profile) (export : Exporting) (e : Operation) (flags kind cookie : ℕ) (payload : List ℕ) → kind ≡ chunks.NONE →
+    chunk_fault (is_some at) (kind == chunks.NONE) export e (with_reply e (chunk_with at flags kind cookie payload)) flags (read_as profile kind) payload
+    ≡ fault_if (not (length payload == 0) || not (has flags chunks.DONE)) BadChunk (done_by (has flags chunks.DONE) (finish_by e.command e.length (is_proper export e) (has_failed e) (total (pieces e)) (lacks (with_reply e (chunk_with at flags kind cookie payload)))))
+none-chunk at profile export e flags kind cookie payload k =
+    subst (λ k. chunk_fault (is_some at) (k == chunks.NONE) export e (with_reply e (chunk_with at flags k cookie payload)) flags (read_as profile k) payload
+    ≡ fault_if (not (length payload == 0) || not (has flags chunks.DONE)) BadChunk (done_by (has flags chunks.DONE) (finish_by e.command e.length (is_proper export e) (has_failed e) (total (pieces e)) (lacks (with_reply e (chunk_with at flags k cookie payload)))))) (sym k)
     (ap (fault_if (not (length payload == 0) || not (has flags chunks.DONE)) BadChunk)
-    (done-more export e flags chunks.NONE cookie payload None (none_content payload) refl (has flags chunks.DONE)
-    ∙ ap (λ n. done_by (has flags chunks.DONE) (finish_by e.command e.length (is_proper export e) (has_failed e) n (lacks (with_reply e (Chunk flags chunks.NONE cookie payload))))) (omega arith)))
+    (done-more at export e flags chunks.NONE cookie payload None (none_content payload) refl (has flags chunks.DONE)
+    ∙ ap (λ n. done_by (has flags chunks.DONE) (finish_by e.command e.length (is_proper export e) (has_failed e) n (lacks (with_reply e (chunk_with at flags chunks.NONE cookie payload))))) (omega arith)))
 
 content_kind : (kind : ℕ) (payload : List ℕ) (piece : Piece) → content_of kind payload ≡ Some piece → (kind ≡ chunks.OFFSET_DATA) ⊎ (kind ≡ chunks.OFFSET_HOLE)
 unfolding content_of
@@ -96,58 +103,88 @@ error_kind : (kind : ℕ) → (kind ≡ chunks.ERROR) ⊎ (kind ≡ chunks.ERROR
 error_kind kind (inl q) = subst (λ k. is_error_chunk k ≡ true) (sym q) refl
 error_kind kind (inr q) = subst (λ k. is_error_chunk k ≡ true) (sym q) refl
 
--- a content chunk
-pub content-chunk : (profile : Profile) (export : Exporting) (e : Operation) (flags kind cookie : ℕ) (payload : List ℕ) (piece : Piece) → content_of kind payload ≡ Some piece →
-    chunk_fault (kind == chunks.NONE) export e (with_reply e (Chunk flags kind cookie payload)) flags (read_as profile kind) payload
-    ≡ fault_if (not (fits_read export e piece)) BadContent (done_by (has flags chunks.DONE) (finish_by e.command e.length (is_proper export e) (has_failed e) (total (pieces e) + piece_size piece) (lacks (with_reply e (Chunk flags kind cookie payload)))))
-content-chunk profile export e flags kind cookie payload piece q =
-    let k : ((kind == chunks.NONE) ≡ false) × (is_error_chunk kind ≡ false) = plain_kind kind (content_kind kind payload piece q) in
-    let w : Operation = with_reply e (Chunk flags kind cookie payload) in
-    let next : Option WireFault = done_fault (has flags chunks.DONE) export w in
-    let r : ℕ = read_as profile kind in
-    ap (λ b. chunk_fault b export e w flags r payload) k.0
-    ∙ ap (λ o. content_fault export e o (failure_of r payload) (status_if e.contexts r payload) next) (kind_content profile kind payload ∙ q)
-    ∙ ap (fault_if (not (fits_read export e piece)) BadContent)
-    (done-more export e flags kind cookie payload (Some piece) q k.1 (has flags chunks.DONE)
-    ∙ ap (λ n. done_by (has flags chunks.DONE) (finish_by e.command e.length (is_proper export e) (has_failed e) (total (pieces e) + n) (lacks w))) (omega arith))
+other_status_if : (at : Option ℕ) (contexts : List Context) (kind : ℕ) (payload : List ℕ) → is_status at kind ≡ false → status_if (is_some at) contexts kind payload ≡ None
+other_status_if None contexts kind payload n = ap (λ b. if b && not (length contexts == 0) then status_of payload else None) n
+other_status_if (Some offset) contexts kind payload n = refl
 
--- an error chunk
-pub failure-chunk : (profile : Profile) (export : Exporting) (e : Operation) (flags kind cookie : ℕ) (payload : List ℕ) (failure : Failure) → failure_of (read_as profile kind) payload ≡ Some failure →
-    chunk_fault (kind == chunks.NONE) export e (with_reply e (Chunk flags kind cookie payload)) flags (read_as profile kind) payload ≡ fault_if (not (fits_failure e failure.offset)) BadContent None
-failure-chunk profile export e flags kind cookie payload failure q =
-    let r : ℕ = read_as profile kind in
-    let is : is_error_chunk kind ≡ true = sym (kind_error profile kind) ∙ error_kind r (failure_kind r payload failure q) in
-    let w : Operation = with_reply e (Chunk flags kind cookie payload) in
-    let next : Option WireFault = done_fault (has flags chunks.DONE) export w in
-    ap (λ b. chunk_fault b export e w flags r payload) (no_other kind chunks.NONE is (omega arith))
-    ∙ ap (λ o. content_fault export e o (failure_of r payload) (status_if e.contexts r payload) next) (no_content r payload failure q)
-    ∙ ap (λ o. content_fault export e None o (status_if e.contexts r payload) next) q
-    ∙ ap (fault_if (not (fits_failure e failure.offset)) BadContent) (done (has flags chunks.DONE) (failed-more e flags kind cookie payload ∙ ap (λ b. has_failed e || b) is ∙ or-true (has_failed e)))
-  where
-    or-true : (b : Bool) → (b || true) ≡ true
-    or-true true = refl
-    or-true false = refl
+-- a chunk that is none of a status gives none
+pub other_status : (at : Option ℕ) (flags kind cookie : ℕ) (payload : List ℕ) → is_status at kind ≡ false → status_in (chunk_with at flags kind cookie payload) ≡ []
+other_status None flags kind cookie payload n = ap (λ b. if b then option_to_list (status_of payload) else []) n
+other_status (Some offset) flags kind cookie payload n = refl
 
-    done : (d : Bool) → has_failed (with_reply e (Chunk flags kind cookie payload)) ≡ true → done_fault d export (with_reply e (Chunk flags kind cookie payload)) ≡ None
-    done false h = refl
-    done true h = let w : Operation = with_reply e (Chunk flags kind cookie payload) in ap (λ b. finish_fault export w b (pieces w)) h
+pub status_only : (at : Option ℕ) (kind : ℕ) → is_status at kind ≡ true → (at ≡ None) × (kind ≡ chunks.BLOCK_STATUS)
+status_only None kind e = (refl, eqb-true kind chunks.BLOCK_STATUS e)
+status_only (Some offset) kind e = absurd (cc)
 
--- a chunk that is of no form
-pub bad-chunk : (profile : Profile) (export : Exporting) (e : Operation) (flags kind cookie : ℕ) (payload : List ℕ) → (kind ≡ chunks.NONE → ⊥) → (kind ≡ chunks.BLOCK_STATUS → ⊥) → content_of kind payload ≡ None →
-    failure_of (read_as profile kind) payload ≡ None → chunk_fault (kind == chunks.NONE) export e (with_reply e (Chunk flags kind cookie payload)) flags (read_as profile kind) payload ≡ Some BadChunk
-bad-chunk profile export e flags kind cookie payload n b content failure =
-    let r : ℕ = read_as profile kind in
-    let w : Operation = with_reply e (Chunk flags kind cookie payload) in
-    let next : Option WireFault = done_fault (has flags chunks.DONE) export w in
-    let status : status_if e.contexts r payload ≡ None = kind_status profile e.contexts kind payload ∙ ap (λ b. if b && not (length e.contexts == 0) then status_of payload else None) (ne_eqb kind chunks.BLOCK_STATUS b) in
-    ap (λ b. chunk_fault b export e w flags r payload) (ne_eqb kind chunks.NONE n)
-    ∙ ap (λ o. content_fault export e o (failure_of r payload) (status_if e.contexts r payload) next) (kind_content profile kind payload ∙ content)
-    ∙ ap (λ o. content_fault export e None o (status_if e.contexts r payload) next) failure
-    ∙ ap (λ o. content_fault export e None None o next) status
+module _ (at : Option ℕ) (profile : Profile) (export : Exporting) (e : Operation) (flags kind cookie : ℕ) (payload : List ℕ) where
+  abbrev with_it : Operation
+  with_it = with_reply e (chunk_with at flags kind cookie payload)
 
--- a chunk of another type gives no status
-pub other_status : (flags kind cookie : ℕ) (payload : List ℕ) → (kind ≡ chunks.BLOCK_STATUS → ⊥) → status_in (Chunk flags kind cookie payload) ≡ []
-other_status flags kind cookie payload n = ap (λ b. if b then option_to_list (status_of payload) else []) (ne_eqb kind chunks.BLOCK_STATUS n)
+  abbrev done_next : Option WireFault
+  done_next = done_fault (has flags chunks.DONE) export with_it
+
+  abbrev read : ℕ
+  read = read_as profile kind
+
+  abbrev status : Option Status
+  status = status_if (is_some at) e.contexts read payload
+
+  -- a content chunk
+  pub content-chunk : (piece : Piece) → content_of kind payload ≡ Some piece → chunk_fault (is_some at) (kind == chunks.NONE) export e with_it flags read payload
+      ≡ fault_if (not (fits_read export e piece)) BadContent (done_by (has flags chunks.DONE) (finish_by e.command e.length (is_proper export e) (has_failed e) (total (pieces e) + piece_size piece) (lacks with_it)))
+  content-chunk piece q =
+      let k : ((kind == chunks.NONE) ≡ false) × (is_error_chunk kind ≡ false) = plain_kind kind (content_kind kind payload piece q) in
+      ap (λ b. chunk_fault (is_some at) b export e with_it flags read payload) k.0
+      ∙ ap (λ o. content_fault export e o (failure_of read payload) status done_next) (kind_content profile kind payload ∙ q)
+      ∙ ap (fault_if (not (fits_read export e piece)) BadContent)
+      (done-more at export e flags kind cookie payload (Some piece) q k.1 (has flags chunks.DONE)
+      ∙ ap (λ n. done_by (has flags chunks.DONE) (finish_by e.command e.length (is_proper export e) (has_failed e) (total (pieces e) + n) (lacks with_it))) (omega arith))
+
+  -- an error chunk
+  pub failure-chunk : (failure : Failure) → failure_of read payload ≡ Some failure → chunk_fault (is_some at) (kind == chunks.NONE) export e with_it flags read payload ≡ fault_if (not (fits_failure e failure.offset)) BadContent None
+  failure-chunk failure q =
+      let is : is_error_chunk kind ≡ true = sym (kind_error profile kind) ∙ error_kind read (failure_kind read payload failure q) in
+      ap (λ b. chunk_fault (is_some at) b export e with_it flags read payload) (no_other kind chunks.NONE is (omega arith))
+      ∙ ap (λ o. content_fault export e o (failure_of read payload) status done_next) (no_content read payload failure q)
+      ∙ ap (λ o. content_fault export e None o status done_next) q
+      ∙ ap (fault_if (not (fits_failure e failure.offset)) BadContent) (done (has flags chunks.DONE) (failed-more at export e flags kind cookie payload ∙ ap (λ b. has_failed e || b) is ∙ or-true (has_failed e)))
+    where
+      or-true : (b : Bool) → (b || true) ≡ true
+      or-true true = refl
+      or-true false = refl
+
+      done : (d : Bool) → has_failed with_it ≡ true → done_fault d export with_it ≡ None
+      done false h = refl
+      done true h = ap (λ b. finish_fault export with_it b (pieces with_it)) h
+
+  -- a chunk that is of no form
+  pub bad-chunk : (kind ≡ chunks.NONE → ⊥) → is_status at kind ≡ false → content_of kind payload ≡ None → failure_of read payload ≡ None → chunk_fault (is_some at) (kind == chunks.NONE) export e with_it flags read payload ≡ Some BadChunk
+  bad-chunk n b content failure =
+      ap (λ b. chunk_fault (is_some at) b export e with_it flags read payload) (ne_eqb kind chunks.NONE n)
+      ∙ ap (λ o. content_fault export e o (failure_of read payload) status done_next) (kind_content profile kind payload ∙ content)
+      ∙ ap (λ o. content_fault export e None o status done_next) failure
+      ∙ ap (λ o. content_fault export e None None o done_next) (kind_status profile (is_some at) e.contexts kind payload ∙ other_status_if at e.contexts kind payload b)
+
+-- what the offset of an extended header shows to be wrong comes behind what else is
+module _ (at : Option ℕ) (profile : Profile) (export : Exporting) (e : Operation) (flags kind cookie : ℕ) (payload : List ℕ) where
+  abbrev payload_fault : Option WireFault
+  payload_fault = chunk_fault (is_some at) (kind == chunks.NONE) export e (with_reply e (chunk_with at flags kind cookie payload)) flags (read_as profile kind) payload
+
+  pub fault_first : (fault : WireFault) → payload_fault ≡ Some fault → chunk_fault_by at profile export e flags kind cookie payload ≡ Some fault
+  fault_first fault q = go at fault q
+    where
+      go : (at : Option ℕ) (fault : WireFault) →
+          chunk_fault (is_some at) (kind == chunks.NONE) export e (with_reply e (chunk_with at flags kind cookie payload)) flags (read_as profile kind) payload ≡ Some fault → chunk_fault_by at profile export e flags kind cookie payload ≡ Some fault
+      go None fault q = q
+      go (Some offset) fault q = ap (λ f. offset_fault f e offset) q
+
+  pub elsewhere_last : payload_fault ≡ None → chunk_fault_by at profile export e flags kind cookie payload ≡ elsewhere_fault at e.offset
+  elsewhere_last q = go at q
+    where
+      go : (at : Option ℕ) →
+          chunk_fault (is_some at) (kind == chunks.NONE) export e (with_reply e (chunk_with at flags kind cookie payload)) flags (read_as profile kind) payload ≡ None → chunk_fault_by at profile export e flags kind cookie payload ≡ elsewhere_fault at e.offset
+      go None q = q
+      go (Some offset) q = ap (λ f. offset_fault f e offset) q
 
 -- a status chunk
 module _ (export : Exporting) (e : Operation) (flags cookie : ℕ) (payload : List ℕ) where
@@ -164,14 +201,14 @@ module _ (export : Exporting) (e : Operation) (flags cookie : ℕ) (payload : Li
       go None q = q
       go (Some failure) q = elim (failure_kind chunks.BLOCK_STATUS payload failure q) [ inl r ↦ absurd (cc) | inr r ↦ absurd (cc) ]
 
-  by_status : (o : Option Status) → status_if e.contexts chunks.BLOCK_STATUS payload ≡ o →
-      chunk_fault false export e with_status flags chunks.BLOCK_STATUS payload ≡ content_fault export e None None o status_next
+  by_status : (o : Option Status) → status_if false e.contexts chunks.BLOCK_STATUS payload ≡ o →
+      chunk_fault false false export e with_status flags chunks.BLOCK_STATUS payload ≡ content_fault export e None None o status_next
   by_status o q = (λ i. content_fault export e (status_content chunks.BLOCK_STATUS payload refl i) (no_failure i) (q i) status_next)
 
-  pub unknown_status : (length e.contexts == 0) ≡ true → chunk_fault false export e with_status flags chunks.BLOCK_STATUS payload ≡ Some BadChunk
+  pub unknown_status : (length e.contexts == 0) ≡ true → chunk_fault false false export e with_status flags chunks.BLOCK_STATUS payload ≡ Some BadChunk
   unknown_status n = by_status None (ap (λ b. if not b then status_of payload else None) n)
 
-  pub malformed_status : status_of payload ≡ None → chunk_fault false export e with_status flags chunks.BLOCK_STATUS payload ≡ Some BadChunk
+  pub malformed_status : status_of payload ≡ None → chunk_fault false false export e with_status flags chunks.BLOCK_STATUS payload ≡ Some BadChunk
   malformed_status n = by_status None (go (length e.contexts == 0))
     where
       go : (b : Bool) → (if not b then status_of payload else None) ≡ None
@@ -179,15 +216,15 @@ module _ (export : Exporting) (e : Operation) (flags cookie : ℕ) (payload : Li
       go false = n
 
   module _ (status : Status) (some_in_force : (length e.contexts == 0) ≡ false) (is : status_of payload ≡ Some status) where
-    by_this : chunk_fault false export e with_status flags chunks.BLOCK_STATUS payload ≡ fault_if (not (fits_status e status)) BadContent status_next
+    by_this : chunk_fault false false export e with_status flags chunks.BLOCK_STATUS payload ≡ fault_if (not (fits_status e status)) BadContent status_next
     by_this = by_status (Some status) (ap (λ b. if not b then status_of payload else None) some_in_force ∙ is)
 
-    pub wrong_status : fits_status e status ≡ false → chunk_fault false export e with_status flags chunks.BLOCK_STATUS payload ≡ Some BadContent
+    pub wrong_status : fits_status e status ≡ false → chunk_fault false false export e with_status flags chunks.BLOCK_STATUS payload ≡ Some BadContent
     wrong_status w = by_this ∙ ap (λ b. fault_if (not b) BadContent status_next) w
 
-    pub right_status : fits_status e status ≡ true → chunk_fault false export e with_status flags chunks.BLOCK_STATUS payload
+    pub right_status : fits_status e status ≡ true → chunk_fault false false export e with_status flags chunks.BLOCK_STATUS payload
         ≡ done_by (has flags chunks.DONE) (finish_by e.command e.length (is_proper export e) (has_failed e) (total (pieces e)) (lacks with_status))
     right_status w =
         by_this ∙ ap (λ b. fault_if (not b) BadContent status_next) w
-        ∙ done-more export e flags chunks.BLOCK_STATUS cookie payload None (status_content chunks.BLOCK_STATUS payload refl) refl (has flags chunks.DONE)
+        ∙ done-more None export e flags chunks.BLOCK_STATUS cookie payload None (status_content chunks.BLOCK_STATUS payload refl) refl (has flags chunks.DONE)
         ∙ ap (λ n. done_by (has flags chunks.DONE) (finish_by e.command e.length (is_proper export e) (has_failed e) n (lacks with_status))) (omega arith)

@@ -67,7 +67,7 @@ decided_is_counted Ended old now Server bytes h = refl
 decided_is_counted Ended old now Client bytes h = refl
 
 none_added : (core : Core) → IsAppended core core
-none_added core = record { more = []; entries_are = sym (append-nil core.entries); structured_is = refl; profile_is = refl }
+none_added core = record { more = []; entries_are = sym (append-nil core.entries); structured_is = refl; profile_is = refl; extended_is = refl }
 
 -- since a server's first byte requests were only added
 kept_appended : {old now next : Core} {bytes : List ℕ} → Kept by_tests Server old now bytes → by_tests old now Server bytes ≡ More → Later Server now next → IsAppended old next

@@ -2,7 +2,7 @@
 use Rattle.std.proofs.Common.{◌≡◌, ℕ, zero, suc, ◌+◌, ◌≤◌, ◌==◌, List, [], ◌∷◌, length, take, drop, refl, sym, ◌∙◌, ap, subst, Option, Some, None, Bool, true, false, ◌&&◌, eqb-true, eq-eqb, arith}
 use Rattle.std.proofs.lemmas.Bool.{false≢true, and_parts, and_from}
 use Rattle.std.proofs.lemmas.List.{take-append-drop, length-take-le}
-use Rattle.nbd_wire.specs.declared.magics.TheConstants.{GREETING_MAGIC, OPTION_MAGIC, ANSWER_MAGIC, REQUEST_MAGIC, SIMPLE_MAGIC, CHUNK_MAGIC}
+use Rattle.nbd_wire.specs.declared.magics.TheConstants.{GREETING_MAGIC, OPTION_MAGIC, ANSWER_MAGIC, REQUEST_MAGIC, SIMPLE_MAGIC, CHUNK_MAGIC, EXTENDED_REQUEST_MAGIC, EXTENDED_CHUNK_MAGIC}
 use Rattle.nbd_wire.specs.declared.heads.negotiation.ChoiceHead.{ChoiceHead}
 use Rattle.nbd_wire.specs.declared.heads.negotiation.AnswerHead.{AnswerHead}
 use Rattle.nbd_wire.specs.declared.heads.transmission.RequestHead.{RequestHead}
@@ -10,11 +10,11 @@ use Rattle.nbd_wire.specs.declared.heads.transmission.SimpleHead.{SimpleHead}
 use Rattle.nbd_wire.specs.declared.heads.transmission.ChunkHead.{ChunkHead}
 use Rattle.nbd_wire.specs.protocol.Encoding.{AreBytes}
 use Rattle.nbd_wire.proofs.FieldLemmas.{number_at-append}
-use Rattle.nbd_wire.specs.codec.Heads.{IsGreetingHead, IsClientFlagsHead, IsChoiceHead, IsAnswerHead, IsExportHead, IsRequestHead, IsSimpleHead, IsChunkHead}
+use Rattle.nbd_wire.specs.codec.Heads.{IsGreetingHead, IsClientFlagsHead, IsChoiceHead, IsAnswerHead, IsExportHead, IsRequestHead, IsSimpleHead, IsChunkHead, IsExtendedRequestHead, IsExtendedChunkHead}
 use Rattle.nbd_wire.specs.protocol.Payloads.{number_at}
-use Rattle.nbd_wire.proofs.HeadLemmas.{greeting-found, greeting-only, client_flags-found, choice-found, choice-only, answer-found, answer-only, export-found, request-found, request-only, simple-found, simple-only, chunk-found, chunk-only}
+use Rattle.nbd_wire.proofs.HeadLemmas.{greeting-found, greeting-only, client_flags-found, choice-found, choice-only, answer-found, answer-only, export-found, request-found, request-only, simple-found, simple-only, chunk-found, chunk-only, extended_request-found, extended_request-only, extended_chunk-found, extended_chunk-only}
 use Rattle.nbd_wire.specs.codec.Reads.{Reads}
-use Rattle.nbd_session.specs.internal.Leading.{some_if, greeting_flags_of, choice_head_of, answer_head_of, answer_fields_of, request_head_of, simple_head_of, chunk_head_of}
+use Rattle.nbd_session.specs.internal.Leading.{some_if, greeting_flags_of, choice_head_of, answer_head_of, answer_fields_of, request_fields, request_head_of, simple_head_of, chunk_fields, chunk_head_of}
 
 -- a head that stands before these bytes
 pub record IsFront (n : ℕ) (head bytes : List ℕ) : Type 0 where
@@ -82,13 +82,19 @@ leading_export-is answer head bytes f reads =
     (λ t. subst (λ (h : ℕ × ℕ). IsExportHead h.0 h.1 head) same (export-found head f.are_bytes f.length_is))
     (λ other form. refl)
 
-pub leading_request-is : (answer : Option RequestHead) (head bytes : List ℕ) → IsFront 28 head bytes → Reads answer (λ h. IsRequestHead h head) → answer ≡ request_head_of bytes
+pub leading_request-is : (answer : Option RequestHead) (head bytes : List ℕ) → IsFront 28 head bytes → Reads answer (λ h. IsRequestHead h head) → answer ≡ request_head_of false bytes
 leading_request-is answer head bytes f reads =
-    let value : List ℕ → RequestHead = λ l. record { flags = number_at 4 2 l; command = number_at 6 2 l; cookie = number_at 8 8 l; offset = number_at 16 8 l; length = number_at 24 4 l } in
-    let same : value head ≡ value bytes = λ i. record { flags = f.at 4 2 (omega arith) i; command = f.at 6 2 (omega arith) i; cookie = f.at 8 8 (omega arith) i; offset = f.at 16 8 (omega arith) i; length = f.at 24 4 (omega arith) i } in
-    read_if (λ h. IsRequestHead h head) answer (number_at 0 4 bytes == REQUEST_MAGIC) (value bytes) reads
+    let same : request_fields false head ≡ request_fields false bytes = λ i. record { extended = false; flags = f.at 4 2 (omega arith) i; command = f.at 6 2 (omega arith) i; cookie = f.at 8 8 (omega arith) i; offset = f.at 16 8 (omega arith) i; length = f.at 24 4 (omega arith) i } in
+    read_if (λ h. IsRequestHead h head) answer (number_at 0 4 bytes == REQUEST_MAGIC) (request_fields false bytes) reads
     (λ t. subst (λ v. IsRequestHead v head) same (request-found head f.are_bytes f.length_is (f.at 0 4 (omega arith) ∙ eqb-true _ _ t)))
     (λ other form. eq-eqb _ _ (sym (f.at 0 4 (omega arith)) ∙ (request-only other head form).1))
+
+pub leading_extended_request-is : (answer : Option RequestHead) (head bytes : List ℕ) → IsFront 32 head bytes → Reads answer (λ h. IsExtendedRequestHead h head) → answer ≡ request_head_of true bytes
+leading_extended_request-is answer head bytes f reads =
+    let same : request_fields true head ≡ request_fields true bytes = λ i. record { extended = true; flags = f.at 4 2 (omega arith) i; command = f.at 6 2 (omega arith) i; cookie = f.at 8 8 (omega arith) i; offset = f.at 16 8 (omega arith) i; length = f.at 24 8 (omega arith) i } in
+    read_if (λ h. IsExtendedRequestHead h head) answer (number_at 0 4 bytes == EXTENDED_REQUEST_MAGIC) (request_fields true bytes) reads
+    (λ t. subst (λ v. IsExtendedRequestHead v head) same (extended_request-found head f.are_bytes f.length_is (f.at 0 4 (omega arith) ∙ eqb-true _ _ t)))
+    (λ other form. eq-eqb _ _ (sym (f.at 0 4 (omega arith)) ∙ (extended_request-only other head form).1))
 
 pub leading_simple-is : (answer : Option SimpleHead) (head bytes : List ℕ) → IsFront 16 head bytes → Reads answer (λ h. IsSimpleHead h head) → answer ≡ simple_head_of bytes
 leading_simple-is answer head bytes f reads =
@@ -98,10 +104,16 @@ leading_simple-is answer head bytes f reads =
     (λ t. subst (λ v. IsSimpleHead v head) same (simple-found head f.are_bytes f.length_is (f.at 0 4 (omega arith) ∙ eqb-true _ _ t)))
     (λ other form. eq-eqb _ _ (sym (f.at 0 4 (omega arith)) ∙ (simple-only other head form).1))
 
-pub leading_chunk-is : (answer : Option ChunkHead) (head bytes : List ℕ) → IsFront 20 head bytes → Reads answer (λ h. IsChunkHead h head) → answer ≡ chunk_head_of bytes
+pub leading_chunk-is : (answer : Option ChunkHead) (head bytes : List ℕ) → IsFront 20 head bytes → Reads answer (λ h. IsChunkHead h head) → answer ≡ chunk_head_of false bytes
 leading_chunk-is answer head bytes f reads =
-    let value : List ℕ → ChunkHead = λ l. record { flags = number_at 4 2 l; kind = number_at 6 2 l; cookie = number_at 8 8 l; length = number_at 16 4 l } in
-    let same : value head ≡ value bytes = λ i. record { flags = f.at 4 2 (omega arith) i; kind = f.at 6 2 (omega arith) i; cookie = f.at 8 8 (omega arith) i; length = f.at 16 4 (omega arith) i } in
-    read_if (λ h. IsChunkHead h head) answer (number_at 0 4 bytes == CHUNK_MAGIC) (value bytes) reads
+    let same : chunk_fields false head ≡ chunk_fields false bytes = λ i. record { at = None; flags = f.at 4 2 (omega arith) i; kind = f.at 6 2 (omega arith) i; cookie = f.at 8 8 (omega arith) i; length = f.at 16 4 (omega arith) i } in
+    read_if (λ h. IsChunkHead h head) answer (number_at 0 4 bytes == CHUNK_MAGIC) (chunk_fields false bytes) reads
     (λ t. subst (λ v. IsChunkHead v head) same (chunk-found head f.are_bytes f.length_is (f.at 0 4 (omega arith) ∙ eqb-true _ _ t)))
     (λ other form. eq-eqb _ _ (sym (f.at 0 4 (omega arith)) ∙ (chunk-only other head form).1))
+
+pub leading_extended_chunk-is : (answer : Option ChunkHead) (head bytes : List ℕ) → IsFront 32 head bytes → Reads answer (λ h. IsExtendedChunkHead h head) → answer ≡ chunk_head_of true bytes
+leading_extended_chunk-is answer head bytes f reads =
+    let same : chunk_fields true head ≡ chunk_fields true bytes = λ i. record { at = Some (f.at 16 8 (omega arith) i); flags = f.at 4 2 (omega arith) i; kind = f.at 6 2 (omega arith) i; cookie = f.at 8 8 (omega arith) i; length = f.at 24 8 (omega arith) i } in
+    read_if (λ h. IsExtendedChunkHead h head) answer (number_at 0 4 bytes == EXTENDED_CHUNK_MAGIC) (chunk_fields true bytes) reads
+    (λ t. subst (λ v. IsExtendedChunkHead v head) same (extended_chunk-found head f.are_bytes f.length_is (f.at 0 4 (omega arith) ∙ eqb-true _ _ t)))
+    (λ other form. eq-eqb _ _ (sym (f.at 0 4 (omega arith)) ∙ (extended_chunk-only other head form).1))

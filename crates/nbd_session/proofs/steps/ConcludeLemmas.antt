@@ -1,11 +1,14 @@
 -- What is decided of a side's bytes once they were taken.
-use Rattle.std.proofs.Common.{◌≡◌, ℕ, suc, ◌-◌, ◌<◌, ◌≤◌, List, [], ◌∷◌, ◌++◌, length, refl, sym, ◌∙◌, ap, subst, Option, Some, None, Result, Ok, Err, IfErr, IsErrAnd, OnOk, OnErr, append-nil, arith}
+use Rattle.std.proofs.Common.{◌≡◌, ℕ, suc, ◌-◌, ◌<◌, ◌≤◌, List, [], ◌∷◌, ◌++◌, length, refl, sym, ◌∙◌, ap, subst, Option, Some, None, Bool, true, false, Result, Ok, Err, IfErr, IsErrAnd, OnOk, OnErr, append-nil, arith}
 use Rattle.std.proofs.lemmas.Option.{same_Some}
 use Rattle.nbd_state.specs.Places.{place_at}
 use Rattle.nbd_wire.specs.declared.fault.WireFault.{WireFault}
 use Rattle.nbd_wire.specs.declared.message.Side.{Side}
 use Rattle.nbd_wire.specs.declared.message.Side.TheVariants.{Client, Server}
+use Rattle.nbd_wire.specs.declared.heads.transmission.RequestHead.{RequestHead}
+use Rattle.nbd_wire.specs.protocol.Rules.{cookie_of}
 use Rattle.nbd_wire.specs.protocol.States.{Core, target}
+use Rattle.nbd_state.proofs.HeadLemmas.{chunk_cookie}
 use Rattle.nbd_state.proofs.PlacedLemmas.{shown_length}
 use Rattle.nbd_state.specs.Completions.{Answers}
 use Rattle.nbd_state.specs.Shows.{AreKnown, Shows, place_of}
@@ -18,7 +21,7 @@ use Rattle.nbd_session.specs.declared.expected.Expected.TheVariants as expectati
 use Rattle.nbd_session.specs.declared.fault.SessionFault.TheVariants.{Wire}
 use Rattle.nbd_session.specs.declared.held.Held.{Held}
 use Rattle.nbd_session.specs.Incoming.{IncomingView, bytes_come}
-use Rattle.nbd_session.specs.internal.Expecting.{HasHeadLength, IsExpectedOf, IsPlaced, IsRefusedHead, IsWholeHead, StandsIn, last_fault_by, message_of, payload_length_of, place_answered}
+use Rattle.nbd_session.specs.internal.Expecting.{HasHeadLength, IsExpectedOf, IsPlaced, IsRefusedHead, IsWholeHead, StandsIn, last_fault_by, message_of, payload_length_of, place_answered, request_with}
 use Rattle.nbd_session.specs.internal.Holdings.{incoming_of, with_expected}
 use Rattle.nbd_session.specs.internal.Known.{IsCome, IsExpected, IsKnown, decided, is_come_by}
 use Rattle.nbd_session.specs.internal.Logging.{log_of_pairs}
@@ -48,15 +51,19 @@ stands_in state core s (expectations.Answer head proper) l = tt
 stands_in state core s (expectations.Exported size flags padded) l = tt
 stands_in state core s (expectations.Request head) l = tt
 
+no_cookie : (x : Bool) (r : RequestHead) (payload : List ℕ) → cookie_of (request_with x r payload) ≡ None
+no_cookie false r payload = refl
+no_cookie true r payload = refl
+
 pub answers_at : (state : State) (core : Core) → Shows state core → (x : Expected) (payload : List ℕ) → IsPlaced core x → Answers state (message_of x payload) (place_answered x)
 answers_at state core s (expectations.Simple head place len) payload t cookie c = placed_in state core s head.cookie cookie place t c
-answers_at state core s (expectations.Chunk head place) payload t cookie c = placed_in state core s head.cookie cookie place t c
+answers_at state core s (expectations.Chunk head place) payload t cookie c = placed_in state core s head.cookie cookie place t (sym (chunk_cookie head.flags head.kind head.cookie payload head.at) ∙ c)
 answers_at state core s (expectations.Greeting flags) payload t cookie c = absurd (cc)
 answers_at state core s (expectations.ClientFlags flags) payload t cookie c = absurd (cc)
 answers_at state core s (expectations.Choice head) payload t cookie c = absurd (cc)
 answers_at state core s (expectations.Answer head proper) payload t cookie c = absurd (cc)
 answers_at state core s (expectations.Exported size flags padded) payload t cookie c = absurd (cc)
-answers_at state core s (expectations.Request head) payload t cookie c = absurd (cc)
+answers_at state core s (expectations.Request head) payload t cookie c = absurd (let q : None ≡ Some cookie = sym (no_cookie head.extended head payload) ∙ c in cc)
 
 module _ (held : Held) (s : Side) (x : Expected) (e : IsExpecting held s x) (payload : List ℕ) (is : payload ≡ (incoming_of held s).payload) where
   -- bytes are missing

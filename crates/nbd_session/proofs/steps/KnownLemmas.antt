@@ -1,33 +1,36 @@
 -- What is known of a side's bytes stays, where the other side's messages complete meanwhile.
-use Rattle.std.proofs.Common.{◌≡◌, ℕ, suc, ◌+◌, ◌<◌, ◌≤◌, List, [], ◌∷◌, ◌++◌, length, refl, sym, ◌∙◌, ap, subst, inl, inr, Option, Some, None, zero, Bool, true, false, if◌then◌else◌, arith, add-one, append-nil, length-append}
+use Rattle.std.proofs.Common.{◌≡◌, ℕ, suc, ◌+◌, ◌<◌, ◌≤◌, List, [], ◌∷◌, ◌++◌, ◌==◌, length, not, refl, sym, ◌∙◌, ap, subst, inl, inr, Option, Some, None, zero, Bool, true, false, if◌then◌else◌, arith, add-one, append-nil, length-append}
 use Rattle.std.proofs.lemmas.Bool.{lt-ltb}
 use Rattle.std.proofs.lemmas.Option.{same_Some}
-use Rattle.nbd_wire.specs.declared.magics.TheConstants.{CHUNK_MAGIC, SIMPLE_MAGIC}
+use Rattle.nbd_wire.specs.declared.magics.TheConstants.{CHUNK_MAGIC, EXTENDED_CHUNK_MAGIC, SIMPLE_MAGIC}
+use Rattle.nbd_wire.specs.declared.message.Message.{Message}
 use Rattle.nbd_wire.specs.declared.message.Message.TheVariants as messages
 use Rattle.nbd_wire.specs.declared.message.Side.{Side}
 use Rattle.nbd_wire.specs.declared.message.Side.TheVariants.{Client, Server}
-use Rattle.nbd_wire.specs.declared.fault.WireFault.TheVariants.{BadMagic, UnknownCookie}
+use Rattle.nbd_wire.specs.declared.fault.WireFault.TheVariants.{BadMagic, OutOfProfile, UnknownCookie}
 use Rattle.nbd_wire.specs.protocol.Operations.{Exporting, Operation}
 use Rattle.nbd_wire.specs.protocol.Payloads.{number_at}
-use Rattle.nbd_wire.specs.protocol.States.{Core, Transmission, operation, target}
+use Rattle.nbd_wire.specs.protocol.States.{Core, Transmission, in_force, operation, target}
 use Rattle.nbd_laws.specs.Awaited.{awaited_length_by, awaited_length}
-use Rattle.nbd_wire.specs.protocol.Decisions.{Decision, begins, chunk_last_fault, chunk_of, operation_if, operation_of, reply, reply_by, request, request_of, simple_of}
+use Rattle.nbd_wire.specs.protocol.Decisions.{Decision, begins, chunk_last_fault, chunk_of, extended_chunk_of, extended_last_fault, extended_reply_by, extended_request_with, operation_if, operation_of, reply, reply_by, reply_in, request, request_by, simple_of}
 use Rattle.nbd_wire.specs.protocol.Reading.{by_tests, decision, request_unless, IsFilled, More, Rest, old_of}
-use Rattle.nbd_wire.specs.protocol.Transmission.{chunk_head_fault, cookie_fault, simple_fault, simple_last_fault, simple_payload_length}
+use Rattle.nbd_wire.specs.protocol.Transmission.{chunk_head_fault, cookie_fault, extended_head_fault, is_too_large, simple_fault, simple_last_fault, simple_payload_length}
 use Rattle.nbd_laws.proofs.judge.AwaitedLemmas.{decision_of}
-use Rattle.nbd_laws.proofs.judge.PhaseLemmas.{IsAppended, Later-appended, Later-disconnected, Later-transmission, Later-turn, target-append}
+use Rattle.nbd_laws.proofs.judge.PhaseLemmas.{IsAppended, Later-appended, Later-disconnected, Later-extended, Later-in_force, Later-transmission, Later-turn, target-append}
 use Rattle.nbd_laws.proofs.judge.SoundLemmas.{kept_later, turn_of_reading}
-use Rattle.nbd_laws.proofs.judge.SteadyLemmas.{IsBegun, IsDeciding, as_chunk, as_neither, as_simple, bytes_are_begun, deciding, entry-append, is_chunk_reply, is_no_reply, is_simple_reply}
+use Rattle.nbd_laws.proofs.judge.SteadyLemmas.{IsBegun, IsDeciding, IsExtendedOrNot, as_chunk, as_extended, as_neither, as_other, as_simple, bytes_are_begun, deciding, entry-append, extended_or_not, is_chunk_reply, is_extended_reply, is_no_extended, is_no_reply, is_simple_reply, long_reply, short_reply}
 use Rattle.nbd_laws.proofs.reading.ReaderLemmas.{Held, Later, Later-trans, at_once, none_held, old-empty, old-filled, some_held}
 use Rattle.nbd_wire.specs.declared.heads.transmission.RequestHead.{RequestHead}
 use Rattle.nbd_session.specs.declared.expected.Expected.{Expected}
 use Rattle.nbd_session.specs.declared.expected.Expected.TheVariants as expectations
-use Rattle.nbd_session.specs.internal.Expecting.{IsPlaced, chunk_fault_to, expected_decision, last_fault_by, message_of, payload_length_of}
+use Rattle.nbd_session.specs.internal.Expecting.{IsPlaced, chunk_fault_to, expected_decision, last_fault_by, message_of, payload_length_of, request_with}
+use Rattle.nbd_state.specs.Heads.{chunk_with}
+use Rattle.nbd_wire.specs.protocol.Contexts.{Context}
+use Rattle.nbd_wire.specs.protocol.Tests.{fault_if}
 use Rattle.nbd_session.specs.Incoming.{IncomingView, bytes_come, incoming_with, incoming_with_by, nothing_come}
 use Rattle.nbd_session.specs.internal.Known.{IsCome, IsExpected, IsKnown, IsShort, is_known_by}
 use Rattle.nbd_session.proofs.expecting.KnownLemmas.{expected_awaited}
 use Rattle.nbd_session.proofs.expecting.ReplyLemmas.{placed_within}
-use Rattle.nbd_wire.specs.declared.heads.negotiation.AnswerHead.{AnswerHead}
 
 -- where something is decided of a rest, it goes on as it began
 pub deciding_rest : {core : Core} {s : Side} {rest : Rest} → Held by_tests core s rest → (bytes : List ℕ) (d : Decision) → decision core.phase (old_of core rest) core s bytes ≡ Some d →
@@ -90,20 +93,67 @@ placed_stays core next a (expectations.Answer head proper) l = tt
 placed_stays core next a (expectations.Exported size flags padded) l = tt
 placed_stays core next a (expectations.Request head) l = tt
 
--- a request looks at what is outstanding at its last byte alone
-request_stays : (core next : Core) (bytes payload : List ℕ) (h : ℕ) (x : Expected) → request core bytes ≡ expected_decision core x h payload → request next bytes ≡ expected_decision next x h payload
-request_stays core next bytes payload h (expectations.Request r) e =
-    let m : request_of bytes ≡ messages.Request r.flags r.command r.cookie r.offset r.length payload = ap (λ (d : Decision). d.message) e in
-    let c : number_at 6 2 bytes ≡ r.command = cc in
-    let k : number_at 8 8 bytes ≡ r.cookie = cc in
-    λ i. record { head_length = (e i).head_length; head_fault = (e i).head_fault; payload_length = (e i).payload_length; last_fault = cookie_fault (c i) (target (k i) next.entries); message = (e i).message }
-request_stays core next bytes payload h (expectations.Greeting flags) e = absurd (let m : request_of bytes ≡ messages.Greeting flags = ap (λ (d : Decision). d.message) e in cc)
-request_stays core next bytes payload h (expectations.ClientFlags flags) e = absurd (let m : request_of bytes ≡ messages.ClientFlags flags = ap (λ (d : Decision). d.message) e in cc)
-request_stays core next bytes payload h (expectations.Choice head) e = absurd (let m : request_of bytes ≡ messages.Choice head.id payload = ap (λ (d : Decision). d.message) e in cc)
-request_stays core next bytes payload h (expectations.Answer head proper) e = absurd (let m : request_of bytes ≡ messages.Answer head.option head.kind payload = ap (λ (d : Decision). d.message) e in cc)
-request_stays core next bytes payload h (expectations.Exported size flags padded) e = absurd (let m : request_of bytes ≡ messages.Exported size flags padded = ap (λ (d : Decision). d.message) e in cc)
-request_stays core next bytes payload h (expectations.Simple head place len) e = absurd (let m : request_of bytes ≡ messages.Simple head.error head.cookie payload = ap (λ (d : Decision). d.message) e in cc)
-request_stays core next bytes payload h (expectations.Chunk head place) e = absurd (let m : request_of bytes ≡ messages.Chunk head.flags head.kind head.cookie payload = ap (λ (d : Decision). d.message) e in cc)
+-- the command and the cookie of a request
+abbrev sent : Message → Option (ℕ × ℕ)
+sent (messages.Request flags command cookie offset len payload) = Some (command, cookie)
+sent (messages.ExtendedRequest flags command cookie offset len payload) = Some (command, cookie)
+sent m = None
+
+sent_by : (x : Bool) (core : Core) (bytes : List ℕ) → sent ((request_by x core bytes).message) ≡ Some (number_at 6 2 bytes, number_at 8 8 bytes)
+sent_by false core bytes = refl
+sent_by true core bytes = refl
+
+sent_with : (x : Bool) (r : RequestHead) (payload : List ℕ) → sent (request_with x r payload) ≡ Some (r.command, r.cookie)
+sent_with false r payload = refl
+sent_with true r payload = refl
+
+chunk_not_sent : (at : Option ℕ) (flags kind cookie : ℕ) (payload : List ℕ) → sent (chunk_with at flags kind cookie payload) ≡ None
+chunk_not_sent None flags kind cookie payload = refl
+chunk_not_sent (Some offset) flags kind cookie payload = refl
+
+request_only : (x : Expected) (payload : List ℕ) (s : ℕ × ℕ) → sent (message_of x payload) ≡ Some s → (r : RequestHead) × (x ≡ expectations.Request r)
+request_only (expectations.Request r) payload s e = (r, refl)
+request_only (expectations.Greeting flags) payload s e = absurd (cc)
+request_only (expectations.ClientFlags flags) payload s e = absurd (cc)
+request_only (expectations.Choice head) payload s e = absurd (cc)
+request_only (expectations.Answer head proper) payload s e = absurd (cc)
+request_only (expectations.Exported size flags padded) payload s e = absurd (cc)
+request_only (expectations.Simple head place len) payload s e = absurd (cc)
+request_only (expectations.Chunk head place) payload s e = absurd (let q : None ≡ Some s = sym (chunk_not_sent head.at head.flags head.kind head.cookie payload) ∙ e in cc)
+
+-- what is decided of a request is so of a request alone
+module _ (core : Core) (bytes payload : List ℕ) (h : ℕ) (x : Expected) (e : request core bytes ≡ expected_decision core x h payload) where
+  sent_here : sent (message_of x payload) ≡ Some (number_at 6 2 bytes, number_at 8 8 bytes)
+  sent_here = sym (ap (λ (d : Decision). sent d.message) e) ∙ sent_by core.extended core bytes
+
+  is_request : (r : RequestHead) × (x ≡ expectations.Request r)
+  is_request = request_only x payload _ sent_here
+
+  fields_are : ◌≡◌ {A = ℕ × ℕ} (number_at 6 2 bytes, number_at 8 8 bytes) (is_request.0.command, is_request.0.cookie)
+  fields_are = same_Some _ _ (sym sent_here ∙ ap (λ y. sent (message_of y payload)) is_request.1 ∙ sent_with is_request.0.extended is_request.0 payload)
+
+  -- a request answers no request
+  placed_request : (next : Core) → IsPlaced next x
+  placed_request next = subst (IsPlaced next) (sym is_request.1) tt
+
+  -- a request looks at what is outstanding at its last byte alone
+  request_stays : (next : Core) → next.extended ≡ core.extended → in_force next ≡ in_force core → request next bytes ≡ expected_decision next x h payload
+  request_stays next extended contexts =
+      let f : ◌≡◌ {A = ℕ × ℕ} (number_at 6 2 bytes, number_at 8 8 bytes) (is_request.0.command, is_request.0.cookie) = fields_are in
+      ap (λ b. request_by b next bytes) extended
+      ∙ go core.extended
+      ∙ (λ i. record { head_length = (e i).head_length; head_fault = (e i).head_fault; payload_length = (e i).payload_length; last_fault = cookie_fault (f i).0 (target (f i).1 next.entries); message = (e i).message })
+      ∙ (λ i. record { head_length = h; head_fault = None; payload_length = payload_length_of x; last_fault = last_fault_by next.phase next (sym is_request.1 i) payload; message = message_of x payload })
+    where
+      go : (x : Bool) → request_by x next bytes ≡ record {
+        head_length = (request_by x core bytes).head_length;
+        head_fault = (request_by x core bytes).head_fault;
+        payload_length = (request_by x core bytes).payload_length;
+        last_fault = cookie_fault (number_at 6 2 bytes) (target (number_at 8 8 bytes) next.entries);
+        message = (request_by x core bytes).message;
+      }
+      go false = refl
+      go true = ap (λ (cs : List Context). extended_request_with (not (length cs == 0)) next bytes) contexts
 
 module _ (export : Exporting) (old core next : Core) (bytes : List ℕ) (a : IsAppended core next) where
   abbrev cookie : ℕ
@@ -124,47 +174,84 @@ module _ (export : Exporting) (old core next : Core) (bytes : List ℕ) (a : IsA
   found_simple (Some e) error h = (e, refl)
   found_simple None error h = absurd (let q : Some UnknownCookie ≡ None = h in cc)
 
+  found_extended : (o : Option Operation) (len : ℕ) → extended_head_fault core.structured o len ≡ None → (e : Operation) × (o ≡ Some e)
+  found_extended (Some e) len h = (e, refl)
+  found_extended None len h = absurd (go (is_too_large len) h)
+    where
+      go : (b : Bool) → fault_if b OutOfProfile (Some UnknownCookie) ≡ None → ⊥
+      go true q = (cc)
+      go false q = (cc)
+
   -- what is decided of a reply without a fault in its head does not change as requests are added
-  reply_stays : IsBegun bytes → (reply export old core bytes).head_fault ≡ None → reply export old next bytes ≡ reply export old core bytes
-  reply_stays (as_chunk c) clean =
+  short_reply_stays : IsBegun bytes → (short_reply export old core bytes).head_fault ≡ None → short_reply export old next bytes ≡ short_reply export old core bytes
+  short_reply_stays (as_chunk c) clean =
       let is = is_chunk_reply export old core bytes c in
       let f = found_chunk (operation_of old core cookie) (sym (ap (λ (d : Decision). d.head_fault) is) ∙ clean) in
       let o = same_operation f.0 f.1 in
       is_chunk_reply export old next bytes c
       ∙ (λ i. record { head_length = 20; head_fault = chunk_head_fault (a.structured_is i) (o i); payload_length = number_at 16 4 bytes; last_fault = chunk_last_fault (a.profile_is i) export (o i) bytes; message = chunk_of bytes })
       ∙ sym is
-  reply_stays (as_simple c s) clean =
+  short_reply_stays (as_simple c s) clean =
       let is = is_simple_reply export old core bytes c s in
       let f = found_simple (operation_of old core cookie) (number_at 4 4 bytes) (sym (ap (λ (d : Decision). d.head_fault) is) ∙ clean) in
       let o = same_operation f.0 f.1 in
       is_simple_reply export old next bytes c s
       ∙ (λ i. record { head_length = 16; head_fault = simple_fault (a.structured_is i) (o i) (number_at 4 4 bytes); payload_length = simple_payload_length (o i) (number_at 4 4 bytes); last_fault = simple_last_fault export (o i) (number_at 4 4 bytes); message = simple_of bytes })
       ∙ sym is
-  reply_stays (as_neither c s) clean = absurd (let q : Some BadMagic ≡ None = sym (ap (λ (d : Decision). d.head_fault) (is_no_reply export old core bytes c s)) ∙ clean in cc)
+  short_reply_stays (as_neither c s) clean = absurd (let q : Some BadMagic ≡ None = sym (ap (λ (d : Decision). d.head_fault) (is_no_reply export old core bytes c s)) ∙ clean in cc)
 
-no_request : (chunk simple : Bool) (export : Exporting) (core : Core) (o : Option Operation) (bytes : List ℕ) (flags command cookie offset len : ℕ) (payload : List ℕ) →
-    (reply_by chunk simple export core o bytes).message ≡ messages.Request flags command cookie offset len payload → ⊥
-no_request true simple export core o bytes flags command cookie offset len payload e = (cc)
-no_request false true export core o bytes flags command cookie offset len payload e = (cc)
-no_request false false export core o bytes flags command cookie offset len payload e = (cc)
+  long_reply_stays : IsExtendedOrNot bytes → (long_reply export old core bytes).head_fault ≡ None → long_reply export old next bytes ≡ long_reply export old core bytes
+  long_reply_stays (as_extended c) clean =
+      let is = is_extended_reply export old core bytes c in
+      let f = found_extended (operation_of old core cookie) (number_at 24 8 bytes) (sym (ap (λ (d : Decision). d.head_fault) is) ∙ clean) in
+      let o = same_operation f.0 f.1 in
+      is_extended_reply export old next bytes c
+      ∙ (λ i. record { head_length = 32; head_fault = extended_head_fault (a.structured_is i) (o i) (number_at 24 8 bytes); payload_length = number_at 24 8 bytes; last_fault = extended_last_fault (a.profile_is i) export (o i) bytes; message = extended_chunk_of bytes })
+      ∙ sym is
+  long_reply_stays (as_other c) clean = absurd (let q : Some BadMagic ≡ None = sym (ap (λ (d : Decision). d.head_fault) (is_no_extended export old core bytes c)) ∙ clean in cc)
 
-no_answer : (chunk simple : Bool) (export : Exporting) (core : Core) (o : Option Operation) (bytes : List ℕ) (option kind : ℕ) (payload : List ℕ) → (reply_by chunk simple export core o bytes).message ≡ messages.Answer option kind payload → ⊥
-no_answer true simple export core o bytes option kind payload e = (cc)
-no_answer false true export core o bytes option kind payload e = (cc)
-no_answer false false export core o bytes option kind payload e = (cc)
+  reply_stays : (reply export old core bytes).head_fault ≡ None → reply export old next bytes ≡ reply export old core bytes
+  reply_stays clean = ap (λ x. reply_in x export next (operation_of old next cookie) bytes) a.extended_is ∙ go core.extended clean
+    where
+      go : (x : Bool) → (reply_in x export core (operation_of old core cookie) bytes).head_fault ≡ None → reply_in x export next (operation_of old next cookie) bytes ≡ reply_in x export core (operation_of old core cookie) bytes
+      go false clean = short_reply_stays (bytes_are_begun bytes) clean
+      go true clean = long_reply_stays (extended_or_not bytes) clean
+
+-- a reply is a message of its kind
+abbrev is_reply : Message → Bool
+is_reply (messages.Simple error cookie payload) = true
+is_reply (messages.Chunk flags kind cookie payload) = true
+is_reply (messages.ExtendedChunk flags kind cookie offset payload) = true
+is_reply m = false
+
+reply_is : (x : Bool) (export : Exporting) (core : Core) (o : Option Operation) (bytes : List ℕ) → is_reply ((reply_in x export core o bytes).message) ≡ true
+reply_is false export core o bytes = go (begins CHUNK_MAGIC bytes) (begins SIMPLE_MAGIC bytes)
+  where
+    go : (chunk simple : Bool) → is_reply ((reply_by chunk simple export core o bytes).message) ≡ true
+    go true simple = refl
+    go false true = refl
+    go false false = refl
+reply_is true export core o bytes = go (begins EXTENDED_CHUNK_MAGIC bytes)
+  where
+    go : (chunk : Bool) → is_reply ((extended_reply_by chunk export core o bytes).message) ≡ true
+    go true = refl
+    go false = refl
+
+no_request : (x : Bool) (r : RequestHead) (payload : List ℕ) → is_reply (request_with x r payload) ≡ false
+no_request false r payload = refl
+no_request true r payload = refl
 
 -- the fault at a reply's last byte
-last_stays : (core next : Core) (export : Exporting) → IsAppended core next → (x : Expected) (payload : List ℕ) → IsPlaced core x →
-    ((head : RequestHead) → x ≡ expectations.Request head → ⊥) → ((head : AnswerHead) (proper : Option Bool) → x ≡ expectations.Answer head proper → ⊥) →
+last_stays : (core next : Core) (export : Exporting) → IsAppended core next → (x : Expected) (payload : List ℕ) → IsPlaced core x → is_reply (message_of x payload) ≡ true →
     last_fault_by (Transmission export) core x payload ≡ last_fault_by (Transmission export) next x payload
-last_stays core next export a (expectations.Simple head place len) payload l other answer = ap (λ o. simple_last_fault export o head.error) (sym (operation_stays core next a place (placed_within core.entries head.cookie place l)))
-last_stays core next export a (expectations.Chunk head place) payload l other answer = (λ i. chunk_fault_to (sym a.profile_is i) export (sym (operation_stays core next a place (placed_within core.entries head.cookie place l)) i) head.flags head.kind head.cookie payload)
-last_stays core next export a (expectations.Request head) payload l other answer = absurd (other head refl)
-last_stays core next export a (expectations.Greeting flags) payload l other answer = refl
-last_stays core next export a (expectations.ClientFlags flags) payload l other answer = refl
-last_stays core next export a (expectations.Choice head) payload l other answer = refl
-last_stays core next export a (expectations.Answer head proper) payload l other answer = absurd (answer head proper refl)
-last_stays core next export a (expectations.Exported size flags padded) payload l other answer = refl
+last_stays core next export a (expectations.Simple head place len) payload l is = ap (λ o. simple_last_fault export o head.error) (sym (operation_stays core next a place (placed_within core.entries head.cookie place l)))
+last_stays core next export a (expectations.Chunk head place) payload l is = (λ i. chunk_fault_to (sym a.profile_is i) export (sym (operation_stays core next a place (placed_within core.entries head.cookie place l)) i) head payload)
+last_stays core next export a (expectations.Request head) payload l is = absurd (let q : false ≡ true = sym (no_request head.extended head payload) ∙ is in cc)
+last_stays core next export a (expectations.Greeting flags) payload l is = refl
+last_stays core next export a (expectations.ClientFlags flags) payload l is = refl
+last_stays core next export a (expectations.Choice head) payload l is = refl
+last_stays core next export a (expectations.Answer head proper) payload l is = absurd (cc)
+last_stays core next export a (expectations.Exported size flags padded) payload l is = refl
 
 module _ (old core next : Core) (export : Exporting) (before : core.phase ≡ Transmission export) (after : next.phase ≡ Transmission export) (head : List ℕ) (x : Expected) where
   expected_reply : IsAppended core next → IsExpected (decision core.phase old core Server) core head x → IsExpected (decision next.phase old next Server) next head x
@@ -175,24 +262,20 @@ module _ (old core next : Core) (export : Exporting) (before : core.phase ≡ Tr
           let b : List ℕ = head ++ payload in
           let e : reply export old core b ≡ expected_decision core x (length head) payload =
           same_Some _ _ (sym (ap (λ p. decision p old core Server b) before) ∙ known.is payload) in
-          let no : (r : RequestHead) → x ≡ expectations.Request r → ⊥ = λ r q.
-          no_request (begins CHUNK_MAGIC b) (begins SIMPLE_MAGIC b) export core (operation_of old core (number_at 8 8 b)) b r.flags r.command r.cookie r.offset r.length payload
-          (ap (λ (d : Decision). d.message) e ∙ ap (λ y. message_of y payload) q) in
-          let none : (r : AnswerHead) (proper : Option Bool) → x ≡ expectations.Answer r proper → ⊥ = λ r proper q.
-          no_answer (begins CHUNK_MAGIC b) (begins SIMPLE_MAGIC b) export core (operation_of old core (number_at 8 8 b)) b r.option r.kind payload (ap (λ (d : Decision). d.message) e ∙ ap (λ y. message_of y payload) q) in
+          let kind : is_reply (message_of x payload) ≡ true = sym (ap (λ (d : Decision). is_reply d.message) e) ∙ reply_is core.extended export core (operation_of old core (number_at 8 8 b)) b in
           let last : last_fault_by core.phase core x payload ≡ last_fault_by next.phase next x payload =
-          ap (λ p. last_fault_by p core x payload) before ∙ last_stays core next export a x payload known.placed no none ∙ sym (ap (λ p. last_fault_by p next x payload) after) in
+          ap (λ p. last_fault_by p core x payload) before ∙ last_stays core next export a x payload known.placed kind ∙ sym (ap (λ p. last_fault_by p next x payload) after) in
           ap (λ p. decision p old next Server b) after
-          ∙ ap Some (reply_stays export old core next b a (bytes_are_begun b) (ap (λ (d : Decision). d.head_fault) e) ∙ e
+          ∙ ap Some (reply_stays export old core next b a (ap (λ (d : Decision). d.head_fault) e) ∙ e
           ∙ (λ i. record { head_length = length head; head_fault = None; payload_length = payload_length_of x; last_fault = last i; message = message_of x payload }))
 
-  expected_request : next.disconnected ≡ core.disconnected → IsPlaced next x → IsExpected (decision core.phase old core Client) core head x → IsExpected (decision next.phase old next Client) next head x
-  expected_request disconnected placed known = record { filled = known.filled; placed = placed; is = is }
+  expected_request : next.disconnected ≡ core.disconnected → next.extended ≡ core.extended → in_force next ≡ in_force core → IsPlaced next x → IsExpected (decision core.phase old core Client) core head x → IsExpected (decision next.phase old next Client) next head x
+  expected_request disconnected extended contexts placed known = record { filled = known.filled; placed = placed; is = is }
     where
       by : (b : Bool) (payload : List ℕ) → request_unless b core (head ++ payload) ≡ Some (expected_decision core x (length head) payload) → request_unless b next (head ++ payload) ≡ Some (expected_decision next x (length head) payload)
       by true payload e = absurd (cc)
       by false payload e =
-          ap Some (request_stays core next (head ++ payload) payload (length head) x (same_Some _ _ e))
+          ap Some (request_stays core (head ++ payload) payload (length head) x (same_Some _ _ e) next extended contexts)
 
       is : (payload : List ℕ) → decision next.phase old next Client (head ++ payload) ≡ Some (expected_decision next x (length head) payload)
       is payload =
@@ -200,26 +283,15 @@ module _ (old core next : Core) (export : Exporting) (before : core.phase ≡ Tr
           ∙ ap (λ b. request_unless b next (head ++ payload)) disconnected
           ∙ by core.disconnected payload (sym (ap (λ p. decision p old core Client (head ++ payload)) before) ∙ known.is payload)
 
--- a request answers no request
-placed_request : (core next : Core) (bytes payload : List ℕ) (h : ℕ) (x : Expected) → request core bytes ≡ expected_decision core x h payload → IsPlaced next x
-placed_request core next bytes payload h (expectations.Simple head place len) e = absurd (let m : request_of bytes ≡ messages.Simple head.error head.cookie payload = ap (λ (d : Decision). d.message) e in cc)
-placed_request core next bytes payload h (expectations.Chunk head place) e = absurd (let m : request_of bytes ≡ messages.Chunk head.flags head.kind head.cookie payload = ap (λ (d : Decision). d.message) e in cc)
-placed_request core next bytes payload h (expectations.Greeting flags) e = tt
-placed_request core next bytes payload h (expectations.ClientFlags flags) e = tt
-placed_request core next bytes payload h (expectations.Choice head) e = tt
-placed_request core next bytes payload h (expectations.Answer head proper) e = tt
-placed_request core next bytes payload h (expectations.Exported size flags padded) e = tt
-placed_request core next bytes payload h (expectations.Request head) e = tt
-
 by_side : (s : Side) (old core next : Core) (export : Exporting) (head : List ℕ) (x : Expected) → Later s core next → core.phase ≡ Transmission export → next.phase ≡ Transmission export →
     IsExpected (decision core.phase old core s) core head x → IsExpected (decision next.phase old next s) next head x
 by_side Server old core next export head x l before after known = expected_reply old core next export before after head x (Later-appended l export before) known
 by_side Client old core next export head x l before after known =
-    expected_request old core next export before after head x (Later-disconnected l) (go core.disconnected (sym (ap (λ p. decision p old core Client (head ++ [])) before) ∙ known.is [])) known
+    expected_request old core next export before after head x (Later-disconnected l) (Later-extended l export before) (Later-in_force l export before) (go core.disconnected (sym (ap (λ p. decision p old core Client (head ++ [])) before) ∙ known.is [])) known
   where
     go : (b : Bool) → request_unless b core (head ++ []) ≡ Some (expected_decision core x (length head) []) → IsPlaced next x
     go true e = absurd (cc)
-    go false e = placed_request core next (head ++ []) [] (length head) x (same_Some _ _ e)
+    go false e = placed_request core (head ++ []) [] (length head) x (same_Some _ _ e) next
 
 -- what a whole head says stays
 pub expected_stays : {core : Core} {s : Side} {rest : Rest} → Held by_tests core s rest → IsFilled rest.bytes → (next : Core) → Later s core next → (head : List ℕ) (x : Expected) →

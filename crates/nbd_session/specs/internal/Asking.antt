@@ -1,13 +1,17 @@
 -- The program's values as the definitions have them.
-use Rattle.std.specs.Prelude.{ℕ, List, length, Bool, true, false, not, ◌&&◌, ◌||◌, Option, None, ◌==◌, is_some}
+use Rattle.std.specs.Prelude.{ℕ, List, length, Bool, true, false, not, ◌&&◌, ◌||◌, Option, None, Some, ◌==◌, is_some}
+use Rattle.nbd_wire.specs.declared.chunks.TheConstants as chunks
 use Rattle.nbd_wire.specs.declared.commands.TheConstants as commands
 use Rattle.nbd_wire.specs.declared.fault.WireFault.{WireFault}
-use Rattle.nbd_wire.specs.declared.fault.WireFault.TheVariants.{IncompleteRead, IncompleteStatus, SuccessOfImproper}
+use Rattle.nbd_wire.specs.declared.fault.WireFault.TheVariants.{BadReplyOffset, IncompleteRead, IncompleteStatus, SuccessOfImproper}
+use Rattle.nbd_wire.specs.declared.heads.transmission.RequestHead.{RequestHead}
 use Rattle.nbd_wire.specs.protocol.Contexts.{Context, Status}
+use Rattle.nbd_wire.specs.protocol.Sendable.{carries_payload}
 use Rattle.nbd_wire.specs.protocol.States.{Core, in_force}
 use Rattle.nbd_wire.specs.protocol.Statuses.{tells_all}
 use Rattle.nbd_state.specs.declared.asked.Asked.{Asked}
 use Rattle.nbd_wire.specs.protocol.Tests.{fault_if}
+use Rattle.nbd_wire.specs.protocol.Transmission.{is_too_large}
 
 -- a simple reply with this error may not answer it
 abbrev pub is_simple_forbidden : Core → Asked → (error : ℕ) → Bool
@@ -29,3 +33,22 @@ finish_by command len proper false given lacks = fault_if ((command == commands.
 abbrev pub done_by : Bool → Option WireFault → Option WireFault
 done_by true fault = fault
 done_by false fault = None
+
+-- with an extended header: a payload that is too large, or a BLOCK_STATUS where a metadata context is in force
+abbrev pub is_beyond : (contexts : Bool) → RequestHead → Bool
+is_beyond contexts h = h.extended && ((carries_payload h.flags h.command && is_too_large h.length)
+    || (contexts && (h.command == commands.BLOCK_STATUS)))
+
+-- a DISC with an offset or a length
+abbrev pub is_bad_disconnect : RequestHead → Bool
+is_bad_disconnect h = (h.command == commands.DISC) && not ((h.offset == 0) && (h.length == 0))
+
+-- a chunk with such a header and of this type is one of a status
+abbrev pub is_status : (at : Option ℕ) → (kind : ℕ) → Bool
+is_status None kind = kind == chunks.BLOCK_STATUS
+is_status (Some offset) kind = false
+
+-- an extended header has another offset than its request
+abbrev pub elsewhere_fault : (at : Option ℕ) → (offset : ℕ) → Option WireFault
+elsewhere_fault None offset = None
+elsewhere_fault (Some at) offset = fault_if (not (at == offset)) BadReplyOffset None

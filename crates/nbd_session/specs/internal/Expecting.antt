@@ -1,12 +1,12 @@
 -- What is expected of a message whose head has come: which message it is with the bytes after its head, how many those
 -- are, and what its last byte shows to be wrong.
-use Rattle.std.specs.Prelude.{◌≡◌, ◌⊎◌, ◌<◌, ◌≤◌, ◌+◌, ◌==◌, ◌++◌, ℕ, suc, List, Bool, true, false, Option, Some, None, length, if◌then◌else◌, slice_get}
+use Rattle.std.specs.Prelude.{◌≡◌, ◌⊎◌, ◌<◌, ◌≤◌, ◌+◌, ◌==◌, ◌++◌, ℕ, suc, List, Bool, true, false, Option, Some, None, length, if◌then◌else◌, min, slice_get}
 use Rattle.nbd_state.specs.Places.{place_at}
 use Rattle.nbd_wire.specs.declared.chunks.TheConstants as chunks
 use Rattle.nbd_wire.specs.declared.fault.WireFault.{WireFault}
-use Rattle.nbd_wire.specs.declared.fault.WireFault.TheVariants.{BadMagic}
+use Rattle.nbd_wire.specs.declared.fault.WireFault.TheVariants.{BadMagic, OutOfProfile}
 use Rattle.nbd_wire.specs.declared.head_lengths.TheConstants as head_lengths
-use Rattle.nbd_wire.specs.declared.magics.TheConstants.{CHUNK_MAGIC, SIMPLE_MAGIC}
+use Rattle.nbd_wire.specs.declared.magics.TheConstants.{CHUNK_MAGIC, EXTENDED_CHUNK_MAGIC, SIMPLE_MAGIC}
 use Rattle.nbd_wire.specs.declared.message.Message.{Message}
 use Rattle.nbd_wire.specs.declared.message.Message.TheVariants as messages
 use Rattle.nbd_wire.specs.declared.message.Side.{Side}
@@ -18,8 +18,11 @@ use Rattle.nbd_wire.specs.protocol.States as definitions
 use Rattle.nbd_session.specs.internal.Counted.{decision_by_count, operation_counted}
 use Rattle.nbd_wire.specs.protocol.Decisions.{Decision, begins}
 use Rattle.nbd_wire.specs.protocol.Negotiation.{earlier_to, padding_fault, payload_fault}
-use Rattle.nbd_wire.specs.protocol.Transmission.{chunk_fault, chunk_head_fault, cookie_fault, read_as, request_payload_length, simple_fault, simple_last_fault, simple_payload_length}
+use Rattle.nbd_wire.specs.protocol.Tests.{fault_if}
+use Rattle.nbd_wire.specs.protocol.Transmission.{chunk_fault, chunk_head_fault, cookie_fault, extended_payload_length, is_too_large, offset_fault, read_as, request_payload_length, simple_fault, simple_last_fault, simple_payload_length}
 use Rattle.nbd_wire.specs.declared.message.Side.TheVariants.{Client, Server}
+use Rattle.nbd_session.specs.internal.Leading.{request_head_length}
+use Rattle.nbd_state.specs.Heads.{chunk_of, chunk_with}
 use Rattle.nbd_state.specs.Showing.{IsShown}
 use Rattle.nbd_state.specs.declared.state.Phase.{Phase}
 use Rattle.nbd_state.specs.declared.state.Phase.TheVariants as program
@@ -27,8 +30,16 @@ use Rattle.nbd_state.specs.declared.state.State.{State}
 use Rattle.nbd_state.specs.Shows.{Shows}
 use Rattle.nbd_state.specs.declared.asked.Exchange.{Exchange}
 use Rattle.nbd_wire.specs.declared.heads.transmission.ChunkHead.{ChunkHead}
+use Rattle.nbd_wire.specs.declared.heads.transmission.RequestHead.{RequestHead}
 use Rattle.nbd_session.specs.declared.expected.Expected.{Expected}
 use Rattle.nbd_session.specs.declared.expected.Expected.TheVariants.{Greeting, ClientFlags, Choice, Answer, Exported, Request, Simple, Chunk}
+
+-- a request; the length of one without an extended header has 32 bits
+abbrev pub request_with : (extended : Bool) → RequestHead → List ℕ → Message
+request_with false head payload =
+    messages.Request head.flags head.command head.cookie head.offset (min head.length 0xffffffff) payload
+request_with true head payload =
+    messages.ExtendedRequest head.flags head.command head.cookie head.offset head.length payload
 
 -- the message, with the bytes after its head
 abbrev pub message_of : Expected → List ℕ → Message
@@ -37,9 +48,14 @@ message_of (ClientFlags flags) payload = messages.ClientFlags flags
 message_of (Choice head) payload = messages.Choice head.id payload
 message_of (Answer head proper) payload = messages.Answer head.option head.kind payload
 message_of (Exported size flags padded) payload = messages.Exported size flags padded
-message_of (Request head) payload = messages.Request head.flags head.command head.cookie head.offset head.length payload
+message_of (Request head) payload = request_with head.extended head payload
 message_of (Simple head place len) payload = messages.Simple head.error head.cookie payload
-message_of (Chunk head place) payload = messages.Chunk head.flags head.kind head.cookie payload
+message_of (Chunk head place) payload = chunk_of head payload
+
+-- how many bytes come after the head of a request
+abbrev pub request_length : (extended : Bool) → (flags command len : ℕ) → ℕ
+request_length false flags command len = request_payload_length command len
+request_length true flags command len = extended_payload_length flags command len
 
 -- how many bytes come after its head
 abbrev pub payload_length_of : Expected → ℕ
@@ -48,7 +64,7 @@ payload_length_of (ClientFlags flags) = 0
 payload_length_of (Choice head) = head.length
 payload_length_of (Answer head proper) = head.length
 payload_length_of (Exported size flags padded) = if padded then head_lengths.PADDING else 0
-payload_length_of (Request head) = request_payload_length head.command head.length
+payload_length_of (Request head) = request_length head.extended head.flags head.command head.length
 payload_length_of (Simple head place len) = len
 payload_length_of (Chunk head place) = head.length
 
@@ -60,12 +76,30 @@ abbrev pub padding_fault_if : Bool → List ℕ → Option WireFault
 padding_fault_if true payload = padding_fault payload
 padding_fault_if false payload = None
 
-abbrev pub chunk_fault_to : Profile → Exporting → Option Operation → (flags kind cookie : ℕ) → List ℕ
+-- what the last byte of a chunk shows to be wrong, with an extended header at this offset or another one
+abbrev pub chunk_fault_by : (at : Option ℕ) → Profile → Exporting → Operation → (flags kind cookie : ℕ) → List ℕ
     → Option WireFault
-chunk_fault_to profile export None flags kind cookie payload = None
-chunk_fault_to profile export (Some e) flags kind cookie payload =
-    chunk_fault (kind == chunks.NONE) export e
-    (with_reply e (messages.Chunk flags kind cookie payload)) flags (read_as profile kind) payload
+chunk_fault_by None profile export e flags kind cookie payload =
+    chunk_fault false (kind == chunks.NONE) export e
+    (with_reply e (chunk_with None flags kind cookie payload)) flags (read_as profile kind) payload
+chunk_fault_by (Some offset) profile export e flags kind cookie payload =
+    offset_fault
+    (chunk_fault true (kind == chunks.NONE) export e
+    (with_reply e (chunk_with (Some offset) flags kind cookie payload)) flags (read_as profile kind) payload)
+    e offset
+
+abbrev pub chunk_fault_to : Profile → Exporting → Option Operation → ChunkHead → List ℕ → Option WireFault
+chunk_fault_to profile export None h payload = None
+chunk_fault_to profile export (Some e) h payload = chunk_fault_by h.at profile export e h.flags h.kind h.cookie payload
+
+-- a payload behind an extended header that is too large
+abbrev pub is_too_long : (at : Option ℕ) → (len : ℕ) → Bool
+is_too_long None len = false
+is_too_long (Some offset) len = is_too_large len
+
+-- what the head of a chunk shows to be wrong
+abbrev pub head_fault_by : (at : Option ℕ) → (structured : Bool) → Option Operation → (len : ℕ) → Option WireFault
+head_fault_by at structured to len = fault_if (is_too_long at len) OutOfProfile (chunk_head_fault structured to)
 
 -- what its last byte shows to be wrong, where so much has completed
 abbrev pub last_fault_by : definitions.Phase → Core → Expected → List ℕ → Option WireFault
@@ -76,7 +110,7 @@ last_fault_by phase core (Request head) payload = cookie_fault head.command (tar
 last_fault_by (Transmission export) core (Simple head place len) payload =
     simple_last_fault export (operation (place + 1) core.entries) head.error
 last_fault_by (Transmission export) core (Chunk head place) payload =
-    chunk_fault_to core.profile export (operation (place + 1) core.entries) head.flags head.kind head.cookie payload
+    chunk_fault_to core.profile export (operation (place + 1) core.entries) head payload
 last_fault_by phase core expected payload = None
 
 -- the request that a reply answers has this place
@@ -135,32 +169,34 @@ pub record IsSimpleOf (export : Exporting) (core : Core) (to : Option Operation)
 -- what is decided of a chunk with these fields, to the request that it names
 pub record IsChunkOf (export : Exporting) (core : Core) (to : Option Operation) (h : ChunkHead)
     (expected : Expected) : Type 0 where
-  pub no_fault : chunk_head_fault core.structured to ≡ None
+  pub no_fault : head_fault_by h.at core.structured to h.length ≡ None
   pub length_is : payload_length_of expected ≡ h.length
   pub last_is : (payload : List ℕ) → last_fault_by (Transmission export) core expected payload
-      ≡ chunk_fault_to core.profile export to h.flags h.kind h.cookie payload
-  pub message_is : (payload : List ℕ) → message_of expected payload ≡ messages.Chunk h.flags h.kind h.cookie payload
+      ≡ chunk_fault_to core.profile export to h payload
+  pub message_is : (payload : List ℕ) → message_of expected payload ≡ chunk_of h payload
   pub placed : IsPlaced core expected
 
 -- the whole head of a reply, by the number that it begins with
-abbrev pub IsReplyHead : List ℕ → Type 0
-IsReplyHead head = (begins SIMPLE_MAGIC head ≡ true) × (length head ≡ 16)
+abbrev pub IsReplyHead : (extended : Bool) → List ℕ → Type 0
+IsReplyHead false head = (begins SIMPLE_MAGIC head ≡ true) × (length head ≡ 16)
     ⊎ (begins CHUNK_MAGIC head ≡ true) × (length head ≡ 20)
+IsReplyHead true head = (begins EXTENDED_CHUNK_MAGIC head ≡ true) × (length head ≡ 32)
 
 -- the whole head of the message that may come in a phase; none where the side may not send
-abbrev pub whole_head_by : Phase → (disconnected : Bool) → Side → List ℕ → Type 0
-whole_head_by program.Flags disconnected Client head = length head ≡ 4
-whole_head_by program.Choosing disconnected Client head = length head ≡ 16
-whole_head_by (program.Transmission export) disconnected Client head = (disconnected ≡ false) × (length head ≡ 28)
-whole_head_by program.Greet disconnected Server head = length head ≡ 18
-whole_head_by program.Naming disconnected Server head = length head ≡ 10
-whole_head_by program.Aborting disconnected Server head = length head ≡ 20
-whole_head_by (program.Answering chosen) disconnected Server head = length head ≡ 20
-whole_head_by (program.Transmission export) disconnected Server head = IsReplyHead head
-whole_head_by phase disconnected s head = ⊥
+abbrev pub whole_head_by : Phase → (disconnected extended : Bool) → Side → List ℕ → Type 0
+whole_head_by program.Flags disconnected extended Client head = length head ≡ 4
+whole_head_by program.Choosing disconnected extended Client head = length head ≡ 16
+whole_head_by (program.Transmission export) disconnected extended Client head = (disconnected ≡ false)
+    × (length head ≡ request_head_length extended)
+whole_head_by program.Greet disconnected extended Server head = length head ≡ 18
+whole_head_by program.Naming disconnected extended Server head = length head ≡ 10
+whole_head_by program.Aborting disconnected extended Server head = length head ≡ 20
+whole_head_by (program.Answering chosen) disconnected extended Server head = length head ≡ 20
+whole_head_by (program.Transmission export) disconnected extended Server head = IsReplyHead extended head
+whole_head_by phase disconnected extended s head = ⊥
 
 abbrev pub IsWholeHead : State → Side → List ℕ → Type 0
-IsWholeHead state s head = whole_head_by state.phase state.disconnected s head
+IsWholeHead state s head = whole_head_by state.phase state.disconnected state.extended s head
 
 -- the head is whole, and its last byte shows this fault
 pub record IsRefusedHead (counted : ℕ) (core : Core) (s : Side) (head : List ℕ) (fault : WireFault) : Type 0 where
@@ -170,14 +206,16 @@ pub record IsRefusedHead (counted : ℕ) (core : Core) (s : Side) (head : List �
   pub fault_is : decision.head_fault ≡ Some fault
 
 -- a reply's bytes tell this length of its head: 4 before its number has come, and then by the number
-abbrev pub HasReplyLength : List ℕ → ℕ → Type 0
-HasReplyLength head n = (length head < 4) × (n ≡ 4)
+abbrev pub HasReplyLength : (extended : Bool) → List ℕ → ℕ → Type 0
+HasReplyLength false head n = (length head < 4) × (n ≡ 4)
     ⊎ ((begins SIMPLE_MAGIC head ≡ true) × (n ≡ 16) ⊎ (begins CHUNK_MAGIC head ≡ true) × (n ≡ 20))
+HasReplyLength true head n = (length head < 4) × (n ≡ 4) ⊎ (begins EXTENDED_CHUNK_MAGIC head ≡ true) × (n ≡ 32)
 
 -- bytes begin with another number than a reply's
-abbrev pub IsNoReply : List ℕ → WireFault → Type 0
-IsNoReply head fault = (fault ≡ BadMagic) × (4 ≤ length head) × (begins SIMPLE_MAGIC head ≡ false)
+abbrev pub IsNoReply : (extended : Bool) → List ℕ → WireFault → Type 0
+IsNoReply false head fault = (fault ≡ BadMagic) × (4 ≤ length head) × (begins SIMPLE_MAGIC head ≡ false)
     × (begins CHUNK_MAGIC head ≡ false)
+IsNoReply true head fault = (fault ≡ BadMagic) × (4 ≤ length head) × (begins EXTENDED_CHUNK_MAGIC head ≡ false)
 
 -- this is the length of the head that the judge sees in the bytes, and bytes of this length are whole
 pub record HasHeadLength (state : State) (s : Side) (head : List ℕ) (n : ℕ) : Type 0 where

@@ -1,6 +1,6 @@
 -- What a side's bytes state once they are as long as a head.
 use Rattle.std.specs.Prelude.{ℕ, List, Bool, true, false, ◌==◌, ◌&&◌, Option, Some, None, Result, Ok, Err}
-use Rattle.nbd_wire.specs.declared.magics.TheConstants.{GREETING_MAGIC, OPTION_MAGIC, ANSWER_MAGIC, REQUEST_MAGIC, SIMPLE_MAGIC, CHUNK_MAGIC}
+use Rattle.nbd_wire.specs.declared.magics.TheConstants.{GREETING_MAGIC, OPTION_MAGIC, ANSWER_MAGIC, REQUEST_MAGIC, SIMPLE_MAGIC, CHUNK_MAGIC, EXTENDED_REQUEST_MAGIC, EXTENDED_CHUNK_MAGIC}
 use Rattle.nbd_wire.specs.declared.heads.negotiation.ChoiceHead.{ChoiceHead}
 use Rattle.nbd_wire.specs.declared.heads.negotiation.AnswerHead.{AnswerHead}
 use Rattle.nbd_wire.specs.declared.heads.transmission.RequestHead.{RequestHead}
@@ -40,30 +40,65 @@ answer_fields_of bytes = record {
 abbrev pub answer_head_of : List ℕ → Option AnswerHead
 answer_head_of bytes = some_if (number_at 0 8 bytes == ANSWER_MAGIC) (answer_fields_of bytes)
 
--- a request's head (proto.md, "Request message")
-abbrev pub request_head_of : List ℕ → Option RequestHead
-request_head_of bytes =
-    some_if (number_at 0 4 bytes == REQUEST_MAGIC)
-    (record {
-      flags = number_at 4 2 bytes;
-      command = number_at 6 2 bytes;
-      cookie = number_at 8 8 bytes;
-      offset = number_at 16 8 bytes;
-      length = number_at 24 4 bytes;
-    })
+-- the number that a request begins with, how many bytes its length takes, and how many its head (proto.md, "Request
+-- message", "Reserved Magic values")
+abbrev pub request_magic : (extended : Bool) → ℕ
+request_magic false = REQUEST_MAGIC
+request_magic true = EXTENDED_REQUEST_MAGIC
+
+abbrev pub length_width : (extended : Bool) → ℕ
+length_width false = 4
+length_width true = 8
+
+abbrev pub request_head_length : (extended : Bool) → ℕ
+request_head_length false = 28
+request_head_length true = 32
+
+-- the fields of a request's head
+abbrev pub request_fields : (extended : Bool) → List ℕ → RequestHead
+request_fields extended bytes = record {
+  extended = extended;
+  flags = number_at 4 2 bytes;
+  command = number_at 6 2 bytes;
+  cookie = number_at 8 8 bytes;
+  offset = number_at 16 8 bytes;
+  length = number_at 24 (length_width extended) bytes;
+}
+
+abbrev pub request_head_of : (extended : Bool) → List ℕ → Option RequestHead
+request_head_of extended bytes =
+    some_if (number_at 0 4 bytes == request_magic extended) (request_fields extended bytes)
 
 -- a simple reply's head (proto.md, "Simple reply message")
 abbrev pub simple_head_of : List ℕ → Option SimpleHead
 simple_head_of bytes = some_if (number_at 0 4 bytes == SIMPLE_MAGIC)
     (record { error = number_at 4 4 bytes; cookie = number_at 8 8 bytes })
 
--- a chunk's head (proto.md, "Structured reply chunk message")
-abbrev pub chunk_head_of : List ℕ → Option ChunkHead
-chunk_head_of bytes =
-    some_if (number_at 0 4 bytes == CHUNK_MAGIC)
-    (record {
-      flags = number_at 4 2 bytes;
-      kind = number_at 6 2 bytes;
-      cookie = number_at 8 8 bytes;
-      length = number_at 16 4 bytes;
-    })
+-- the fields of a chunk's head (proto.md, "Structured reply chunk message", "Reserved Magic values")
+abbrev pub chunk_fields : (extended : Bool) → List ℕ → ChunkHead
+chunk_fields false bytes = record {
+  at = None;
+  flags = number_at 4 2 bytes;
+  kind = number_at 6 2 bytes;
+  cookie = number_at 8 8 bytes;
+  length = number_at 16 4 bytes;
+}
+chunk_fields true bytes = record {
+  at = Some (number_at 16 8 bytes);
+  flags = number_at 4 2 bytes;
+  kind = number_at 6 2 bytes;
+  cookie = number_at 8 8 bytes;
+  length = number_at 24 8 bytes;
+}
+
+-- the number that a chunk begins with, and how many bytes its head takes
+abbrev pub chunk_magic : (extended : Bool) → ℕ
+chunk_magic false = CHUNK_MAGIC
+chunk_magic true = EXTENDED_CHUNK_MAGIC
+
+abbrev pub chunk_head_length : (extended : Bool) → ℕ
+chunk_head_length false = 20
+chunk_head_length true = 32
+
+abbrev pub chunk_head_of : (extended : Bool) → List ℕ → Option ChunkHead
+chunk_head_of extended bytes = some_if (number_at 0 4 bytes == chunk_magic extended) (chunk_fields extended bytes)

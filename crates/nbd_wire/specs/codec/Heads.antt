@@ -1,11 +1,11 @@
 -- What is a head with these fields: each in its type's range, and the bytes those of the layout.
-use Rattle.std.specs.Prelude.{◌≡◌, ℕ, ◌<◌, ◌^◌, List}
+use Rattle.std.specs.Prelude.{◌≡◌, ℕ, ◌<◌, ◌^◌, List, true, false, Some, None}
 use Rattle.nbd_wire.specs.declared.heads.negotiation.ChoiceHead.{ChoiceHead}
 use Rattle.nbd_wire.specs.declared.heads.negotiation.AnswerHead.{AnswerHead}
 use Rattle.nbd_wire.specs.declared.heads.transmission.RequestHead.{RequestHead}
 use Rattle.nbd_wire.specs.declared.heads.transmission.SimpleHead.{SimpleHead}
 use Rattle.nbd_wire.specs.declared.heads.transmission.ChunkHead.{ChunkHead}
-use Rattle.nbd_wire.specs.protocol.Layouts.{greeting_bytes, client_flags_bytes, choice_bytes, answer_bytes, export_bytes, request_bytes, simple_bytes, chunk_bytes}
+use Rattle.nbd_wire.specs.protocol.Layouts.{greeting_bytes, client_flags_bytes, choice_bytes, answer_bytes, export_bytes, request_bytes, simple_bytes, chunk_bytes, extended_request_bytes, extended_chunk_bytes}
 
 -- a greeting (proto.md, "Newstyle negotiation")
 unfoldable pub IsGreetingHead : ℕ → List ℕ → Type 0
@@ -32,7 +32,7 @@ IsExportHead size flags bytes = (size < 2 ^ 64) × (flags < 2 ^ 16) × (bytes �
 unfoldable pub IsRequestHead : RequestHead → List ℕ → Type 0
 IsRequestHead h bytes =
     (h.flags < 2 ^ 16) × (h.command < 2 ^ 16) × (h.cookie < 2 ^ 64) × (h.offset < 2 ^ 64) × (h.length < 2 ^ 32)
-    × (bytes ≡ request_bytes h.flags h.command h.cookie h.offset h.length)
+    × (bytes ≡ request_bytes h.flags h.command h.cookie h.offset h.length) × (h.extended ≡ false)
 
 -- a simple reply's head (proto.md, "Simple reply message")
 unfoldable pub IsSimpleHead : SimpleHead → List ℕ → Type 0
@@ -42,4 +42,18 @@ IsSimpleHead h bytes = (h.error < 2 ^ 32) × (h.cookie < 2 ^ 64) × (bytes ≡ s
 unfoldable pub IsChunkHead : ChunkHead → List ℕ → Type 0
 IsChunkHead h bytes =
     (h.flags < 2 ^ 16) × (h.kind < 2 ^ 16) × (h.cookie < 2 ^ 64) × (h.length < 2 ^ 32)
-    × (bytes ≡ chunk_bytes h.flags h.kind h.cookie h.length)
+    × (bytes ≡ chunk_bytes h.flags h.kind h.cookie h.length) × (h.at ≡ None)
+
+-- the extended header of a request (its magic number: proto.md, "Reserved Magic values"; the rest: this project's
+-- choice)
+unfoldable pub IsExtendedRequestHead : RequestHead → List ℕ → Type 0
+IsExtendedRequestHead h bytes =
+    (h.flags < 2 ^ 16) × (h.command < 2 ^ 16) × (h.cookie < 2 ^ 64) × (h.offset < 2 ^ 64) × (h.length < 2 ^ 64)
+    × (bytes ≡ extended_request_bytes h.flags h.command h.cookie h.offset h.length) × (h.extended ≡ true)
+
+-- the extended header of a chunk (its magic number: proto.md, "Reserved Magic values"; the rest: this project's choice)
+unfoldable pub IsExtendedChunkHead : ChunkHead → List ℕ → Type 0
+IsExtendedChunkHead h bytes =
+    (offset : ℕ) × (h.flags < 2 ^ 16) × (h.kind < 2 ^ 16) × (h.cookie < 2 ^ 64) × (offset < 2 ^ 64)
+    × (h.length < 2 ^ 64) × (bytes ≡ extended_chunk_bytes h.flags h.kind h.cookie offset h.length)
+    × (h.at ≡ Some offset)

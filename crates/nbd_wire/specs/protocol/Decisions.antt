@@ -4,18 +4,18 @@ use Rattle.std.specs.Prelude.{ℕ, List, Bool, true, false, Option, Some, None, 
 use Rattle.nbd_wire.specs.declared.chunks.TheConstants as chunks
 use Rattle.nbd_wire.specs.declared.fault.WireFault.{WireFault}
 use Rattle.nbd_wire.specs.declared.fault.WireFault.TheVariants.{BadMagic}
-use Rattle.nbd_wire.specs.declared.magics.TheConstants.{GREETING_MAGIC, OPTION_MAGIC, ANSWER_MAGIC, REQUEST_MAGIC, SIMPLE_MAGIC, CHUNK_MAGIC}
+use Rattle.nbd_wire.specs.declared.magics.TheConstants.{GREETING_MAGIC, OPTION_MAGIC, ANSWER_MAGIC, REQUEST_MAGIC, SIMPLE_MAGIC, CHUNK_MAGIC, EXTENDED_REQUEST_MAGIC, EXTENDED_CHUNK_MAGIC}
 use Rattle.nbd_wire.specs.declared.message.Message.{Message}
-use Rattle.nbd_wire.specs.declared.message.Message.TheVariants.{Greeting, ClientFlags, Choice, Answer, Exported, Request, Simple, Chunk}
+use Rattle.nbd_wire.specs.declared.message.Message.TheVariants.{Greeting, ClientFlags, Choice, Answer, Exported, Request, Simple, Chunk, ExtendedRequest, ExtendedChunk}
 use Rattle.nbd_wire.specs.declared.options.TheConstants as options
 use Rattle.nbd_wire.specs.declared.profile.Profile.{Profile}
 use Rattle.nbd_wire.specs.protocol.Contexts.{Selection}
 use Rattle.nbd_wire.specs.protocol.Negotiation.{abort_fault, answer_fault, answer_head_fault, answer_last_fault, client_flags_fault, export_fault, greeting_fault, padding_fault}
 use Rattle.nbd_wire.specs.protocol.Operations.{Exporting, Operation}
 use Rattle.nbd_wire.specs.protocol.Payloads.{number_at}
-use Rattle.nbd_wire.specs.protocol.States.{Core, target, operation, with_reply}
+use Rattle.nbd_wire.specs.protocol.States.{Core, has_contexts, target, operation, with_reply}
 use Rattle.nbd_wire.specs.protocol.Tests.{◌when◌else◌}
-use Rattle.nbd_wire.specs.protocol.Transmission.{chunk_fault, chunk_head_fault, cookie_fault, read_as, request_fault, request_payload_length, simple_fault, simple_last_fault, simple_payload_length}
+use Rattle.nbd_wire.specs.protocol.Transmission.{chunk_fault, chunk_head_fault, cookie_fault, extended_head_fault, extended_payload_length, extended_request_fault, offset_fault, read_as, request_fault, request_payload_length, simple_fault, simple_last_fault, simple_payload_length}
 
 -- the length of the head, what is refused at its last byte, how many bytes follow it, what is refused at the last byte
 -- of all, and the message
@@ -117,8 +117,8 @@ request_of bytes = Request (number_at 4 2 bytes) (number_at 6 2 bytes) (number_a
     (number_at 24 4 bytes) (drop 28 bytes)
 
 -- the same, and what is decided of it
-abbrev pub request : Core → List ℕ → Decision
-request now bytes = record {
+abbrev pub short_request : Core → List ℕ → Decision
+short_request now bytes = record {
   head_length = 28;
   head_fault = magic_fault (number_at 0 4 bytes == REQUEST_MAGIC)
       (request_fault (number_at 6 2 bytes) (number_at 16 8 bytes) (number_at 24 4 bytes));
@@ -126,6 +126,36 @@ request now bytes = record {
   last_fault = cookie_fault (number_at 6 2 bytes) (target (number_at 8 8 bytes) now.entries);
   message = request_of bytes;
 }
+
+-- a request with an extended header
+abbrev pub extended_request_of : List ℕ → Message
+extended_request_of bytes = ExtendedRequest (number_at 4 2 bytes) (number_at 6 2 bytes) (number_at 8 8 bytes)
+    (number_at 16 8 bytes) (number_at 24 8 bytes) (drop 32 bytes)
+
+-- the same, and what is decided of it, by whether a metadata context is in force
+abbrev pub extended_request_with : (contexts : Bool) → Core → List ℕ → Decision
+extended_request_with contexts now bytes = record {
+  head_length = 32;
+  head_fault = magic_fault (number_at 0 4 bytes == EXTENDED_REQUEST_MAGIC)
+      (extended_request_fault contexts (number_at 4 2 bytes) (number_at 6 2 bytes) (number_at 16 8 bytes)
+      (number_at 24 8 bytes));
+  payload_length = extended_payload_length (number_at 4 2 bytes) (number_at 6 2 bytes) (number_at 24 8 bytes);
+  last_fault = cookie_fault (number_at 6 2 bytes) (target (number_at 8 8 bytes) now.entries);
+  message = extended_request_of bytes;
+}
+
+-- where the session stands
+abbrev pub extended_request : Core → List ℕ → Decision
+extended_request now bytes = extended_request_with (has_contexts now) now bytes
+
+-- a request, by whether extended headers are in force
+abbrev pub request_by : (extended : Bool) → Core → List ℕ → Decision
+request_by false now bytes = short_request now bytes
+request_by true now bytes = extended_request now bytes
+
+-- a request where the session stands
+abbrev pub request : Core → List ℕ → Decision
+request now bytes = request_by now.extended now bytes
 
 -- request k, if there is a number
 abbrev pub operation_if : Option ℕ → List Operation → Option Operation
@@ -158,8 +188,8 @@ chunk_of bytes = Chunk (number_at 4 2 bytes) (number_at 6 2 bytes) (number_at 8 
 abbrev pub chunk_last_fault : Profile → Exporting → Option Operation → List ℕ → Option WireFault
 chunk_last_fault profile export None bytes = None
 chunk_last_fault profile export (Some e) bytes =
-    chunk_fault (number_at 6 2 bytes == chunks.NONE) export e (with_reply e (chunk_of bytes)) (number_at 4 2 bytes)
-    (read_as profile (number_at 6 2 bytes)) (drop 20 bytes)
+    chunk_fault false (number_at 6 2 bytes == chunks.NONE) export e (with_reply e (chunk_of bytes))
+    (number_at 4 2 bytes) (read_as profile (number_at 6 2 bytes)) (drop 20 bytes)
 
 -- a chunk to this request, if there is one
 abbrev pub chunk_to : Exporting → Core → Option Operation → List ℕ → Decision
@@ -169,6 +199,30 @@ chunk_to export now to bytes = record {
   payload_length = number_at 16 4 bytes;
   last_fault = chunk_last_fault now.profile export to bytes;
   message = chunk_of bytes;
+}
+
+-- a chunk with an extended header
+abbrev pub extended_chunk_of : List ℕ → Message
+extended_chunk_of bytes = ExtendedChunk (number_at 4 2 bytes) (number_at 6 2 bytes) (number_at 8 8 bytes)
+    (number_at 16 8 bytes) (drop 32 bytes)
+
+-- what is refused at its last byte
+abbrev pub extended_last_fault : Profile → Exporting → Option Operation → List ℕ → Option WireFault
+extended_last_fault profile export None bytes = None
+extended_last_fault profile export (Some e) bytes =
+    offset_fault
+    (chunk_fault true (number_at 6 2 bytes == chunks.NONE) export e (with_reply e (extended_chunk_of bytes))
+    (number_at 4 2 bytes) (read_as profile (number_at 6 2 bytes)) (drop 32 bytes))
+    e (number_at 16 8 bytes)
+
+-- a chunk with an extended header to this request, if there is one
+abbrev pub extended_chunk_to : Exporting → Core → Option Operation → List ℕ → Decision
+extended_chunk_to export now to bytes = record {
+  head_length = 32;
+  head_fault = extended_head_fault now.structured to (number_at 24 8 bytes);
+  payload_length = number_at 24 8 bytes;
+  last_fault = extended_last_fault now.profile export to bytes;
+  message = extended_chunk_of bytes;
 }
 
 -- bytes that begin neither: too few, or another magic number
@@ -191,10 +245,19 @@ reply_by true is_simple export now to bytes = chunk_to export now to bytes
 reply_by false true export now to bytes = simple_to export now to bytes
 reply_by false false export now to bytes = no_reply bytes
 
+-- where extended headers are in force, by whether it begins with the magic number of such a chunk
+abbrev pub extended_reply_by : (is_chunk : Bool) → Exporting → Core → Option Operation → List ℕ → Decision
+extended_reply_by true export now to bytes = extended_chunk_to export now to bytes
+extended_reply_by false export now to bytes = no_reply bytes
+
+-- a reply, by whether extended headers are in force
+abbrev pub reply_in : (extended : Bool) → Exporting → Core → Option Operation → List ℕ → Decision
+reply_in false export now to bytes = reply_by (begins CHUNK_MAGIC bytes) (begins SIMPLE_MAGIC bytes) export now to bytes
+reply_in true export now to bytes = extended_reply_by (begins EXTENDED_CHUNK_MAGIC bytes) export now to bytes
+
 -- a reply; `to` finds the request that a cookie names
 abbrev pub reply_with : Exporting → (to : ℕ → Option Operation) → (now : Core) → List ℕ → Decision
-reply_with export to now bytes = reply_by (begins CHUNK_MAGIC bytes) (begins SIMPLE_MAGIC bytes) export now
-    (to (number_at 8 8 bytes)) bytes
+reply_with export to now bytes = reply_in now.extended export now (to (number_at 8 8 bytes)) bytes
 
 -- a reply, by what had completed before its first byte
 abbrev pub reply : Exporting → (old now : Core) → List ℕ → Decision

@@ -1,7 +1,7 @@
 -- The heads of messages, from the numbers in them to their bytes. Numbers are big-endian.
 use Rattle.std.specs.Prelude.{ℕ, List, ◌++◌}
 use Rattle.byteorder.specs.Endian.{big_bytes}
-use Rattle.nbd_wire.specs.declared.magics.TheConstants.{GREETING_MAGIC, OPTION_MAGIC, ANSWER_MAGIC, REQUEST_MAGIC, SIMPLE_MAGIC, CHUNK_MAGIC}
+use Rattle.nbd_wire.specs.declared.magics.TheConstants.{GREETING_MAGIC, OPTION_MAGIC, ANSWER_MAGIC, REQUEST_MAGIC, SIMPLE_MAGIC, CHUNK_MAGIC, EXTENDED_REQUEST_MAGIC, EXTENDED_CHUNK_MAGIC}
 
 -- the server's greeting (proto.md, "Newstyle negotiation")
 abbrev pub greeting_bytes : ℕ → List ℕ
@@ -37,3 +37,16 @@ simple_bytes error cookie = big_bytes 4 SIMPLE_MAGIC ++ big_bytes 4 error ++ big
 abbrev pub chunk_bytes : ℕ → ℕ → ℕ → ℕ → List ℕ
 chunk_bytes flags kind cookie len = big_bytes 4 CHUNK_MAGIC ++ big_bytes 2 flags ++ big_bytes 2 kind
     ++ big_bytes 8 cookie ++ big_bytes 4 len
+
+-- a request with an extended header (its magic number: proto.md, "Reserved Magic values"; its
+-- layout is that which libnbd and qemu have)
+abbrev pub extended_request_bytes : ℕ → ℕ → ℕ → ℕ → ℕ → List ℕ
+extended_request_bytes flags command cookie offset len =
+    big_bytes 4 EXTENDED_REQUEST_MAGIC ++ big_bytes 2 flags ++ big_bytes 2 command ++ big_bytes 8 cookie
+    ++ big_bytes 8 offset ++ big_bytes 8 len
+
+-- a chunk with an extended header and a payload of this length (likewise)
+abbrev pub extended_chunk_bytes : ℕ → ℕ → ℕ → ℕ → ℕ → List ℕ
+extended_chunk_bytes flags kind cookie offset len =
+    big_bytes 4 EXTENDED_CHUNK_MAGIC ++ big_bytes 2 flags ++ big_bytes 2 kind ++ big_bytes 8 cookie
+    ++ big_bytes 8 offset ++ big_bytes 8 len

@@ -87,6 +87,10 @@ abort_fault kind len =
 abbrev pub is_on_contexts : ℕ → Bool
 is_on_contexts option = (option == options.LIST_META_CONTEXT) || (option == options.SET_META_CONTEXT)
 
+-- the profile Wide alone follows the option: it is on metadata contexts, or EXTENDED_HEADERS
+abbrev pub extends : ℕ → Bool
+extends option = is_on_contexts option || (option == options.EXTENDED_HEADERS)
+
 -- the profile is Wide
 abbrev pub is_wide : Profile → Bool
 is_wide Base = false
@@ -96,7 +100,7 @@ is_wide Wide = true
 abbrev pub is_followed : Profile → ℕ → Bool
 is_followed profile option = (option == options.LIST)
     || ((option == options.INFO) || ((option == options.GO) || ((option == options.STRUCTURED_REPLY)
-    || (is_wide profile && is_on_contexts option))))
+    || (is_wide profile && extends option))))
 
 -- a kind of success that an option takes; `takes` is whether it takes contexts
 abbrev pub answers_option : (option : ℕ) (takes : Bool) (kind : ℕ) → Bool

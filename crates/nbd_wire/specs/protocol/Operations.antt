@@ -3,7 +3,7 @@ use Rattle.std.specs.Prelude.{ℕ, List, [], ◌∷◌, ◌++◌, ◌+◌, Bool,
 use Rattle.nbd_wire.specs.declared.message.Message.{Message}
 use Rattle.nbd_wire.specs.declared.profile.Profile.{Profile}
 use Rattle.nbd_wire.specs.declared.profile.Profile.TheVariants.{Base, Wide}
-use Rattle.nbd_wire.specs.declared.message.Message.TheVariants.{Simple, Chunk}
+use Rattle.nbd_wire.specs.declared.message.Message.TheVariants.{Simple, Chunk, ExtendedChunk}
 use Rattle.nbd_wire.specs.declared.payloads.Piece.{Piece}
 use Rattle.nbd_wire.specs.declared.chunks.TheConstants as chunks
 use Rattle.nbd_wire.specs.declared.command_flags.TheConstants as command_flags
@@ -20,9 +20,10 @@ pub record Exporting : Type 0 where
   pub size : ℕ
   pub flags : ℕ
 
--- a numbered request, the metadata contexts that were in force for it, the block sizes that the client had to keep, if
--- any, and the messages that completed in answer to it, in order
+-- a numbered request: whether it has an extended header, its fields, the metadata contexts that were in force for it,
+-- the block sizes that the client had to keep, if any, and the messages that completed in answer to it, in order
 pub record Operation : Type 0 where
+  pub extended : Bool
   pub flags : ℕ
   pub command : ℕ
   pub cookie : ℕ
@@ -41,12 +42,14 @@ is_error_chunk kind = nat_le chunks.FIRST_ERROR kind
 unfoldable pub ends_reply : Message → Bool
 ends_reply (Simple error cookie payload) = true
 ends_reply (Chunk flags kind cookie payload) = has flags chunks.DONE
+ends_reply (ExtendedChunk flags kind cookie at payload) = has flags chunks.DONE
 ends_reply _ = false
 
 -- the message states that the request failed
 unfoldable pub is_failing : Message → Bool
 is_failing (Simple error cookie payload) = not (error == 0)
 is_failing (Chunk flags kind cookie payload) = is_error_chunk kind
+is_failing (ExtendedChunk flags kind cookie at payload) = is_error_chunk kind
 is_failing _ = false
 
 -- one of the messages has the property
@@ -124,10 +127,12 @@ is_offered export command =
 abbrev pub mask_if : Bool → ℕ → ℕ
 mask_if b mask = if b then mask else 0
 
--- the flags that a request of this type may carry (proto.md, "Command flags")
-abbrev pub allowed_flags : ℕ → ℕ → ℕ
-allowed_flags export command =
-    mask_if (has export transmission.SEND_FUA) command_flags.FUA
+-- the flags that a request of this type may carry (proto.md, "Command flags"); PAYLOAD_LEN is one of a WRITE with an
+-- extended header (this project's choice)
+abbrev pub allowed_flags : (extended : Bool) (export command : ℕ) → ℕ
+allowed_flags extended export command =
+    mask_if (extended && (command == commands.WRITE)) command_flags.PAYLOAD_LEN
+    + mask_if (has export transmission.SEND_FUA) command_flags.FUA
     + mask_if (command == commands.WRITE_ZEROES) command_flags.NO_HOLE
     + mask_if ((command == commands.READ) && has export transmission.SEND_DF) command_flags.DF
     + mask_if ((command == commands.WRITE_ZEROES) && has export transmission.SEND_FAST_ZERO) command_flags.FAST_ZERO
@@ -142,7 +147,7 @@ is_proper export e =
     && (not (has_range e.command) || nat_le (e.offset + e.length) export.size)
     && is_offered export.flags e.command
     && (not (is_change e.command) || not (has export.flags transmission.READ_ONLY))
-    && has_only e.flags (allowed_flags export.flags e.command)
+    && has_only e.flags (allowed_flags e.extended export.flags e.command)
     && (not (e.command == commands.FLUSH) || ((e.offset == 0) && (e.length == 0)))
 
 -- a request of a known type with a range that breaks the block sizes (proto.md, "Size constraints"; that no other

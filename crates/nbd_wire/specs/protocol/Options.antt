@@ -20,11 +20,13 @@ abbrev pub is_error : ℕ → Bool
 is_error kind = has kind answers.ERROR
 
 -- the data of an option has its form; EXPORT_NAME and ABORT take any data; an option that is not listed here is not
--- followed and counts as malformed (proto.md, "Option types"; not following it is this project's choice)
+-- followed and counts as malformed (proto.md, "Option types"; not following it, and that EXTENDED_HEADERS has no data,
+-- is this project's choice)
 unfoldable pub is_proper_option : ℕ → List ℕ → Bool
 is_proper_option option payload =
     if (option == options.EXPORT_NAME) || (option == options.ABORT) then true
-    else if (option == options.LIST) || (option == options.STRUCTURED_REPLY) then length payload == 0
+    else if (option == options.LIST) || ((option == options.STRUCTURED_REPLY) || (option == options.EXTENDED_HEADERS))
+    then length payload == 0
     else if (option == options.INFO) || (option == options.GO) then is_go payload
     else if (option == options.LIST_META_CONTEXT) || (option == options.SET_META_CONTEXT) then is_some
     (queries_of payload)

@@ -1,7 +1,7 @@
 -- What a READ was answered, in pieces, and what they give at an offset (proto.md, "Structured reply types").
 use Rattle.std.specs.Prelude.{ℕ, List, [], ◌∷◌, ◌≡◌, ◌+◌, ◌-◌, Bool, ◌&&◌, nat_le, nat_lt, if◌then◌else◌, Option, Some, None, length, IsTrue, slice_index}
 use Rattle.nbd_wire.specs.declared.message.Message.{Message}
-use Rattle.nbd_wire.specs.declared.message.Message.TheVariants.{Simple, Chunk}
+use Rattle.nbd_wire.specs.declared.message.Message.TheVariants.{Simple, Chunk, ExtendedChunk}
 use Rattle.nbd_wire.specs.declared.payloads.Piece.{Piece}
 use Rattle.nbd_wire.specs.declared.payloads.Piece.TheVariants.{Bytes, Hole}
 use Rattle.nbd_wire.specs.protocol.Payloads.{content_of}
@@ -20,6 +20,7 @@ chunk_piece None = []
 unfoldable pub piece_of : ℕ → Message → List Piece
 piece_of offset (Simple error cookie payload) = simple_piece offset payload
 piece_of offset (Chunk flags kind cookie payload) = chunk_piece (content_of kind payload)
+piece_of offset (ExtendedChunk flags kind cookie at payload) = chunk_piece (content_of kind payload)
 piece_of offset _ = []
 
 -- where a piece begins, in bytes from the start of the export

@@ -3,7 +3,7 @@ use Rattle.std.specs.Prelude.{ℕ, List, [], ◌∷◌, ◌++◌, ◌≡◌, ◌
 use Rattle.nbd_wire.specs.declared.message.Side.{Side}
 use Rattle.nbd_wire.specs.declared.message.Side.TheVariants.{Client, Server}
 use Rattle.nbd_wire.specs.declared.message.Message.{Message}
-use Rattle.nbd_wire.specs.declared.message.Message.TheVariants.{Greeting, ClientFlags, Choice, Answer, Exported, Request, Simple, Chunk}
+use Rattle.nbd_wire.specs.declared.message.Message.TheVariants.{Greeting, ClientFlags, Choice, Answer, Exported, Request, Simple, Chunk, ExtendedRequest, ExtendedChunk}
 use Rattle.nbd_wire.specs.declared.answers.TheConstants as answers
 use Rattle.nbd_wire.specs.declared.commands.TheConstants as commands
 use Rattle.nbd_wire.specs.declared.handshake.TheConstants as handshake
@@ -14,19 +14,20 @@ use Rattle.nbd_wire.specs.protocol.Entries.{IsServedAt, MayServe, inside_of}
 use Rattle.nbd_wire.specs.protocol.Sizes.{sizes_for, sizes_kept, sizing_after, sizing_at}
 use Rattle.nbd_wire.specs.protocol.Options.{agrees, is_proper_option, takes_contexts, next_phase, selection_after, selection_at, turn}
 use Rattle.nbd_wire.specs.protocol.Negotiation.{abort_fault, answer_fault, answer_head_fault, answer_last_fault, client_flags_fault, export_fault, greeting_fault}
-use Rattle.nbd_wire.specs.protocol.Transmission.{simple_length, chunk_fault, chunk_head_fault, cookie_fault, read_as, request_fault, simple_fault, simple_last_fault}
+use Rattle.nbd_wire.specs.protocol.Transmission.{simple_length, chunk_fault, chunk_head_fault, cookie_fault, read_as, request_fault, simple_fault, simple_last_fault, extended_request_fault}
 use Rattle.nbd_wire.specs.declared.chunks.TheConstants as chunks
 use Rattle.nbd_wire.specs.protocol.Operations.{Operation, Exporting, ends_reply, proper_on, is_chunked}
 use Rattle.nbd_wire.specs.protocol.Pieces.{byte_at, piece_of, piece_offset, piece_size}
 use Rattle.nbd_wire.specs.protocol.Flags.{has}
 use Rattle.nbd_wire.specs.protocol.Sendable.{IsSendable}
 use Rattle.nbd_wire.specs.protocol.Sides.{side}
-use Rattle.nbd_wire.specs.protocol.States.{Core, Phase, Shown, State, Greet, Flags, Choosing, Naming, Aborting, Answering, Transmission, export_in, in_force, with_reply, with_reply_at, operation, start_of, target}
+use Rattle.nbd_wire.specs.protocol.States.{Core, Phase, Shown, State, Greet, Flags, Choosing, Naming, Aborting, Answering, Transmission, export_in, in_force, with_reply, with_reply_at, operation, start_of, target, has_contexts}
 
 -- the cookie that a reply repeats
 abbrev pub cookie_of : Message → Option ℕ
 cookie_of (Simple error cookie payload) = Some cookie
 cookie_of (Chunk flags kind cookie payload) = Some cookie
+cookie_of (ExtendedChunk flags kind cookie offset payload) = Some cookie
 cookie_of _ = None
 
 -- the request of a cookie, if there is a cookie
@@ -41,14 +42,23 @@ request_of_reply core m = target_of (cookie_of m) core.entries
 -- the message is a request
 abbrev pub is_request : Message → Bool
 is_request (Request _ _ _ _ _ _) = true
+is_request (ExtendedRequest _ _ _ _ _ _) = true
 is_request _ = false
+
+-- the message has an extended header
+abbrev pub is_extended : Message → Bool
+is_extended (ExtendedRequest _ _ _ _ _ _) = true
+is_extended (ExtendedChunk _ _ _ _ _) = true
+is_extended _ = false
 
 -- what a message's first byte needs: in negotiation the side's turn, in transmission of the client a request and no
 -- DISC before, of the server an outstanding request that it answers (proto.md, "Fixed newstyle negotiation",
--- "Transmission")
+-- "Transmission"), and of both an extended header where these are in force, and nowhere else (this project's choice)
 unfoldable pub MayStartIn : Phase → Core → Side → Message → Type 0
-MayStartIn (Transmission export) core Client m = IsTrue (is_request m) × (core.disconnected ≡ false)
-MayStartIn (Transmission export) core Server m = IsTrue (is_some (request_of_reply core m))
+MayStartIn (Transmission export) core Client m =
+    IsTrue (is_request m) × (core.disconnected ≡ false) × (is_extended m ≡ core.extended)
+MayStartIn (Transmission export) core Server m =
+    IsTrue (is_some (request_of_reply core m)) × (is_extended m ≡ core.extended)
 MayStartIn phase core s m = turn phase ≡ Some s
 
 -- the same, in the phase where the session stands
@@ -62,8 +72,13 @@ MayReply profile structured export e (Simple error cookie payload) =
     × (simple_last_fault export (Some e) error ≡ None)
 MayReply profile structured export e (Chunk flags kind cookie payload) =
     (chunk_head_fault structured (Some e) ≡ None)
-    × (chunk_fault (kind == chunks.NONE) export e (with_reply e (Chunk flags kind cookie payload)) flags
+    × (chunk_fault false (kind == chunks.NONE) export e (with_reply e (Chunk flags kind cookie payload)) flags
     (read_as profile kind) payload ≡ None)
+MayReply profile structured export e (ExtendedChunk flags kind cookie offset payload) =
+    (chunk_head_fault structured (Some e) ≡ None)
+    × (chunk_fault true (kind == chunks.NONE) export e (with_reply e (ExtendedChunk flags kind cookie offset payload))
+    flags (read_as profile kind) payload ≡ None)
+    × (offset ≡ e.offset)
 MayReply profile structured export e _ = ⊥
 
 -- a reply answers the outstanding request with its cookie
@@ -87,10 +102,16 @@ MayComplete core (Answering asked given info) (Answer option kind payload) =
     × (answer_last_fault core.profile asked (is_proper_option asked given) core.selection kind payload ≡ None)
 MayComplete core (Transmission export) (Request flags command cookie offset len payload) =
     (request_fault command offset len ≡ None) × (cookie_fault command (target cookie core.entries) ≡ None)
+    × (core.extended ≡ false)
 MayComplete core (Transmission export) (Simple error cookie payload) =
     AnswersOne core export cookie (Simple error cookie payload)
 MayComplete core (Transmission export) (Chunk flags kind cookie payload) =
     AnswersOne core export cookie (Chunk flags kind cookie payload)
+MayComplete core (Transmission export) (ExtendedRequest flags command cookie offset len payload) =
+    (extended_request_fault (has_contexts core) flags command offset len ≡ None)
+    × (cookie_fault command (target cookie core.entries) ≡ None) × (core.extended ≡ true)
+MayComplete core (Transmission export) (ExtendedChunk flags kind cookie offset payload) =
+    AnswersOne core export cookie (ExtendedChunk flags kind cookie offset payload)
 MayComplete _ _ _ = ⊥
 
 -- the message gives the READ that it answers a byte of x
@@ -130,9 +151,34 @@ abbrev pub core_with_request : (is_disc : Bool) → Core → Operation → Core
 core_with_request true core e = record core { disconnected = true }
 core_with_request false core e = record core { entries = core.entries ++ e ∷ [] }
 
--- the ACK to STRUCTURED_REPLY puts structured replies in force (proto.md, "Option types")
+-- the ACK to STRUCTURED_REPLY puts structured replies in force (proto.md, "Option types"), and so does that to
+-- EXTENDED_HEADERS (this project's choice)
 abbrev pub grants_structured : (option kind : ℕ) → Bool
-grants_structured option kind = (option == options.STRUCTURED_REPLY) && (kind == answers.ACK)
+grants_structured option kind =
+    ((option == options.STRUCTURED_REPLY) || (option == options.EXTENDED_HEADERS)) && (kind == answers.ACK)
+
+-- the ACK to EXTENDED_HEADERS puts extended headers in force (this project's choice: proto.md has its number alone)
+abbrev pub grants_extended : (option kind : ℕ) → Bool
+grants_extended option kind = (option == options.EXTENDED_HEADERS) && (kind == answers.ACK)
+
+-- a request with these fields, as it is asked where the session stands
+abbrev pub operation_asked : (extended : Bool) → Core → (flags command cookie offset len : ℕ) → List ℕ → Operation
+operation_asked extended core flags command cookie offset len payload = record {
+  extended = extended;
+  flags = flags;
+  command = command;
+  cookie = cookie;
+  offset = offset;
+  length = len;
+  payload = payload;
+  contexts = in_force core;
+  sizes = sizes_for core.structured command (sizes_kept core.sizing);
+  replies = [];
+}
+
+-- the payload that a WRITE writes; that of any other request is not looked at
+abbrev pub written : (command : ℕ) → List ℕ → List ℕ
+written command payload = if command == commands.WRITE then payload else []
 
 -- what a completed message leads to
 unfoldable pub complete : Core → Message → Core
@@ -152,25 +198,21 @@ complete core (Answer option kind payload) =
       phase = next_phase core.phase (Answer option kind payload);
       structured = core.structured
           || grants_structured option kind;
+      extended = core.extended || grants_extended option kind;
       selection = selection_after core.phase kind payload core.selection;
       sizing = sizing_after kind payload core.sizing;
     }
 complete core (Exported size flags padded) = record core { phase = next_phase core.phase (Exported size flags padded) }
 complete core (Request flags command cookie offset len payload) =
     core_with_request (command == commands.DISC) core
-    (record {
-      flags = flags;
-      command = command;
-      cookie = cookie;
-      offset = offset;
-      length = len;
-      payload = payload;
-      contexts = in_force core;
-      sizes = sizes_for core.structured command (sizes_kept core.sizing);
-      replies = [];
-    })
+    (operation_asked false core flags command cookie offset len payload)
 complete core (Simple error cookie payload) = core_with_reply core (Simple error cookie payload)
 complete core (Chunk flags kind cookie payload) = core_with_reply core (Chunk flags kind cookie payload)
+complete core (ExtendedRequest flags command cookie offset len payload) =
+    core_with_request (command == commands.DISC) core
+    (operation_asked true core flags command cookie offset len (written command payload))
+complete core (ExtendedChunk flags kind cookie offset payload) =
+    core_with_reply core (ExtendedChunk flags kind cookie offset payload)
 
 -- the offsets inside a request on an export, if there is one
 abbrev pub inside_operation : Option Exporting → Option Operation → ℕ → Bool

@@ -3,13 +3,14 @@ use Rattle.std.specs.Prelude.{Bool, true, false}
 use Rattle.nbd_wire.specs.declared.message.Side.{Side}
 use Rattle.nbd_wire.specs.declared.message.Side.TheVariants.{Client, Server}
 use Rattle.nbd_wire.specs.declared.message.Message.{Message}
-use Rattle.nbd_wire.specs.declared.message.Message.TheVariants.{ClientFlags, Choice, Request}
+use Rattle.nbd_wire.specs.declared.message.Message.TheVariants.{ClientFlags, Choice, Request, ExtendedRequest}
 
 -- who sends the message (proto.md, "Newstyle negotiation", "Transmission")
 abbrev pub side : Message → Side
 side (ClientFlags _) = Client
 side (Choice _ _) = Client
 side (Request _ _ _ _ _ _) = Client
+side (ExtendedRequest _ _ _ _ _ _) = Client
 side _ = Server
 
 -- the two are one side

@@ -1,5 +1,5 @@
 -- What the completed messages of a session have led to.
-use Rattle.std.specs.Prelude.{ℕ, zero, suc, List, [], ◌∷◌, ◌++◌, ◌==◌, ◌&&◌, not, Bool, false, if◌then◌else◌, Option, Some, None}
+use Rattle.std.specs.Prelude.{ℕ, zero, suc, List, [], ◌∷◌, ◌++◌, ◌==◌, ◌&&◌, not, Bool, false, if◌then◌else◌, Option, Some, None, length}
 use Rattle.nbd_wire.specs.declared.message.Message.{Message}
 use Rattle.nbd_wire.specs.declared.entry.Entry.{Entry}
 use Rattle.nbd_wire.specs.declared.profile.Profile.{Profile}
@@ -35,16 +35,17 @@ pub data Phase : Type 0 where
   Transmission : (export : Exporting) → Phase
 
 -- the profile that the session is held to, the phase, the server's handshake flags, the client's flags, whether
--- structured replies are in force, what the last SET_META_CONTEXT selected, whether the option that was chosen last
--- brings these contexts in force if it leads into transmission, what it asked of block sizes and was told, whether a
--- DISC has completed, and the numbered requests; of each what the messages of its reply before the last one showed, and
--- how many requests there were when the last one had come
+-- structured replies are in force, whether extended headers are, what the last SET_META_CONTEXT selected, whether the
+-- option that was chosen last brings these contexts in force if it leads into transmission, what it asked of block
+-- sizes and was told, whether a DISC has completed, and the numbered requests; of each what the messages of its reply
+-- before the last one showed, and how many requests there were when the last one had come
 pub record Core : Type 0 where
   pub profile : Profile
   pub phase : Phase
   pub offered : ℕ
   pub client_flags : ℕ
   pub structured : Bool
+  pub extended : Bool
   pub selection : Selection
   pub brings_contexts : Bool
   pub sizing : Sizing
@@ -67,6 +68,7 @@ start_of profile = record {
     offered = 0;
     client_flags = 0;
     structured = false;
+    extended = false;
     selection = no_selection;
     brings_contexts = false;
     sizing = no_sizing;
@@ -85,6 +87,10 @@ start = start_of Base
 -- in transmission, the metadata contexts in force (proto.md, "Metadata querying")
 abbrev pub in_force : Core → List Context
 in_force core = if core.brings_contexts then core.selection.contexts else []
+
+-- one is in force
+abbrev pub has_contexts : Core → Bool
+has_contexts core = not (length (in_force core) == 0)
 
 -- the export of a phase: in transmission, the one that was entered
 abbrev pub export_in : Phase → Option Exporting

@@ -1,5 +1,5 @@
 -- What is refused of a message of transmission, in lists of tests (`Tests`), each with its section of proto.md.
-use Rattle.std.specs.Prelude.{ℕ, List, [], ◌∷◌, ◌+◌, if◌then◌else◌, Option, Some, None, Bool, true, false, not, ◌&&◌, ◌||◌, ◌==◌, nat_le, length, is_some}
+use Rattle.std.specs.Prelude.{ℕ, List, [], ◌∷◌, ◌+◌, if◌then◌else◌, Option, Some, None, Bool, true, false, not, ◌&&◌, ◌||◌, ◌==◌, nat_le, nat_lt, length, is_some}
 use Rattle.nbd_wire.specs.declared.chunks.TheConstants as chunks
 use Rattle.nbd_wire.specs.declared.command_flags.TheConstants as command_flags
 use Rattle.nbd_wire.specs.declared.commands.TheConstants as commands
@@ -7,12 +7,14 @@ use Rattle.nbd_wire.specs.declared.message.Message.{Message}
 use Rattle.nbd_wire.specs.declared.payloads.Failure.{Failure}
 use Rattle.nbd_wire.specs.declared.payloads.Piece.{Piece}
 use Rattle.nbd_wire.specs.declared.fault.WireFault.{WireFault}
-use Rattle.nbd_wire.specs.declared.fault.WireFault.TheVariants.{CookieInUse, UnknownCookie, SimpleForbidden, ChunkForbidden, BadChunk, BadContent, IncompleteRead, SuccessOfImproper, BadDisconnect, IncompleteStatus}
+use Rattle.nbd_wire.specs.declared.fault.WireFault.TheVariants.{CookieInUse, UnknownCookie, SimpleForbidden, ChunkForbidden, BadChunk, BadContent, IncompleteRead, SuccessOfImproper, BadDisconnect, IncompleteStatus, OutOfProfile, BadReplyOffset}
 use Rattle.nbd_wire.specs.protocol.Payloads.{content_of, failure_of, status_of}
 use Rattle.nbd_wire.specs.declared.profile.Profile.{Profile}
 use Rattle.nbd_wire.specs.declared.profile.Profile.TheVariants.{Base, Wide}
 use Rattle.nbd_wire.specs.protocol.Operations.{Exporting, Operation, asks_status, has_failed, is_error_chunk, is_proper, pieces}
 use Rattle.nbd_wire.specs.protocol.Flags.{has}
+use Rattle.nbd_wire.specs.protocol.Sendable.{carries_payload}
+use Rattle.nbd_wire.specs.declared.limits.TheConstants.{LONGEST_PAYLOAD}
 use Rattle.nbd_wire.specs.protocol.Pieces.{is_in, piece_offset, piece_size}
 use Rattle.nbd_wire.specs.protocol.Contexts.{Context, Extent, Status, has_id, reach}
 use Rattle.nbd_wire.specs.protocol.Statuses.{but_last, statuses, tells, tells_all}
@@ -36,6 +38,23 @@ cookie_fault command outstanding =
     -- choice)
     CookieInUse when not (command == commands.DISC) && is_some outstanding else
     None
+
+-- a payload behind an extended header that is longer than 2^32 - 1 bytes (this project's choice)
+abbrev pub is_too_large : (len : ℕ) → Bool
+is_too_large len = nat_lt LONGEST_PAYLOAD len
+
+-- a request with an extended header, at its head; `has_contexts` is whether a metadata context is in force
+abbrev pub extended_request_fault : (has_contexts : Bool) (flags command offset len : ℕ) → Option WireFault
+extended_request_fault has_contexts flags command offset len =
+    -- a payload that is too large, or a BLOCK_STATUS where a context is in force (this project's choice)
+    OutOfProfile when (carries_payload flags command && is_too_large len)
+    || (has_contexts && (command == commands.BLOCK_STATUS)) else
+    -- a DISC with an offset or a length ("Request types")
+    request_fault command offset len
+
+-- how many bytes follow the extended header of a request
+abbrev pub extended_payload_length : (flags command len : ℕ) → ℕ
+extended_payload_length flags command len = if carries_payload flags command then len else 0
 
 -- no reply message has come
 abbrev pub is_none_yet : List Message → Bool
@@ -78,6 +97,21 @@ chunk_head_fault structured to =
     UnknownCookie when not (is_some to) else
     -- structured replies are not in force ("Structured reply chunk message")
     ChunkForbidden when not structured else
+    None
+
+-- at the extended header of a chunk
+abbrev pub extended_head_fault : (structured : Bool) → Option Operation → (len : ℕ) → Option WireFault
+extended_head_fault structured to len =
+    -- a payload that is too large (this project's choice)
+    OutOfProfile when is_too_large len else
+    chunk_head_fault structured to
+
+-- at the last byte of a chunk with an extended header, behind what else is refused of it
+abbrev pub offset_fault : (earlier : Option WireFault) → Operation → (offset : ℕ) → Option WireFault
+offset_fault (Some fault) e offset = Some fault
+offset_fault None e offset =
+    -- another offset than its request's (this project's choice, read from libnbd and qemu)
+    BadReplyOffset when not (offset == e.offset) else
     None
 
 -- the pieces stand side by side
@@ -137,9 +171,11 @@ abbrev pub read_as : Profile → (kind : ℕ) → ℕ
 read_as Base kind = kind
 read_as Wide kind = if is_error_chunk kind && not (kind == chunks.ERROR_OFFSET) then chunks.ERROR else kind
 
--- what a chunk says of status, where these contexts are in force
-abbrev pub status_if : List Context → (kind : ℕ) → List ℕ → Option Status
-status_if contexts kind payload =
+-- what a chunk says of status, where these contexts are in force; with an extended header nothing (this project's
+-- choice)
+abbrev pub status_if : (extended : Bool) → List Context → (kind : ℕ) → List ℕ → Option Status
+status_if true contexts kind payload = None
+status_if false contexts kind payload =
     if (kind == chunks.BLOCK_STATUS) && not (length contexts == 0) then status_of payload else None
 
 -- content that does not fit its request ("Structured reply types", "Command flags"); `next` is what the end of its
@@ -195,12 +231,13 @@ abbrev pub done_fault : (done : Bool) → Exporting → Operation → Option Wir
 done_fault false export e = None
 done_fault true export e = finish_fault export e (has_failed e) (pieces e)
 
--- at the last byte of a chunk to request e that is read as one of this type; e is `with_chunk` after it
-abbrev pub chunk_fault : (is_none : Bool) → Exporting → (e with_chunk : Operation) → (flags kind : ℕ) → List ℕ
-    → Option WireFault
-chunk_fault true export e with_chunk flags kind payload =
+-- at the last byte of a chunk to request e that is read as one of this type, with an extended header or not; e is
+-- `with_chunk` after it
+abbrev pub chunk_fault : (extended is_none : Bool) → Exporting → (e with_chunk : Operation) → (flags kind : ℕ)
+    → List ℕ → Option WireFault
+chunk_fault extended true export e with_chunk flags kind payload =
     none_fault (not (length payload == 0)) (has flags chunks.DONE)
     (done_fault (has flags chunks.DONE) export with_chunk)
-chunk_fault false export e with_chunk flags kind payload =
-    content_fault export e (content_of kind payload) (failure_of kind payload) (status_if e.contexts kind payload)
-    (done_fault (has flags chunks.DONE) export with_chunk)
+chunk_fault extended false export e with_chunk flags kind payload =
+    content_fault export e (content_of kind payload) (failure_of kind payload)
+    (status_if extended e.contexts kind payload) (done_fault (has flags chunks.DONE) export with_chunk)

@@ -1,15 +1,19 @@
 //! The heads of transmission (proto.md, "Transmission").
 
-ghost use Rattle.nbd_wire.specs.codec.Heads.{IsChunkHead, IsRequestHead, IsSimpleHead};
+ghost use Rattle.nbd_wire.specs.codec.Heads.{IsChunkHead, IsExtendedChunkHead, IsExtendedRequestHead, IsRequestHead, IsSimpleHead};
 ghost use Rattle.nbd_wire.specs.codec.Reads.{Reads};
 
 use crate::head_lengths;
-use crate::magics::{CHUNK_MAGIC, REQUEST_MAGIC, SIMPLE_MAGIC};
+use crate::magics::{
+    CHUNK_MAGIC, EXTENDED_CHUNK_MAGIC, EXTENDED_REQUEST_MAGIC, REQUEST_MAGIC, SIMPLE_MAGIC,
+};
 use crate::numbers::{u16_at, u32_at, u64_at};
 
-/// The head of a request (proto.md, "Request message").
+/// The head of a request, with an extended header or not (proto.md, "Request message", "Reserved Magic values").
 #[derive(Clone, Copy, PartialEq, Eq, Drop)]
 pub struct RequestHead {
+    /// It is an extended header.
+    pub extended: bool,
     /// Masks of the module `command_flags`.
     pub flags: u16,
     /// The request's type, as in the module `commands`.
@@ -18,8 +22,8 @@ pub struct RequestHead {
     pub cookie: u64,
     /// Where in the export the range begins, in bytes.
     pub offset: u64,
-    /// The length of the range, in bytes; as many bytes follow a WRITE's head.
-    pub length: u32,
+    /// The length of the range, in bytes; as many bytes follow a WRITE's head, and an extended one with PAYLOAD_LEN.
+    pub length: u64,
 }
 
 /// The head of a simple reply (proto.md, "Simple reply message").
@@ -31,9 +35,12 @@ pub struct SimpleHead {
     pub cookie: u64,
 }
 
-/// The head of a chunk of a structured reply (proto.md, "Structured reply chunk message").
+/// The head of a chunk of a structured reply, with an extended header or not (proto.md, "Structured reply chunk message", "Reserved
+/// Magic values").
 #[derive(Clone, Copy, PartialEq, Eq, Drop)]
 pub struct ChunkHead {
+    /// In an extended header the offset of the request that is answered; None in another one.
+    pub at: Option<u64>,
     /// Masks of the module `chunks`.
     pub flags: u16,
     /// The chunk's type, as in the module `chunks`.
@@ -41,7 +48,7 @@ pub struct ChunkHead {
     /// The cookie of the request that is answered.
     pub cookie: u64,
     /// How many bytes of payload follow.
-    pub length: u32,
+    pub length: u64,
 }
 
 /// The head of a request, 28 bytes.
@@ -52,11 +59,29 @@ pub fn request_head(bytes: &[u8]) -> Option<RequestHead>
         return None;
     }
     Some(RequestHead {
+        extended: false,
         flags: u16_at(bytes, 4),
         command: u16_at(bytes, 6),
         cookie: u64_at(bytes, 8),
         offset: u64_at(bytes, 16),
-        length: u32_at(bytes, 24),
+        length: u64::from(u32_at(bytes, 24)),
+    })
+}
+
+/// The extended header of a request, 32 bytes.
+pub fn extended_request_head(bytes: &[u8]) -> Option<RequestHead>
+    ensures { Reads result (λ head. IsExtendedRequestHead head bytes.now) }
+{
+    if bytes.len() != head_lengths::EXTENDED_REQUEST || u32_at(bytes, 0) != EXTENDED_REQUEST_MAGIC {
+        return None;
+    }
+    Some(RequestHead {
+        extended: true,
+        flags: u16_at(bytes, 4),
+        command: u16_at(bytes, 6),
+        cookie: u64_at(bytes, 8),
+        offset: u64_at(bytes, 16),
+        length: u64_at(bytes, 24),
     })
 }
 
@@ -81,9 +106,26 @@ pub fn chunk_head(bytes: &[u8]) -> Option<ChunkHead>
         return None;
     }
     Some(ChunkHead {
+        at: None,
         flags: u16_at(bytes, 4),
         kind: u16_at(bytes, 6),
         cookie: u64_at(bytes, 8),
-        length: u32_at(bytes, 16),
+        length: u64::from(u32_at(bytes, 16)),
+    })
+}
+
+/// The extended header of a chunk, 32 bytes.
+pub fn extended_chunk_head(bytes: &[u8]) -> Option<ChunkHead>
+    ensures { Reads result (λ head. IsExtendedChunkHead head bytes.now) }
+{
+    if bytes.len() != head_lengths::EXTENDED_CHUNK || u32_at(bytes, 0) != EXTENDED_CHUNK_MAGIC {
+        return None;
+    }
+    Some(ChunkHead {
+        at: Some(u64_at(bytes, 16)),
+        flags: u16_at(bytes, 4),
+        kind: u16_at(bytes, 6),
+        cookie: u64_at(bytes, 8),
+        length: u64_at(bytes, 24),
     })
 }

@@ -1,12 +1,13 @@
-use Rattle.std.proofs.Common.{refl, sym, ◌∙◌}
+use Rattle.std.proofs.Common.{refl, sym, ◌∙◌, ap}
 use Rattle.nbd_wire.specs.declared.handshake.TheConstants as handshake
 use Rattle.nbd_wire.specs.declared.message.Side.TheVariants.{Server}
 use Rattle.nbd_wire.specs.protocol.Flags.{has}
 use Rattle.nbd_wire.specs.protocol.States as definitions
 use Rattle.nbd_session.specs.internal.Counted.{operation_counted}
 use Rattle.nbd_wire.specs.protocol.Decisions.{abort_answer, export_answer, greeting, reply_with}
+use Rattle.nbd_wire.specs.protocol.Reading.{decision_with, reading_by_decision}
 use Rattle.nbd_session.proofs.expecting.PhaseLemmas.{aborting_of, answering_of, decided_in, exported_head, greet_of, head_in, naming_of, transmission_of}
-use Rattle.nbd_session.proofs.expecting.ReplyLemmas.{if_ok, reply_begins, reply_whole}
+use Rattle.nbd_session.proofs.expecting.ReplyLemmas.{if_err, if_ok, no_reply_bad, reply_begins, reply_whole}
 use Rattle.nbd_session.proofs.deciding.server_head_length.Goals as goal
 
 pub returns-in-Greet-clause-known : goal.returns-in-Greet-clause-known
@@ -33,4 +34,10 @@ returns-in-Transmission-clause-known c = if_ok c.reply_head_length.result _ _ c.
     (λ n has. head_in c.args.state.now Server c.args.head.now n _ c.in-Transmission.is
     (λ core counted s. let t = transmission_of core.phase _ (sym c.in-Transmission.is ∙ s.phase_is) in
     let d = decided_in counted core Server c.args.head.now (definitions.Transmission t.0) (reply_with t.0 (operation_counted counted core) core c.args.head.now) t.1 refl in
-    (d.0, d.1, d.2 ∙ reply_begins t.0 core counted c.args.head.now n has)) (reply_whole c.args.head.now n has))
+    (d.0, d.1, d.2 ∙ reply_begins t.0 core counted c.args.head.now c.args.state.now.extended (sym s.extended_is) n has)) (reply_whole c.args.state.now.extended c.args.head.now n has))
+
+pub returns-in-Transmission-clause-refused : goal.returns-in-Transmission-clause-refused
+returns-in-Transmission-clause-refused c = if_err c.reply_head_length.result _ _ c.reply_head_length.ensures.refused
+    (λ fault o core counted s. let t = transmission_of core.phase _ (sym c.in-Transmission.is ∙ s.phase_is) in
+    ap (λ p. reading_by_decision (decision_with p (operation_counted counted core) core Server c.args.head.now) c.args.head.now) t.1
+    ∙ no_reply_bad t.0 core counted c.args.head.now c.args.state.now.extended (sym s.extended_is) fault o)

@@ -14,5 +14,5 @@ pub returns-in-Chunk : goal.returns-in-Chunk
 returns-in-Chunk c = λ core s.
     let l = subst (λ (x : Expected). StandsIn c.args.state.now x) c.in-Chunk.is c.requires in
     chunk_end c.args.state.now core c.in-Chunk.place s l.0 c.index-exchange.result.now c.index-exchange.ensures c.in-Chunk.head l.1 c.args.payload.now c.chunk_fault.result
-    (λ export e contexts h u. c.chunk_fault.ensures core export e c.in-Chunk.head.cookie s contexts h u)
+    (λ export e contexts h u. c.chunk_fault.ensures core export e s contexts h u)
     ∙ ap (λ (x : Expected). last_fault_by core.phase core x c.args.payload.now) (sym c.in-Chunk.is)

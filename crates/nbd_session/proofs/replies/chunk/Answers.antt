@@ -1,7 +1,7 @@
 use Rattle.std.proofs.Common.{sym, ◌∙◌}
-use Rattle.nbd_session.proofs.expecting.ReplyLemmas.{chunk_of}
+use Rattle.nbd_session.proofs.expecting.ReplyLemmas.{chunk_is}
 use Rattle.nbd_session.proofs.replies.chunk.Goals as goal
 
 pub returns-clause-expected : goal.returns-clause-expected
 returns-clause-expected c = λ core export s p.
-    chunk_of export core c.args.counted c.in-Some.place c.args.state.now.exchanges.items c.args.head (c.in-Some.ensures core export s p) (sym s.structured_is ∙ c.if-not-state.false)
+    chunk_is export core c.args.counted c.in-Some.place c.args.state.now.exchanges.items c.args.head (sym c.is_too_long.ensures ∙ c.if-is_too_long.false) (c.in-Some.ensures core export s p) (sym s.structured_is ∙ c.if-not-state.false)

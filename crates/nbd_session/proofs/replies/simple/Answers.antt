@@ -1,6 +1,6 @@
 use Rattle.std.proofs.Common.{◌≡◌, sym, ◌∙◌, ap, slice_get, Some}
 use Rattle.std.specs.Option.{option_copied}
-use Rattle.nbd_session.proofs.expecting.ReplyLemmas.{forbidden_of, simple_of}
+use Rattle.nbd_session.proofs.expecting.ReplyLemmas.{forbidden_of, simple_is}
 use Rattle.nbd_session.proofs.parsing.ShownOperationLemmas.{copied_at}
 use Rattle.nbd_session.proofs.replies.simple.Goals as goal
 
@@ -9,7 +9,7 @@ returns-clause-expected c = λ core export s p.
     let place = c.in-Some.place in
     let stands : slice_get c.args.state.now.exchanges.items place ≡ Some c.in-Some-get.exchange.now =
     ap (λ xs. slice_get xs place) (sym c.deref.ensures.value) ∙ sym (copied_at c.deref.result.now place c.get.result c.get.ensures.lookup) ∙ ap option_copied c.in-Some-get.is in
-    simple_of export core c.args.counted place c.args.state.now.exchanges.items c.in-Some-get.exchange.now stands s.asked_with c.args.head c.simple_length-length.result (c.in-Some.ensures core export s p)
+    simple_is export core c.args.counted place c.args.state.now.exchanges.items c.in-Some-get.exchange.now stands s.asked_with c.args.head c.simple_length-length.result (c.in-Some.ensures core export s p)
     (sym (c.is_simple_forbidden.ensures core s) ∙ c.if-is_simple_forbidden.false) c.simple_length-length.ensures
 
 pub returns-then-is_simple_forbidden-clause-refused : goal.returns-then-is_simple_forbidden-clause-refused

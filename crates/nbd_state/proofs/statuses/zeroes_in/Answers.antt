@@ -31,8 +31,8 @@ loop-extent-preserved c = (
       let xs = extents_of c.in-Some.later.now in
       let left = c.loop-extent.left in
       let whole = c.args.length in
-      let size : c.min-size.result ≡ min c.in-Some.extent.length left = c.min-size.ensures in
-      let at : c.saturating_add-at.result ≡ c.args.offset + (whole - left) = omega (arith, c.saturating_add-at.ensures, c.from.ensures, fits, l) in
+      let size : c.min-size.result ≡ min c.in-Some.extent.length left = c.min-size.ensures ∙ ap (λ n. min n left) c.from.ensures in
+      let at : c.saturating_add-at.result ≡ c.args.offset + (whole - left) = omega (arith, c.saturating_add-at.ensures, fits, l) in
       let found = c.loop-extent.pieces.items in
       (λ i. (c.in_ok-push_zero.ensures ∙ (λ j. found ++ zero_part (at j) (size j) c.in-Some.extent.flags)) i
       ++ zeroes_in (c.args.offset + (whole - (left - size i))) (left - size i) xs)

@@ -1,4 +1,5 @@
 use Rattle.std.proofs.Common.{refl, rules, []}
+use Rattle.nbd_state.specs.internal.Showing.{carried}
 use Rattle.nbd_state.proofs.asked.Exchange.new.Goals as goal
 
 pub returns : goal.returns
@@ -9,8 +10,8 @@ returns c = λ contexts h. record {
   offset = refl;
   length = refl;
   payload = search rules;
-  proper = c.is_proper.ensures c.args.payload.now contexts c.args.sizes [] h;
-  outside = c.is_outside.ensures c.args.payload.now contexts [] h;
+  proper = c.is_proper.ensures (carried c.args.head.now c.args.payload.now) contexts c.args.sizes [] h;
+  outside = c.is_outside.ensures (carried c.args.head.now c.args.payload.now) contexts [] h;
   replied = refl;
   outcome_is = search rules;
   failed = search rules;

@@ -1,11 +1,12 @@
-use Rattle.std.proofs.Common.{ap, refl, subst}
+use Rattle.std.proofs.Common.{◌==◌, ap, false, refl, subst}
+use Rattle.nbd_wire.specs.declared.commands.TheConstants as commands
 use Rattle.nbd_laws.specs.Allowed.{MayAsk}
-use Rattle.nbd_wire.specs.declared.message.Message.TheVariants.{Chunk, Request, Simple}
-use Rattle.nbd_wire.specs.protocol.Rules.{MayComplete, complete, cookie_of, core_with_reply}
+use Rattle.nbd_wire.specs.declared.message.Message.TheVariants.{Chunk, ExtendedChunk, ExtendedRequest, Request, Simple}
+use Rattle.nbd_wire.specs.protocol.Rules.{MayComplete, complete, cookie_of, core_with_reply, core_with_request, operation_asked}
 use Rattle.nbd_state.specs.Completions.{MayTake}
 use Rattle.nbd_state.specs.Shows.{Shows}
 use Rattle.nbd_state.proofs.CompletionLemmas.{on}
-use Rattle.nbd_state.proofs.PhaseLemmas.{answered_chunk, answered_simple, asked_in, chunk_in, shows_exported, shows_flags, shows_greeted, shows_same, simple_in, transmits}
+use Rattle.nbd_state.proofs.PhaseLemmas.{answered_chunk, answered_extended, answered_simple, asked_in, chunk_in, extended_asked_in, extended_chunk_in, extended_transmits, shows_exported, shows_flags, shows_greeted, shows_same, simple_in, transmits}
 use Rattle.nbd_state.proofs.TellingLemmas.{known_added, known_kept, known_told}
 use Rattle.nbd_state.proofs.state.State.complete.Goals as goal
 
@@ -67,19 +68,45 @@ chunk-requires c =
     let place = c.requires.place c.in-Chunk.cookie (ap cookie_of c.in-Chunk.is) in
     record { place = place; within = answered_chunk c.args.self.now c.in-Chunk.flags c.in-Chunk.kind c.in-Chunk.cookie c.in-Chunk.payload c.args.place (subst (MayTake c.args.self.now) c.in-Chunk.is c.requires.may) place }
 
+pub request-requires-in-ExtendedRequest : goal.request-requires-in-ExtendedRequest
+request-requires-in-ExtendedRequest c =
+    let q = c.in-ExtendedRequest in
+    extended_transmits c.args.self.now q.flags q.command q.cookie q.offset q.length q.payload (subst (MayTake c.args.self.now) q.is c.requires.may)
+
+pub chunk-requires-in-ExtendedChunk-clause-within : goal.chunk-requires-in-ExtendedChunk-clause-within
+chunk-requires-in-ExtendedChunk-clause-within c =
+    let q = c.in-ExtendedChunk in
+    answered_extended c.args.self.now q.flags q.kind q.cookie q.offset q.payload c.args.place (subst (MayTake c.args.self.now) q.is c.requires.may)
+    (c.requires.place q.cookie (ap cookie_of q.is))
+
 pub returns-in-Request-clause-shown : goal.returns-in-Request-clause-shown
 unfolding complete
 returns-in-Request-clause-shown c = on c.request.result (λ f core r s sn ok.
     let may : MayComplete core core.phase (Request c.in-Request.flags c.in-Request.command c.in-Request.cookie c.in-Request.offset c.in-Request.length c.in-Request.payload) = subst (λ m. MayComplete core core.phase m) c.in-Request.is ok in
     let a = asked_in core core.phase c.in-Request.flags c.in-Request.command c.in-Request.cookie c.in-Request.offset c.in-Request.length c.in-Request.payload may in
     shows_same core c.args.message.now (Request c.in-Request.flags c.in-Request.command c.in-Request.cookie c.in-Request.offset c.in-Request.length c.in-Request.payload) c.in-Request.is
-    (f core a.0 s a.1 (λ d. subst (λ b. MayAsk b core c.in-Request.cookie c.in-Request.offset c.in-Request.length) d a.2)))
+    (subst (λ l. Shows c.request.new.self (core_with_request (c.in-Request.command == commands.DISC) core (operation_asked false core c.in-Request.flags c.in-Request.command c.in-Request.cookie c.in-Request.offset l c.in-Request.payload))) c.from.ensures
+    (f core a.0 s a.1 (λ d. subst (λ b. MayAsk b core c.in-Request.cookie c.in-Request.offset c.in-Request.length) d a.2))))
     c.request.ensures.shown
 
 pub returns-in-Request-clause-known : goal.returns-in-Request-clause-known
 returns-in-Request-clause-known c = on c.request.result (λ f core profile log r s ok e h.
     known_added core profile log c.args.message.now c.args.known e c.args.self.now c.request.new.self.exchanges.items s (ap cookie_of c.in-Request.is) f h)
     c.request.ensures.adds
+
+pub returns-in-ExtendedRequest-clause-shown : goal.returns-in-ExtendedRequest-clause-shown
+unfolding complete
+returns-in-ExtendedRequest-clause-shown c = on c.request-in-ExtendedRequest.result (λ f core r s sn ok.
+    let q = c.in-ExtendedRequest in
+    let a = extended_asked_in core core.phase q.flags q.command q.cookie q.offset q.length q.payload (subst (λ m. MayComplete core core.phase m) q.is ok) in
+    shows_same core c.args.message.now (ExtendedRequest q.flags q.command q.cookie q.offset q.length q.payload) q.is
+    (f core a.0 s a.1 (λ d. subst (λ b. MayAsk b core q.cookie q.offset q.length) d a.2)))
+    c.request-in-ExtendedRequest.ensures.shown
+
+pub returns-in-ExtendedRequest-clause-known : goal.returns-in-ExtendedRequest-clause-known
+returns-in-ExtendedRequest-clause-known c = on c.request-in-ExtendedRequest.result (λ f core profile log r s ok e h.
+    known_added core profile log c.args.message.now c.args.known e c.args.self.now c.request-in-ExtendedRequest.new.self.exchanges.items s (ap cookie_of c.in-ExtendedRequest.is) f h)
+    c.request-in-ExtendedRequest.ensures.adds
 
 pub returns-in-Simple-clause-shown : goal.returns-in-Simple-clause-shown
 unfolding complete
@@ -99,10 +126,24 @@ unfolding complete
 returns-in-Chunk-clause-shown c = on c.chunk.result (λ f core r s sn ok.
     let a = chunk_in core core.phase c.in-Chunk.flags c.in-Chunk.kind c.in-Chunk.cookie c.in-Chunk.payload (subst (λ m. MayComplete core core.phase m) c.in-Chunk.is ok) in
     shows_same core c.args.message.now (Chunk c.in-Chunk.flags c.in-Chunk.kind c.in-Chunk.cookie c.in-Chunk.payload) c.in-Chunk.is
-    (subst (λ p. Shows c.chunk.new.self (core_with_reply core (Chunk c.in-Chunk.flags c.in-Chunk.kind c.in-Chunk.cookie p))) c.as_slice.ensures (f core a.0 r s a.1)))
+    (f core a.0 r s a.1))
     c.chunk.ensures.shown
 
 pub returns-in-Chunk-clause-known : goal.returns-in-Chunk-clause-known
 returns-in-Chunk-clause-known c = on c.chunk.result (λ f core profile log r s ok e h.
     known_told core profile log c.args.message.now c.args.known e c.args.self.now c.in-Chunk.cookie c.chunk.new.self.exchanges.items s (ap cookie_of c.in-Chunk.is) f h)
     c.chunk.ensures.tells
+
+pub returns-in-ExtendedChunk-clause-shown : goal.returns-in-ExtendedChunk-clause-shown
+unfolding complete
+returns-in-ExtendedChunk-clause-shown c = on c.chunk-in-ExtendedChunk.result (λ f core r s sn ok.
+    let q = c.in-ExtendedChunk in
+    let a = extended_chunk_in core core.phase q.flags q.kind q.cookie q.offset q.payload (subst (λ m. MayComplete core core.phase m) q.is ok) in
+    shows_same core c.args.message.now (ExtendedChunk q.flags q.kind q.cookie q.offset q.payload) q.is
+    (f core a.0 r s a.1))
+    c.chunk-in-ExtendedChunk.ensures.shown
+
+pub returns-in-ExtendedChunk-clause-known : goal.returns-in-ExtendedChunk-clause-known
+returns-in-ExtendedChunk-clause-known c = on c.chunk-in-ExtendedChunk.result (λ f core profile log r s ok e h.
+    known_told core profile log c.args.message.now c.args.known e c.args.self.now c.in-ExtendedChunk.cookie c.chunk-in-ExtendedChunk.new.self.exchanges.items s (ap cookie_of c.in-ExtendedChunk.is) f h)
+    c.chunk-in-ExtendedChunk.ensures.tells

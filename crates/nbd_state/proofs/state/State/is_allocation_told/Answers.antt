@@ -4,8 +4,7 @@ use Rattle.nbd_state.specs.internal.Completing.{is_allocation_told}
 use Rattle.nbd_state.proofs.state.State.is_allocation_told.Goals as goal
 
 pub returns-in-Some : goal.returns-in-Some
-returns-in-Some c = λ core flags cookie s.
-    c.is_allocation.ensures core s ∙ ap (is_allocation_told (in_force core)) (sym (c.in-Some.ensures flags cookie).1)
+returns-in-Some c = λ core s. c.is_allocation.ensures core s ∙ ap (is_allocation_told (in_force core)) (sym c.in-Some.ensures.1)
 
 pub returns-in-None : goal.returns-in-None
-returns-in-None c = λ core flags cookie s. ap (is_allocation_told (in_force core)) (sym (c.in-None.ensures flags cookie))
+returns-in-None c = λ core s. ap (is_allocation_told (in_force core)) (sym c.in-None.ensures)

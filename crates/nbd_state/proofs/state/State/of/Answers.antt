@@ -10,6 +10,7 @@ returns c = record {
   offered_is = refl;
   client_flags_are = refl;
   structured_is = refl;
+  extended_is = refl;
   selection_is = c.none.ensures;
   brings_contexts_is = refl;
   sizing_is = c.none-2.ensures;

@@ -16,4 +16,4 @@ pub returns : goal.returns
 returns c =
     let bytes = c.args.bytes.now in
     let b = AreBytes-from_places bytes (λ i. omega (arith, c.type_inv.bytes i)) in
-    chunk-reads _ _ _ _ bytes b c.if-bytes-ne-CHUNK.false (sym c.u32_at.ensures ∙ c.if-u32_at-ne-CHUNK_MAGIC.false) c.u16_at.ensures c.u16_at-2.ensures c.u64_at.ensures c.u32_at-2.ensures
+    chunk-reads _ _ _ _ bytes b c.if-bytes-ne-CHUNK.false (sym c.u32_at.ensures ∙ c.if-u32_at-ne-CHUNK_MAGIC.false) c.u16_at.ensures c.u16_at-2.ensures c.u64_at.ensures (c.from.ensures ∙ c.u32_at-2.ensures)

@@ -1,0 +1,26 @@
+-- Whether extended headers are in force, told by looking back (proto.md, "Option types", "Reserved Magic values"; that
+-- an ACK to EXTENDED_HEADERS puts them in force for good is this project's choice).
+use Rattle.std.specs.Prelude.{◌≡◌, ◌==◌, ◌&&◌, ◌||◌, ℕ, Bool, false, List, [], ◌∷◌}
+use Rattle.nbd_wire.specs.declared.answers.TheConstants as answers
+use Rattle.nbd_wire.specs.declared.message.Message.{Message}
+use Rattle.nbd_wire.specs.declared.message.Message.TheVariants.{Answer}
+use Rattle.nbd_wire.specs.declared.options.TheConstants as options
+use Rattle.nbd_wire.specs.declared.profile.Profile.{Profile}
+use Rattle.nbd_wire.specs.protocol.Marks.{Item, completed_messages}
+use Rattle.nbd_wire.specs.protocol.Rules.{ends_at}
+use Rattle.nbd_wire.specs.protocol.States.{start_of}
+
+-- an ACK to EXTENDED_HEADERS
+abbrev pub is_grant : Message → Bool
+is_grant (Answer option kind payload) = (option == options.EXTENDED_HEADERS) && (kind == answers.ACK)
+is_grant m = false
+
+-- one of these messages is one
+abbrev pub any_grant : List Message → Bool
+any_grant [] = false
+any_grant (m ∷ messages) = is_grant m || any_grant messages
+
+-- extended headers are in force where an ACK answered EXTENDED_HEADERS before, and nowhere else
+abbrev pub HeadersAreGranted : Type 0
+HeadersAreGranted = (profile : Profile) (items : List Item)
+    → (ends_at (start_of profile) items).core.extended ≡ any_grant (completed_messages items)
