@@ -3,14 +3,16 @@
 
 The sessions are the good ones of examples/, of cases/ and of the tests. Mistakes are made in the bytes, lines and words of
 the text (digits, sides, line ends, cuts), in the messages, by way of `show` and `make` (messages dropped, doubled, swapped,
-fields changed), and in the order. Some sessions get options on metadata contexts, with answers that are right or odd, and some
-are told block sizes, which are right or odd. Of every run is asked: an exit status that the command has, with an output and a standard error of its form; an end within ten seconds;
-and no more memory than 16 MiB and ten times the input (`explain` and `order`: 64 MiB and forty times). And of
+fields changed), and in the order. Some sessions get options on metadata contexts, with answers that are right or odd, some
+are told block sizes, which are right or odd, and some are said again with extended headers. Of every run is asked: an exit
+status that the command has, with an output and a standard error of its form; an end within ten seconds; and no more memory than
+16 MiB and ten times the input (`explain` and `order`: 64 MiB and forty times). And of
 
   check    in both profiles the same answer as it stands, as records of one byte and as longest runs; where it is yes, a yes of
            `explain`, and no proof that no order explains the session; in `wide` the same answer as in `base`, unless that is
-           OutOfProfile at an answer to LIST_META_CONTEXT or SET_META_CONTEXT, or block sizes are announced, which may be refused,
-           or be broken and counted; in both the line of the readers negotiated.py, transmitted.py and served.py
+           OutOfProfile at an answer to LIST_META_CONTEXT, SET_META_CONTEXT or EXTENDED_HEADERS, or Late, or refuses an error of
+           an unknown type, or block sizes are announced, which may be refused, or be broken and counted; in both the line of
+           the readers negotiated.py, transmitted.py and served.py
   show     the same lines in these forms; what it accepts is, made and shown again, the same; `--names` has as many lines
   explain  the status and the line of `check`; without an order, those of `order`; the same words in other records
   order    what it finds is accepted by `check`; `--arrival` has the number of each request, or says that the session was refused
@@ -30,24 +32,31 @@ from pathlib import Path
 import negotiated
 import served
 from built import PROGRAM, Room, build
-from cases import errors, makes, outside, shows, sizes, statuses, zeroes
+from cases import errors, extended, makes, outside, shows, sizes, statuses, zeroes
 from cases.contexts import ALLOCATION, DEPTH, NEGOTIATION_TABLE, STATUS_TABLE, ack, error
+from extending import can_be_extended
+from extending import extended as with_extended_headers
 from messages import (
-    DISC, DONE, GO, INFO, LIST_META_CONTEXT, META_CONTEXT, REQ_ONE, SET_META_CONTEXT, answer, context, done, extents, failed,
-    longest_runs, named, one_by_one, option, queries, records_of, simple, status, text,
+    BLOCK_STATUS, CACHE, DISC, DONE, ERROR, EXTENDED_HEADERS, FLUSH, GO, INFO, LIST_META_CONTEXT, META_CONTEXT, OFFSET_DATA,
+    OFFSET_HOLE, PAYLOAD_LEN, READ, REQ_ONE, SET_META_CONTEXT, STATUS, STATUS_EXT, TRIM, WRITE, WRITE_ZEROES, answer, context, done,
+    extended_chunk, extended_extents, extended_request, extents, failed, longest_runs, named, one_by_one, option, queries, records_of,
+    simple, status, text,
 )
+from messages import NONE as NO_CONTENT
 from test_cases import TABLES, joined
-from test_contexts import ANNOUNCED, differ_by_sizes
+from test_contexts import ANNOUNCED, differ_by_errors, differ_by_sizes
 from test_cuts import SESSIONS, examples
 from test_explain import ORDERLESS
 
 NUMBERS = [0, 1, 2, 3, 4, 5, 6, 7, 8, 9, 11, 12, 16, 255, 256, 65535, 2**31, 2**32 - 1, 2**63 - 1, 2**63, 2**64 - 1]
-WIDTHS = {"flags": 16, "command": 16, "kind": 16, "id": 32, "option": 32, "error": 32, "length": 32}
+WIDTHS = {"flags": 16, "command": 16, "kind": 16, "id": 32, "option": 32, "error": 32}
+# A length in a line of a message with this name; of others 32.
+LENGTHS = {b"extended-request": 64}
 WORDS = [b"0", b"1", b"2", b"01", b"-1", b"18446744073709551616", b"C", b"S", b"ok", b"no", b"gave", b"up", b"padded=1", b"x" * 300]
 
 FAULTS = ("BadMagic|NotFixedNewstyle|BadClientFlags|OutOfTurn|WrongOption|BadReplyKind|OutOfProfile|BadReplyPayload|"
           "MissingExportInfo|BadExport|ExportTooLarge|CookieInUse|UnknownCookie|SimpleForbidden|ChunkForbidden|BadChunk|"
-          "BadContent|IncompleteRead|SuccessOfImproper|BadDisconnect|Unfinished|IncompleteStatus")
+          "BadContent|IncompleteRead|SuccessOfImproper|BadDisconnect|Unfinished|IncompleteStatus|BadReplyOffset")
 BASE, WIDE = [], ["--profile", "wide"]
 YES = r"yes requests \d+ answered \d+ improper \d+\n"
 WIRE = rf"no at byte \d+: ({FAULTS})\n"
@@ -57,7 +66,7 @@ NO = (rf"({WIRE}|{IMAGE}|no order entry \d+: (NoSuchRequest|Twice|Late|Missing|B
 NONE = (rf"({WIRE}|{IMAGE}|no (content|status) request \d+ offset \d+ in any order\n|"
         r"no order explains requests \d+( \d+)+ at offset \d+\n)")
 GAVE_UP = r"gave up: too many (steps|states) at request \d+ offset \d+\n"
-MESSAGE = (r"([CS] (greeting|client-flags|option|answer|export|request|simple|chunk)"
+MESSAGE = (r"([CS] (greeting|client-flags|option|answer|export|request|simple|chunk|extended-request|extended-chunk)"
            r"( (flags|id|payload|option|kind|size|padded|command|cookie|offset|length|error)=[0-9a-f]*)+\n)")
 # What stands behind the first line: words and numbers, and bytes as digits.
 TOLD = r"([ -~]+\n)*"
@@ -114,7 +123,8 @@ def seeds():
 
 
 def seeds_in_profiles():
-    for told in STATUS_TABLE + NEGOTIATION_TABLE + statuses.TABLE + zeroes.TABLE + sizes.TABLE + outside.TABLE + errors.TABLE:
+    tables = statuses, zeroes, sizes, outside, errors, extended
+    for told in (*STATUS_TABLE, *NEGOTIATION_TABLE, *(told for table in tables for told in table.TABLE)):
         yield text(told.records), told.order.encode(), told.start
 
 
@@ -139,12 +149,12 @@ def place_of(line):
 
 
 def is_left_out(records, line):
-    """Whether a line of `base` is OutOfProfile at an answer to LIST_META_CONTEXT or SET_META_CONTEXT."""
+    """Whether a line of `base` is OutOfProfile at an answer to an option that `wide` follows, and `base` does not."""
     if not line.endswith(": OutOfProfile\n"):
         return False
     pairs = [(side, byte) for side, data in records for byte in data][: place_of(line)]
     head = bytes(byte for side, byte in pairs[-20:] if side == "S")
-    return len(head) == 20 and int.from_bytes(head[8:12], "big") in (LIST_META_CONTEXT, SET_META_CONTEXT)
+    return len(head) == 20 and int.from_bytes(head[8:12], "big") in (LIST_META_CONTEXT, SET_META_CONTEXT, EXTENDED_HEADERS)
 
 
 def is_of_sizes(records, base, wide):
@@ -255,7 +265,7 @@ class Mutator:
         if len(fields) > 2:
             which = self.chance.randrange(2, len(fields))
             name, _, value = fields[which].partition(b"=")
-            fields[which] = name + b"=" + self.value(name.decode("latin-1"), value)
+            fields[which] = name + b"=" + self.value(fields[1], name.decode("latin-1"), value)
             lines[at] = b" ".join(fields)
         return b"\n".join(lines)
 
@@ -293,6 +303,50 @@ class Mutator:
             records.insert(at + 1 + chance.randrange(2), answer(number, 3, told))
         return text(records)
 
+    def headers(self, capture):
+        """The session said again with extended headers, and at times one request more; where it cannot be, at times with the option that
+        asks for them."""
+        try:
+            records = records_of(capture)
+        except ValueError:
+            return capture
+        chance = self.chance
+        if can_be_extended(records) and chance.random() < 0.95:
+            records = with_extended_headers(records, chance.random() < 0.5)
+            side, rest = records[-1]
+            last = len(records) - 2 * (side == "C" and rest[5:7] == DISC.to_bytes(2, "big"))
+            return text(records[:last] + (self.exchange() if chance.random() < 0.5 else []) + records[last:])
+        places = [at for at, (side, data) in enumerate(records) if side == "C" and data[:8] == b"IHAVEOPT"]
+        if not places or chance.random() < 0.7:
+            return capture
+        at, number = chance.choice(places), EXTENDED_HEADERS
+        told = chance.choice([[ack(number)]] * 6 + [[error(number)], [answer(number, 2)], [answer(number, 1, b"x")], []])
+        return text(records[:at] + [option(number, b"x" * (chance.random() < 0.1)), *told] + records[at:])
+
+    def exchange(self):
+        """A request with an extended header, and most often a reply, which may be odd."""
+        chance, cookie = self.chance, 2**40
+        command = chance.choice([READ, WRITE, FLUSH, TRIM, CACHE, WRITE_ZEROES, BLOCK_STATUS, BLOCK_STATUS, BLOCK_STATUS, 42])
+        offset, length, data = chance.choice([0, 0, 0, 4, 7, 2**63]), chance.choice([8, 8, 8, 4, 1, 0, 2**32, 2**64 - 1]), b""
+        flags = chance.choice([0, 0, PAYLOAD_LEN, PAYLOAD_LEN, REQ_ONE, REQ_ONE | PAYLOAD_LEN])
+        if command == WRITE or flags & PAYLOAD_LEN:
+            ids = chance.choice([(), (1,), (1,), (2,), (1, 2), (2, 1), (1, 1), (3,)])
+            data = struct.pack(f">Q{len(ids)}I", length, *ids) if command == BLOCK_STATUS else bytes(chance.randrange(9))
+            data = data[:-1] if chance.random() < 0.1 else data
+            length = len(data)
+        at = self.number() if chance.random() < 0.1 else offset
+        pieces = [(*self.piece(offset), 0) for _ in range(chance.choice([0, 0, 1, 1, 2]))]
+        pieces += chance.choice([[(NO_CONTENT, b"", DONE)], [(NO_CONTENT, b"", DONE)], [(ERROR, b"\0\0\0\x16\0\0", DONE)], []])
+        told = [extended_chunk(cookie, kind, at, payload, is_last) for kind, payload, is_last in pieces]
+        return [extended_request(command, cookie, offset, length, data, flags), *told]
+
+    def piece(self, offset):
+        """What a chunk with an extended header has: its type, and its payload."""
+        chance, begin = self.chance, offset.to_bytes(8, "big")
+        parts = extended_extents(chance.choice([0, 1, 1, 1, 2]), *chance.choice(EXTENTS), count=chance.choice([None, None, None, 0, 1, 2]))
+        return chance.choice([(STATUS_EXT, parts), (STATUS_EXT, parts), (OFFSET_DATA, begin + bytes(8)), (OFFSET_DATA, begin + bytes(1)),
+                              (OFFSET_HOLE, begin + b"\0\0\0\x08"), (OFFSET_HOLE, begin + b"\xff" * 4), (STATUS, parts), (ERROR, begin)])
+
     def option(self, name):
         """LIST_META_CONTEXT or SET_META_CONTEXT and its answers, which may be odd."""
         chance, number = self.chance, self.chance.choice([LIST_META_CONTEXT, SET_META_CONTEXT, SET_META_CONTEXT])
@@ -322,11 +376,11 @@ class Mutator:
         end = chance.choice([[done(cookie)], [failed(cookie)], [simple(cookie, error=22)], [simple(cookie)], []])
         return [asked, *chunks, *([] if is_done and told else end)]
 
-    def value(self, name, value):
+    def value(self, message, name, value):
         if name == "padded":
             return self.chance.choice([b"0", b"1"])
         if name != "payload":
-            return b"%d" % self.number(WIDTHS.get(name, 64))
+            return b"%d" % self.number(LENGTHS.get(message, 32) if name == "length" else WIDTHS.get(name, 64))
         at = 2 * self.chance.randrange(len(value) // 2 + 1)
         byte = b"%02x" % self.chance.getrandbits(8)
         return self.chance.choice([value[:at], value[:at] + byte + value[at:], value[:at] + byte + value[at + 2 :]])
@@ -434,7 +488,7 @@ class Fuzz:
 
     def compare(self, records, order, start, base, wide):
         """The lines of both profiles, beside each other and beside those of the readers."""
-        if is_of_sizes(records, base, wide):
+        if is_of_sizes(records, base, wide) or differ_by_errors(base, wide) or base.endswith(": Late\n"):
             pass
         elif not is_left_out(records, base):
             self.want("check in wide and in base", wide, base)
@@ -486,13 +540,15 @@ class Fuzz:
 
     def session(self, capture, order, often):
         """A session with one to four mistakes, in its text or in its messages; and so often one with options on contexts, which
-        are put in before the mistakes, if there are any, or behind them. Half as often one with block sizes."""
+        are put in before the mistakes, if there are any, or behind them. Half as often one with block sizes, or with extended headers."""
         mutator, self.profile = self.mutator, WIDE
         has_options = [mutator.chance.random() < often for _ in range(2)]
         if has_options[0]:
             capture = mutator.contexts(capture)
         if mutator.chance.random() < often / 2:
             capture = mutator.sizes(capture)
+        if mutator.chance.random() < often / 2:
+            capture = mutator.headers(capture)
         for _ in range(mutator.chance.choice([0, 0, 0, 1, 2] if any(has_options) else [1, 1, 1, 2, 4])):
             if mutator.chance.random() < 0.6:
                 shown = self.show(capture)
@@ -503,6 +559,8 @@ class Fuzz:
             capture = mutator.bytes(capture)
         if has_options[1]:
             capture = mutator.contexts(capture)
+        if mutator.chance.random() < often / 2:
+            capture = mutator.headers(capture)
         if mutator.chance.random() < 0.3:
             order = mutator.order(order)
         return capture, order

@@ -1,6 +1,6 @@
 #!/usr/bin/env python3
-"""The memory that inputs take whose lengths lie: heads that name 4294967295 bytes and send none or few, and an order of ten
-million entries on a small capture.
+"""The memory that inputs take whose lengths lie: heads, extended ones too, that name 4294967295 bytes and send none or few, and an order
+of ten million entries on a small capture.
 
 Prints, of each, the bytes that came (the capture's text, its bytes, the order's text), the peak memory of `check` and what it
 answered. The peak is to stay within 16 MiB and four times the bytes that came, of the session's bytes and of the order's text; an
@@ -10,10 +10,12 @@ times. Memory below some 10 MiB is not seen: the Python that starts the program 
 
 import subprocess
 import sys
+from itertools import chain
 
 from built import PROGRAM, Room, Tally, build
+from cases.extended import BEGUN, asked, head_of, reads, spoken
 from messages import (
-    OFFSET_DATA, SERVER, WRITE, begun, chunk, client_flags, greeting, option, read, request, simple, text, write,
+    OFFSET_DATA, PAYLOAD_LEN, SERVER, TRIM, WRITE, begun, chunk, client_flags, greeting, option, read, request, simple, text, write,
 )
 
 LENGTH, MANY = 2**32 - 1, 1_000_000
@@ -56,13 +58,22 @@ def inputs():
     yield "an order of 10^7 numbers", small, numbers, "no order entry 3: NoSuchRequest"
 
 
+def extended_inputs():
+    """The same with extended headers."""
+    write_head, trim_head = (asked(command, 1, 0, LENGTH, PAYLOAD_LEN) for command in (WRITE, TRIM))
+    yield "an extended write, no data", [*BEGUN, write_head], b"", "no at byte 164: Unfinished"
+    yield "an extended trim, no data", [*BEGUN, trim_head], b"", "no at byte 164: Unfinished"
+    yield "an extended chunk, no data", BEGUN + spoken([reads(1, 0, 8), head_of(1, LENGTH)]), b"1\n", "no at byte 196: Unfinished"
+
+
 def run(tally):
     print(f"{'input':36}{'text':>12}{'bytes':>12}{'order':>12}{'peak KiB':>10}{'most KiB':>10}")
     with Room() as room:
-        for name, records, order, line in inputs():
+        told = chain(((*one, "base") for one in inputs()), ((*one, "wide") for one in extended_inputs()))
+        for name, records, order, line, profile in told:
             capture, size = text(records), sum(len(data) for _, data in records)
             paths = room.put("capture", capture), room.put("order", order)
-            words = [sys.executable, "-I", "-S", "-c", MEASURE, PROGRAM, "check", *paths, "--start", "zero"]
+            words = [sys.executable, "-I", "-S", "-c", MEASURE, PROGRAM, "check", *paths, "--start", "zero", "--profile", profile]
             found = subprocess.run(words, capture_output=True, text=True, check=True)
             status, peak = map(int, found.stderr.split()[-2:])
             times = 17 if "digits" in name else 6 if "numbers" in name else 4

@@ -11,8 +11,8 @@ EXPORT_NAME, ABORT, LIST, STARTTLS, INFO, GO, STRUCTURED_REPLY = 1, 2, 3, 5, 6, 
 LIST_META_CONTEXT, SET_META_CONTEXT, EXTENDED_HEADERS = 9, 10, 11
 ACK, SERVER_NAME, EXPORT_INFO, META_CONTEXT = 1, 2, 3, 4
 READ, WRITE, DISC, FLUSH, TRIM, CACHE, WRITE_ZEROES, BLOCK_STATUS = range(8)
-REQ_ONE = 8
-NONE, OFFSET_DATA, OFFSET_HOLE, STATUS, ERROR, ERROR_OFFSET = 0, 1, 2, 5, 0x8001, 0x8002
+REQ_ONE, PAYLOAD_LEN = 8, 32
+NONE, OFFSET_DATA, OFFSET_HOLE, STATUS, STATUS_EXT, ERROR, ERROR_OFFSET = 0, 1, 2, 5, 6, 0x8001, 0x8002
 DONE = 1
 
 
@@ -103,6 +103,24 @@ def failed(cookie, error=22):
 
 def done(cookie):
     return chunk(cookie, NONE, flags=DONE)
+
+
+def extended_request(command, cookie, offset, length, data=b"", flags=0):
+    """A request with an extended header."""
+    head = struct.pack(">IHHQQQ", 0x21E41C71, flags, command, cookie, offset, length)
+    return (CLIENT, head + data)
+
+
+def extended_chunk(cookie, kind, offset, data=b"", flags=0, length=None):
+    """A chunk with an extended header: the offset is that of its request."""
+    length = len(data) if length is None else length
+    return (SERVER, struct.pack(">IHHQQQ", 0x6E8A278C, flags, kind, cookie, offset, length) + data)
+
+
+def extended_extents(number, *parts, count=None):
+    """The payload of a chunk with an extended header on the context with this id: extents behind their count."""
+    count = len(parts) if count is None else count
+    return struct.pack(">II", number, count) + b"".join(struct.pack(">QQ", *part) for part in parts)
 
 
 def begun(structured=False, size=8, flags=0x6D):

@@ -6,13 +6,13 @@ import struct
 from collections import namedtuple
 
 MAGIC, OPTION, ANSWER = b"NBDMAGIC", b"IHAVEOPT", 0x0003E889045565A9
-FOLLOWED = {"base": (3, 6, 7, 8), "wide": (3, 6, 7, 8, 9, 10)}
+FOLLOWED = {"base": (3, 6, 7, 8), "wide": (3, 6, 7, 8, 9, 10, 11)}
 MOST = 2**63 - 1
 
 # Where and with what the session was refused (None: it was not); whether transmission began, with what size and flags of the
-# export, and with structured replies or without; the names of the contexts that are in force, by their ids; the block sizes that
-# are in force, the least and the largest, or None; and the place behind what was read.
-Read = namedtuple("Read", "place fault entered size flags structured contexts sizes behind")
+# export, with structured replies or without, and with extended headers or without; the names of the contexts that are in force, by
+# their ids; the block sizes that are in force, the least and the largest, or None; and the place behind what was read.
+Read = namedtuple("Read", "place fault entered size flags structured extended contexts sizes behind")
 
 
 class Refused(Exception):
@@ -58,7 +58,7 @@ def export_of(choice):
 
 
 def is_proper(number, data):
-    if number in (3, 8):
+    if number in (3, 8, 11):
         return data == b""
     if number in (6, 7):
         _, rest = cut_name(data) or (None, b"")
@@ -104,7 +104,7 @@ class Reader:
         self.sides = "".join(side * len(data) for side, data in records)
         self.data = b"".join(data for _, data in records)
         self.at, self.profile = 0, profile
-        self.structured, self.padded = False, True
+        self.structured, self.extended, self.padded = False, False, True
         # The export and the contexts of the last SET_META_CONTEXT, their names by their ids, and whether it ended well.
         self.export, self.named, self.is_granted = None, {}, False
         # The size and the flags of the export, and the block sizes, as last told in answer to the option; and whether it is a GO that
@@ -165,7 +165,8 @@ class Reader:
         while True:
             kind, payload = self.answer(number, data)
             if kind == 1:
-                self.structured |= number == 8
+                self.structured |= number in (8, 11)
+                self.extended |= number == 11
                 self.is_granted |= number == 10
             if kind == 4 and number == 10:
                 self.named[int.from_bytes(payload[:4], "big")] = payload[4:]
@@ -198,7 +199,7 @@ class Reader:
 
     def kinds(self, number, data, kind):
         """The kinds of success that an option takes."""
-        takes = {2: [1], 3: [1, 2], 6: [1, 3], 7: [1, 3], 8: [1], 9: [1, 4], 10: [1, 4]}
+        takes = {2: [1], 3: [1, 2], 6: [1, 3], 7: [1, 3], 8: [1], 9: [1, 4], 10: [1, 4], 11: [1]}
         if number == 10 and (cut_queries(data) or (b"", 1))[1] == 0:
             takes[10] = [1]
         self.need(number == 2 or number in FOLLOWED[self.profile], "OutOfProfile")
@@ -212,10 +213,10 @@ def read(records, profile):
         reader.flags()
         name = reader.choices()
     except Refused as refused:
-        return Read(refused.place, refused.fault, False, 0, 0, False, {}, None, refused.place)
+        return Read(refused.place, refused.fault, False, 0, 0, False, False, {}, None, refused.place)
     except Over:
-        return Read(None, None, False, 0, 0, False, {}, None, reader.at)
+        return Read(None, None, False, 0, 0, False, False, {}, None, reader.at)
     is_in_force = reader.is_granted and reader.structured and reader.export == name
     contexts = reader.named if is_in_force else {}
     sizes = reader.sizes if reader.is_held and profile == "wide" else None
-    return Read(None, None, True, *reader.told, reader.structured, contexts, sizes, reader.at)
+    return Read(None, None, True, *reader.told, reader.structured, reader.extended, contexts, sizes, reader.at)

@@ -7,8 +7,8 @@ answers are the same.
 
 from built import Ended, Room, Tally
 from cases import (
-    bad_lines, by_chunk, chunks, contents, contexts, damaged, errors, infos, large_exports, large_numbers, makes, negotiation, offers, orders,
-    outside, parts, pieces, refused_negotiation, shows, sizes, statuses, transmission, verdicts, zeroes,
+    bad_lines, by_chunk, chunks, contents, contexts, damaged, errors, extended, infos, large_exports, large_numbers, makes, negotiation,
+    offers, orders, outside, parts, pieces, refused_negotiation, shows, sizes, statuses, transmission, verdicts, zeroes,
 )
 from cases.messages import BEGUN, READ_1
 from messages import damaged as inverted
@@ -19,6 +19,9 @@ TABLES = (
     chunks, contents, infos, large_exports, large_numbers, negotiation, orders, parts, pieces, refused_negotiation,
     transmission, verdicts,
 )
+IN_PROFILES = [
+    case for table in (contexts, statuses, zeroes, sizes, outside, by_chunk, errors, extended) for case in table.CASES
+]
 # A READ of one byte with the cookie 9, and its reply.
 ONE_MORE_READ = "C 25609513000000000000000000000009000000000000000000000001\nS 6744669800000000000000000000000900\n"
 
@@ -69,8 +72,9 @@ def checks(tally, room):
 
 
 def in_profiles(tally, room):
-    """Sessions with metadata contexts or block sizes in each profile; what the wider one refuses also with a READ and its reply."""
-    for case in contexts.CASES + statuses.CASES + zeroes.CASES + sizes.CASES + outside.CASES + by_chunk.CASES + errors.CASES:
+    """Sessions with metadata contexts, block sizes or extended headers in each profile; what the wider one refuses also with a READ and
+    its reply."""
+    for case in IN_PROFILES:
         try_case(tally, room, case, joined(case.capture))
         if case.profile == "wide" and case.want.startswith("no at byte") and "Unfinished" not in case.want:
             longer = case._replace(name=f"{case.name}, and one more READ")
@@ -110,7 +114,7 @@ def shown_lines(tally, room):
         for case in cases:
             for form, data in forms(joined(case.capture)).items():
                 tally.want(f"{case.name}{form}", room.show(data), Ended(status, joined(case.want), hint_of(data)))
-    for case in statuses.SHOWN:
+    for case in statuses.SHOWN + extended.SHOWN:
         for form, data in forms(joined(case.capture)).items():
             tally.want(f"{case.name}{form}", room.show(data, profile="wide"), Ended(0, joined(case.want), b""))
     for behind, fault in shows.BAD_TEXTS:
@@ -118,9 +122,9 @@ def shown_lines(tally, room):
 
 
 def made_captures(tally, room):
-    for script, capture in makes.MADE:
+    for script, capture in makes.MADE + extended.MADE:
         tally.want(f"make of {script!r}", room.make(script.encode()), Ended(0, capture.encode(), b""))
-    for script, fault in makes.BAD_SCRIPTS:
+    for script, fault in makes.BAD_SCRIPTS + extended.BAD_SCRIPTS:
         tally.want(f"make of {script!r}", room.make(script.encode()), Ended(3, b"", fault.encode()))
     tally.want("make of one record a message", room.make(room.show(BEGUN.encode()).out), Ended(0, BEGUN.encode(), b""))
     refused = room.show(joined([BEGUN, READ_1, READ_1])).out
@@ -129,13 +133,14 @@ def made_captures(tally, room):
 
 def made_again(tally, room):
     """What is made of the lines of a session is the session."""
-    for session in makes.SESSIONS:
-        capture = joined(session)
-        shown = room.show(capture)
-        tally.want(f"show of {session}", (shown.status, shown.out[-3:], shown.err), (0, b"ok\n", hint_of(capture)))
+    sessions = [(session, joined(session), None) for session in makes.SESSIONS]
+    sessions += [(told.name, text(told.records), "wide") for told in extended.TABLE if not told.wide.startswith("no at byte")]
+    for name, capture, profile in sessions:
+        shown = room.show(capture, profile=profile)
+        tally.want(f"show of {name}", (shown.status, shown.out[-3:], shown.err), (0, b"ok\n", hint_of(capture)))
         made = room.make(shown.out)
         bytes_of = [one_by_one(records_of(it)) for it in (made.out, capture)]
-        tally.want(f"make of what was shown of {session}", (made.status, made.err, bytes_of[0]), (0, b"", bytes_of[1]))
+        tally.want(f"make of what was shown of {name}", (made.status, made.err, bytes_of[0]), (0, b"", bytes_of[1]))
 
 
 def run(tally):

@@ -1,6 +1,6 @@
-"""Sessions with metadata contexts, and with block sizes, beside what cases/contexts.py and cases/sizes.py say of them: where their
-messages end, what readers of their own say (negotiated.py, transmitted.py, served.py), and recorded sessions in both profiles. The
-readers are tried on the other cases too.
+"""Sessions with metadata contexts, with block sizes, and with extended headers, beside what cases/ says of them: where their messages end,
+what readers of their own say (negotiated.py, transmitted.py, served.py), and recorded sessions in both profiles. The readers are tried on
+the other cases too.
 
 `test_contexts.py FOLDER` runs the recorded sessions of another folder: NAME.cap, .ord, .start, and NAME.out, the line in `wide`.
 """
@@ -13,7 +13,7 @@ import served
 import test_cases
 import transmitted
 from built import TOP, Room, Tally
-from cases import damaged, errors, offers, outside, sizes, statuses, zeroes
+from cases import damaged, errors, extended, offers, outside, sizes, statuses, zeroes
 from cases.contexts import (
     ALLOCATION, DEPTH, NEGOTIATION_TABLE, ONE_CONTEXT, STATUS_TABLE, TWO_CONTEXTS, ack, allocation, listing, setting, told_last,
 )
@@ -22,13 +22,15 @@ from messages import damaged as inverted
 
 WITH_CONTEXTS = STATUS_TABLE + NEGOTIATION_TABLE + statuses.TABLE + zeroes.TABLE
 WITH_SIZES = sizes.TABLE + outside.TABLE
-TABLE = WITH_CONTEXTS + WITH_SIZES + errors.TABLE
+TABLE = WITH_CONTEXTS + WITH_SIZES + errors.TABLE + extended.TABLE
 PROFILES = "base", "wide"
 CHUNK, REQUEST, ANNOUNCED = bytes.fromhex("668e33ef"), bytes.fromhex("25609513"), bytes.fromhex("0000000e0003")
+EXTENDED = bytes.fromhex("21e41c71"), bytes.fromhex("6e8a278c")
 # Words that stand in the bytes below.
 WORDS = {
     "IHAVEOPT": "49484156454f5054", "ANSWER": "0003e889045565a9", "ALLOCATION": "626173653a616c6c6f636174696f6e",
     "DEPTH": "71656d753a616c6c6f636174696f6e2d6465707468", "REQUEST": "25609513", "CHUNK": "668e33ef",
+    "EXTENDED_REQUEST": "21e41c71", "EXTENDED_CHUNK": "6e8a278c",
 }
 # Messages, and their bytes by hand.
 BYTES = [
@@ -47,6 +49,7 @@ BYTES = [
     (failed(1), "CHUNK 0001 8001 0000000000000001 00000006 00000016 0000"),
     (sizes.asking(3), "IHAVEOPT 00000007 00000008 00000000 0001 0003"),
     (sizes.sizes(2, 512, 4), "ANSWER 00000007 00000003 0000000e 0003 00000002 00000200 00000004"),
+    *extended.BYTES,
 ]
 # Where messages of sessions end, by hand: the last of these is the session's end.
 ENDS = {
@@ -118,7 +121,9 @@ def messages(tally):
     tally.want("two contexts", ends_of(TWO_CONTEXTS)[-1], 304)
     known = {told.name: ends_of(told.records) for told in TABLE}
     tally.want("names", len(known), len(TABLE))
-    for name, places in ENDS.items():
+    ends = ENDS | {name: places for name, places in extended.ENDS.items() if name in known}
+    tally.want("ends of sessions with extended headers", len(ends), len(ENDS) + len(extended.PLACES))
+    for name, places in ends.items():
         tally.holds(f"{name}: ends", set(places) <= set(known[name]) and places[-1] == known[name][-1], known[name])
 
 
@@ -189,11 +194,14 @@ def readers(tally):
 
 def numbers_in(data):
     """Where numbers of 32 bits stand in a message that a mistake is made in, and which ones may stand there: in a status chunk the id, a
-    length, or flags; in an announcement the block sizes; in a request the low half of the offset, and the length."""
+    length, or flags; in an announcement the block sizes; in a request the low half of the offset, and the length; with an extended header
+    each half of the offset and of the length."""
     if data[:4] == CHUNK and data[6:8] == b"\0\5":
         return range(20, len(data), 4), (0, 1, 2, 4, 2**31, 2**32 - 4, 2**32 - 1)
     if data[16:22] == ANNOUNCED:
         return (22, 26, 30), (0, 1, 2, 3, 4, 256, 511, 512, 513, 1024, 65535, 65536, 2**17, 2**31, 2**32 - 2, 2**32 - 1)
+    if data[:4] in EXTENDED:
+        return (16, 20, 24, 28), (0, 1, 2, 4, 8, 2**31, 2**32 - 1)
     if data[:4] == REQUEST:
         return (20, 24), (0, 1, 2, 3, 4, 5, 6, 7, 8, 9, 2**32 - 2, 2**32 - 1)
     return (), ()
@@ -220,9 +228,10 @@ def mistakes(records):
 
 
 def damages(tally, room):
-    """A session with statuses and one with block sizes, with a mistake: `check` in `wide`, in two ways of cutting it, against the
-    readers."""
-    for word, session, order in (("statuses", statuses.DAMAGED, statuses.MIXED_ORDER), ("sizes", outside.DAMAGED, outside.ORDER)):
+    """A session with statuses, one with block sizes, and one with extended headers, with a mistake: `check` in `wide`, in two ways of
+    cutting it, against the readers."""
+    for word, session, order in (("statuses", statuses.DAMAGED, statuses.MIXED_ORDER), ("sizes", outside.DAMAGED, outside.ORDER),
+                                 ("extended headers", extended.DAMAGED, extended.DAMAGED_ORDER)):
         for name, records in mistakes(session):
             found = room.check(text(records), order.encode(), "zero", profile="wide")
             tally.want(f"{word}, {name}", found.out.decode(), served.line(records, order, "zero", "wide"))

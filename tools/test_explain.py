@@ -11,11 +11,12 @@ from collections import namedtuple
 from pathlib import Path
 
 from built import TOP, Ended, Room, Tally
+from cases import extended
 from cases.sizes import asking, begun as sized, sizes
 from messages import (
-    BLOCK_STATUS, CACHE, CLIENT, DISC, DONE, FLUSH, READ, REQ_ONE, SERVER, TRIM, WRITE, WRITE_ZEROES, answer, begun, chunk,
-    client_flags, content, context, cut, done, export_info, extents, failed, front, greeting, hole, option, read, request, simple, status,
-    text, write,
+    BLOCK_STATUS, CACHE, CLIENT, DISC, DONE, FLUSH, OFFSET_HOLE, PAYLOAD_LEN, READ, REQ_ONE, SERVER, STATUS, TRIM, WRITE, WRITE_ZEROES,
+    answer, begun, chunk, client_flags, content, context, cut, done, export_info, extents, failed, front, greeting, hole, option, read,
+    request, simple, status, text, write,
 )
 from test_commands import EMPTY, fault
 from test_cuts import SESSIONS
@@ -48,6 +49,12 @@ SELECTED_TWO = [
 WRITTEN = [*begun(), write(1, 0, b"\xab\xcd"), simple(1), read(2, 0, 4), simple(2, b"\xab\xcd\0\0")]
 MISREAD = WRITTEN[:-1] + [simple(2, b"\xab\xce\0\0")]
 
+
+def extended_session(*messages):
+    """A session with extended headers: 132 bytes before these messages."""
+    return extended.BEGUN + extended.spoken(messages)
+
+
 WIRE = {
     "bad-magic": Session([(SERVER, b"NBDMAGICIHAVEOPX\0\3")]),
     "bad-magic-of-a-reply": Session([*ASKED, (SERVER, b"\xde\xad\xbe\xef" + bytes(12))]),
@@ -65,6 +72,12 @@ WIRE = {
     "out-of-profile-of-extended-headers": Session([*HELLO, option(11), answer(11, 1)]),
     "out-of-profile-of-an-unknown-option": Session([*HELLO, option(77), answer(77, 1)]),
     "out-of-profile-of-tls-in-wide": Session([*HELLO, option(5), answer(5, 1)], profile="wide"),
+    "out-of-profile-of-a-long-payload": Session(extended_session(extended.asked(TRIM, 1, 0, 2**32, PAYLOAD_LEN)), profile="wide"),
+    "out-of-profile-of-a-long-chunk": Session(extended_session(extended.reads(1, 0, 1), extended.head_of(1, 2**32)), profile="wide"),
+    "out-of-profile-of-a-status": Session([*extended.ONE_CONTEXT, extended.asks(1, 0, 8)], profile="wide"),
+    "bad-magic-without-an-extended-header": Session(extended_session(read(1, 0, 1), (CLIENT, bytes(4))), profile="wide"),
+    "bad-magic-of-a-reply-without-an-extended-header": Session(extended_session(extended.reads(1, 0, 1), simple(1)), profile="wide"),
+    "bad-reply-offset": Session(extended_session(extended.reads(1, 4, 1), extended.gives_last(1, 4, b"\0", of=0)), profile="wide"),
     "incomplete-status": Session(
         [*SELECTED_TWO, status(1, 0, 8), extents(1, 1, (3, 0), (5, 3), flags=DONE)], profile="wide"),
     "incomplete-status-without-one": Session([*SELECTED_TWO, status(1, 0, 8), done(1)], profile="wide"),
@@ -150,12 +163,18 @@ JUDGED = {
     "improper-and-outside": Session(OUTSIDE, "".join(f"{number}\n" for number in range(1, 10)), profile="wide"),
     "improper-in-base": Session(OUTSIDE, "".join(f"{number}\n" for number in range(1, 10))),
     "improper-requests-of-more-than-ten": Session(TWELVE, "".join(f"{number}\n" for number in range(1, 14))),
+    "improper-with-a-payload": Session(extended_session(
+        extended.carries(READ, 1, 0, b"\xab\xcd"), extended.fails(1), extended.reads(2, 4, 1), extended.gives_last(2, 4, b"\0")), "1\n2\n",
+        profile="wide"),
     "content-of-many-bytes": Session(PIECED, "1\n2\n3\n4\n5\n"),
     "content-of-many-bytes-in-part": Session(PIECED, "1\n2\n3\n4\n5 20 11\n5 1 19\n"),
     "yes": Session(WRITTEN, "1\n2\n"),
     "content-in-wide": Session(
         [*SELECTED, write(1, 0, b"\xab\xcd"), simple(1), read(2, 0, 4), content(2, 0, b"\xab\xce\0\0"), done(2)], "1\n2\n",
         profile="wide"),
+    "content-with-extended-headers": Session(extended_session(
+        extended.writes_plainly(1, 0, b"\xab\xcd"), extended.ends(1), extended.reads(2, 0, 4), extended.gives(2, 0, b"\xab\xce"),
+        extended.zeroes_last(2, 2, 2)), "1\n2\n", profile="wide"),
     "no-such-request": Session(WRITTEN, "1\n3\n"),
     "twice": Session(WRITTEN, "1\n2\n1\n"),
     "late": Session(TIMED, "2\n1\n"),
@@ -436,6 +455,22 @@ WIDE_REASONS = [
     (announced(1024, 512, 1024), "the preferred block size is below the least"),
     (announced(1, 512, 0), "the largest block size is 0"),
     ([*GO, sizes(1, 512, 0)], "the largest block size is 0"),
+    (extended_session(extended.TRIM_CARRIES, extended.ends(1)), "it carries PAYLOAD_LEN, which only a WRITE may"),
+    (extended_session(extended.carries(TRIM, 1, 0, b""), extended.ends(1)), "it carries PAYLOAD_LEN, which only a WRITE may"),
+    (extended_session(extended.carries(WRITE, 1, 0, b"\1", 2**15), extended.ends(1)),
+     "it carries a flag that is none of FUA, NO_HOLE, DF, REQ_ONE and FAST_ZERO"),
+    (extended_session(extended.asked(TRIM, 1, 0, 2**64 - 1), extended.ends(1)),
+     f"its range passes the end of the export of 8 bytes by {2**64 - 9} bytes"),
+    (extended_session(extended.asked(TRIM, 1, 2**64 - 1, 2**64 - 1), extended.ends(1)),
+     f"its range passes the end of the export of 8 bytes by more than {2**64 - 1} bytes"),
+    (extended_session(extended.reads(1, 0, 8), extended.gives(1, 0, b"\0"), extended.zeroes(1, 1, 1)._replace(offset=2**64 - 1)),
+     f"its header has offset {2**64 - 1}, that of its request is 0"),
+    (extended_session(extended.asks(1, 0, 8), extended.Reply(1, STATUS, struct.pack(">III", 1, 8, 3), DONE, None)),
+     "with an extended header nbdcheck knows no chunk of its type"),
+    (extended_session(extended.asks(1, 0, 8), extended.tells_last(1, 1, (8, 3))),
+     "its type is none of NONE, OFFSET_DATA, OFFSET_HOLE, ERROR and ERROR_OFFSET"),
+    (extended_session(extended.reads(1, 0, 8), extended.Reply(1, OFFSET_HOLE, bytes(15) + b"\x08", DONE, None)),
+     "the payload of a hole has 12 bytes, an offset and a size"),
 ]
 # Those of a WRITE that breaks as many parts of its rule as one can.
 SEVERAL = [
@@ -444,11 +479,12 @@ SEVERAL = [
     "it carries FAST_ZERO, which only a WRITE_ZEROES may", "it changes an export that is read-only: it has READ_ONLY",
     "it carries a flag that is none of FUA, NO_HOLE, DF, REQ_ONE and FAST_ZERO",
 ]
-# Options that nbdcheck does not follow, and what is said in place of a rule.
+# Options that nbdcheck does not follow in base, what is said in place of a rule, and of those that it follows in wide what that is.
 GRANTED = {
     9: "metadata contexts, which block status needs", 10: "metadata contexts, which block status needs",
     5: "TLS", 11: "extended headers, of 64 bits", 77: "an extension that nbdcheck has no name for",
 }
+IN_WIDE = {9: "metadata contexts and block status", 10: "metadata contexts and block status", 11: "extended headers"}
 # Every kind of message; a READ that failed, one that is pending, requests and options that proto.md has no name for.
 NAMED = [
     *begun(structured=True)[:-3], option(99), answer(99, 0x80000001, b"what?"), begun()[2], sizes(1, 4096, 2**25), *begun()[3:],
@@ -482,6 +518,34 @@ C command 9 #5, cookie 0x5, FUA (0x8001): failure, EOVERFLOW (75)
 S simple reply to command 9 #5, cookie 0x5: EOVERFLOW (75)
 C READ #6, cookie 0x2a, 4 bytes at 4: pending
 C DISC
+ok
+"""
+# The same with extended headers: a WRITE with and one without the flag that says of its length what it is, a READ with bytes behind it, a
+# READ in two pieces, and a length of 64 bits.
+NAMED_EXTENDED = extended_session(
+    extended.WRITTEN, extended.ends(1), extended.writes_plainly(2, 4, b"\0"), extended.ends(2), extended.carries(READ, 3, 0, b"\xab\xcd"),
+    extended.fails(3), extended.reads(4, 0, 8), extended.gives(4, 0, b"\xab\xcd"), extended.zeroes_last(4, 2, 6),
+    extended.asked(TRIM, 0x2A, 2**64 - 1, 2**64 - 1), extended.asked(DISC, 9, 0, 0, PAYLOAD_LEN))
+NAMES_EXTENDED = """\
+S greeting, NBD_FLAG_FIXED_NEWSTYLE NBD_FLAG_NO_ZEROES (0x3)
+C client flags, NBD_FLAG_C_FIXED_NEWSTYLE NBD_FLAG_C_NO_ZEROES (0x3)
+C NBD_OPT_EXTENDED_HEADERS (11), 0 bytes of data
+S reply to NBD_OPT_EXTENDED_HEADERS (11): NBD_REP_ACK (1), 0 bytes of data
+C NBD_OPT_GO (7), 6 bytes of data
+S reply to NBD_OPT_GO (7): NBD_REP_INFO (3), 12 bytes of data, NBD_INFO_EXPORT (0): 8 bytes, \
+HAS_FLAGS SEND_FLUSH SEND_FUA SEND_TRIM SEND_WRITE_ZEROES (0x6d)
+S reply to NBD_OPT_GO (7): NBD_REP_ACK (1), 0 bytes of data
+C WRITE #1, cookie 0x1, 2 bytes at 0, PAYLOAD_LEN (0x20): success
+S chunk to WRITE #1, cookie 0x1: NBD_REPLY_TYPE_NONE (0), 0 bytes of payload, DONE (0x1)
+C WRITE #2, cookie 0x2, 1 byte at 4: success
+S chunk to WRITE #2, cookie 0x2: NBD_REPLY_TYPE_NONE (0), 0 bytes of payload, DONE (0x1)
+C READ #3, cookie 0x3, 2 bytes at 0, PAYLOAD_LEN (0x20): failure, EINVAL (22)
+S chunk to READ #3, cookie 0x3: NBD_REPLY_TYPE_ERROR (32769), 6 bytes of payload, EINVAL (22), DONE (0x1)
+C READ #4, cookie 0x4, 8 bytes at 0: success
+S chunk to READ #4, cookie 0x4: NBD_REPLY_TYPE_OFFSET_DATA (1), 10 bytes of payload, 2 bytes at 0
+S chunk to READ #4, cookie 0x4: NBD_REPLY_TYPE_OFFSET_HOLE (2), 12 bytes of payload, 6 bytes at 2, DONE (0x1)
+C TRIM #5, cookie 0x2a, 18446744073709551615 bytes at 18446744073709551615: pending
+C DISC, PAYLOAD_LEN (0x20)
 ok
 """
 
@@ -572,7 +636,7 @@ def limited(tally, room):
 
 def numbers_of(records):
     """The numbers of the requests in records of which each is a message: all from the client but the negotiation and DISC."""
-    asked = [data for side, data in records if data[:4] == b"\x25\x60\x95\x13" and data[6:8] != b"\0\2"]
+    asked = [data for _, data in records if data[:4] in (b"\x25\x60\x95\x13", extended.REQUEST) and data[6:8] != b"\0\2"]
     return range(1, len(asked) + 1)
 
 
@@ -636,9 +700,8 @@ def reasons(tally, room):
         told = told_of(tally, f"granted {number}", room.run("explain", room.put("granted", text(opted(number, b"")))))
         lines = told.split("\n")
         tally.holds(f"granted {number}", lines[3].startswith("granted: ") and lines[3].endswith(f", for {extension}"), told)
-        wider = "try --profile wide, which follows metadata contexts and block status; or "
-        first = "instead: " + (wider if number in (9, 10) else "")
-        tally.holds(f"instead of {number}", lines[4].startswith(first + "record with"), told)
+        wider = f"try --profile wide, which follows {IN_WIDE[number]}; or " if number in IN_WIDE else ""
+        tally.holds(f"instead of {number}", lines[4].startswith(f"instead: {wider}record with"), told)
         named = re.findall(r"--[\w=-]+|h\.\w+|tls-creds|add_meta_context|opt_\w+", lines[4])
         tally.want(f"instead of {number}, in docs/RECORDING.md", [word for word in named if word not in page], [])
 
@@ -1021,6 +1084,8 @@ def reply_to(command, number, at, value, error, is_wide):
 def names(tally, room):
     capture = room.put("named", text(NAMED))
     tally.want("show --names", room.run("show", "--names", capture), Ended(0, NAMES.encode(), b""))
+    named = room.run("show", "--names", room.put("extended", text(NAMED_EXTENDED)), "--profile", "wide")
+    tally.want("show --names with extended headers", named, Ended(0, NAMES_EXTENDED.encode(), b""))
     tally.want("order of an empty capture", room.run("order", room.put("empty", b""), "--arrival"), Ended(0, b"", EMPTY))
 
 

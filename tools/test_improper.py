@@ -8,7 +8,7 @@ import random
 import re
 
 from built import Ended, Room, Tally
-from cases import offers, outside, sizes
+from cases import extended, offers, outside, sizes
 from messages import CACHE, READ, TRIM, WRITE, WRITE_ZEROES, request, simple, text
 
 COUNTED = re.compile(r"yes requests (\d+) answered \d+ improper (\d+)")
@@ -47,8 +47,9 @@ def agree(tally, name, found):
 
 
 def counted(tally, room):
-    """Sessions with block sizes in each profile, and a request of each type with each flag on exports that offer it and do not."""
-    for told in sizes.TABLE + outside.TABLE:
+    """Sessions with block sizes or extended headers in each profile, and a request of each type with each flag on exports that offer it
+    and do not."""
+    for told in sizes.TABLE + outside.TABLE + extended.TABLE:
         capture, order = room.put("told.cap", text(told.records)), room.put("told.ord", told.order.encode())
         start = told.start if isinstance(told.start, str) else f"image:{room.put('image', told.start)}"
         for profile, line in (("base", told.base), ("wide", told.wide)):

@@ -13,7 +13,7 @@ LINE = re.compile(r"(?:    |\w+ .*= )(\w+) when ")
 
 # The lists whose first lines are tested behind the last line of a list, where a message has passed that.
 BEHIND = {
-    "magic_fault": ["greeting_fault", "answer_fault", "request_fault"],
+    "magic_fault": ["greeting_fault", "answer_fault", "request_fault", "extended_request_fault"],
     "greeting_fault": [],
     "client_flags_fault": [],
     "export_fault": ["padding_fault"],
@@ -25,16 +25,19 @@ BEHIND = {
     "success_fault": ["ack_fault"],
     "payload_fault": [],
     "request_fault": ["cookie_fault"],
+    "extended_request_fault": ["request_fault"],
     "cookie_fault": [],
     "simple_fault": ["simple_last_fault"],
     "simple_last_fault": [],
     "chunk_head_fault": ["none_fault", "content_fault"],
+    "extended_head_fault": ["chunk_head_fault"],
+    "offset_fault": [],
     "piece_fault": ["finish_fault"],
-    "failure_fault": [],
+    "failure_fault": ["offset_fault"],
     "status_fault": ["finish_fault"],
-    "content_fault": [],
+    "content_fault": ["offset_fault"],
     "none_fault": ["finish_fault"],
-    "finish_fault": [],
+    "finish_fault": ["offset_fault"],
 }
 # Lines that follow one another and of which one excludes the other, and why.
 APART = {
@@ -43,6 +46,7 @@ APART = {
     ("abort_fault BadReplyKind", "ack_fault BadReplyPayload"): "one is of no ACK, the other of an ACK",
     ("request_fault BadDisconnect", "cookie_fault CookieInUse"): "one is of a DISC, the other of no DISC",
     ("simple_fault UnknownCookie", "simple_fault SimpleForbidden"): "one is of no request, the other of a request",
+    ("finish_fault IncompleteStatus", "offset_fault BadReplyOffset"): "with an extended header there is no status",
 }
 # The first line of a list behind another where the reply to a request can have no hit of an earlier one.
 FIRST = {("piece_fault", "finish_fault"): 0, ("status_fault", "finish_fault"): 1, ("none_fault", "finish_fault"): 0}

@@ -11,7 +11,7 @@ import sys
 import time
 
 from built import PROGRAM, TOP, Ended, Room, Tally
-from cases import contexts, offers, outside, sizes, statuses
+from cases import contexts, extended, offers, outside, sizes, statuses
 from messages import (CLIENT, DONE, ERROR, FLUSH, WRITE_ZEROES, begun, chunk, client_flags, content, cut, done, greeting, hole,
                       option, read, request, simple, status, text, write)
 from picture.places import Places
@@ -33,6 +33,9 @@ CROSSED = [*begun(), write(1, 0, b"\xab\xcd"), read(2, 0, 2), simple(2, b"\xab\0
 FIRST, SECOND = cut(write(2, 4, b"wxyz"), 10)
 # Ten bytes of a WRITE, the reply to the READ before it, and the WRITE's other 22 bytes.
 MIXED = [*begun(), read(1, 0, 4), FIRST, simple(1, bytes(4)), SECOND, simple(2)]
+# Sessions with extended headers, and one of them whose first request has all of the largest export.
+EXTENDED = {told.name.removeprefix("extended headers: "): told for told in extended.FOLLOWED}
+HUGE = EXTENDED["all of the largest export is zeroed, and its last byte is wrong"]
 
 
 def run_script(*words, before=(), stdout=subprocess.PIPE, **how):
@@ -85,6 +88,40 @@ def places(tally, room):
     tally.want("mixed: lanes", (mixed["lanes"], mixed["requests"]["lanes"]), (2, [0, 1]))
 
 
+def extended_headers(tally, room):
+    """Headers of 32 bytes, and a length that a browser cannot hold, by hand."""
+    data = session(room, HUGE.records, f"1 0 {extended.LARGEST}\n2\n", HUGE.start, "wide")
+    messages, asked = data["messages"], data["requests"]
+    tally.want("extended headers: sides", messages["sides"], "SCCSCSSCSCS")
+    # 18, 4, 16, 20, 16 + 6, 20 + 12 and 20 bytes of negotiation; 32, 32, 32 and 32 + 9.
+    tally.want("extended headers: first bytes, as steps", messages["firsts"], [1, 18, 4, 16, 20, 22, 32, 20, 32, 32, 32])
+    tally.want("extended headers: from the first byte to the last", messages["spans"], [17, 3, 15, 19, 21, 31, 19, 31, 31, 31, 40])
+    tally.want("extended headers: requests of messages", messages["requests"], [0, 0, 0, 0, 0, 0, 0, 1, 1, 2, 2])
+    tally.want("extended headers: requests", [asked[key] for key in ("commands", "offsets", "lengths", "results", "improper")],
+               [[6, 0], [0, "9223372036854775806"], ["9223372036854775807", 1], "11", []])
+    tally.want("extended headers: services", data["services"], {
+        "requests": [1, 2], "offsets": [0, None], "lengths": ["9223372036854775807", None], "at": [164, 228]})
+    for name, wanted in (
+        ("all of the largest export is zeroed, and its last byte is wrong", {
+            "kind": "content", "place": 269, "requests": [2], "offset": "9223372036854775806", "expected": 1, "wrote": 1,
+            "bytes": [[2, "01"]]}),
+        ("a WRITE without the flag, and a READ gives a wrong byte",
+         {"kind": "content", "place": 272, "requests": [2], "offset": 1, "expected": 1, "wrote": 1, "bytes": [[1, "cd"], [2, "ce"]]}),
+        ("the offset of a piece is 0 in place of 4",
+         {"kind": "place", "fault": "BadReplyOffset", "place": 205, "messages": [["S", 165, 205, 1]]}),
+        ("TRIM with too long a payload", {"kind": "place", "fault": "OutOfProfile", "place": 164, "messages": [["C", 133, 164, 0]]}),
+        ("a chunk with too long a payload",
+         {"kind": "place", "fault": "OutOfProfile", "place": 196, "messages": [["S", 165, 196, 1]]}),
+        ("a chunk with the longest length for an unknown cookie",
+         {"kind": "place", "fault": "OutOfProfile", "place": 196, "messages": [["S", 165, 196, 0]]}),
+        ("a chunk with the longest payload, of which no byte came",
+         {"kind": "place", "fault": "Unfinished", "place": 196, "messages": [["S", 165, 196, 1]]}),
+        ("a simple reply", {"kind": "place", "fault": "BadMagic", "place": 168, "messages": [["S", 165, 168, 0]]}),
+    ):
+        told = EXTENDED[name]
+        tally.want(f"extended headers: guilt: {name}", guilt_of(session(room, told.records, told.order, told.start, "wide")), wanted)
+
+
 def lanes(tally, room):
     for name, records, wanted in (
         ("one after the other", WRITTEN, (1, [0, 0])),
@@ -123,8 +160,8 @@ def proper_requests(tally, room):
 
 
 def proper_in_profiles(tally, room):
-    """Requests on block status, and requests outside of block sizes, in the sessions of both profiles that are accepted."""
-    for told in contexts.STATUS_TABLE + contexts.NEGOTIATION_TABLE + statuses.TABLE + sizes.TABLE + outside.TABLE:
+    """Requests on block status, outside of block sizes, and with extended headers, in the sessions of both profiles that are accepted."""
+    for told in contexts.STATUS_TABLE + contexts.NEGOTIATION_TABLE + statuses.TABLE + sizes.TABLE + outside.TABLE + extended.TABLE:
         for profile, line in (("base", told.base), ("wide", told.wide)):
             if not line.startswith("yes"):
                 continue
@@ -133,6 +170,11 @@ def proper_in_profiles(tally, room):
             for one in room.show(data, profile=profile).out.splitlines():
                 shown.add(one)
             tally.want(f"{told.name}, {profile}", sum(one.is_improper for one in shown.requests), int(line.split()[-1]))
+
+
+def guilt_of(data):
+    """What is marked, without what is nothing."""
+    return {key: value for key, value in data["guilt"].items() if value is not None and value != []}
 
 
 def guilt(tally, room):
@@ -161,8 +203,7 @@ def guilt(tally, room):
         ("out of turn", [(CLIENT, b"x")], "", {"kind": "place", "fault": "OutOfTurn", "place": 1, "messages": [["C", 1, 1, 0]]}),
     ):
         wanted = dict(wanted, **({"offset": 0} if name == "of several" else {}))
-        found = {key: value for key, value in session(room, records, order)["guilt"].items() if value is not None and value != []}
-        tally.want(f"guilt: {name}", found, wanted)
+        tally.want(f"guilt: {name}", guilt_of(session(room, records, order)), wanted)
     for order in ("1\n2\n", None):
         found = session(room, FALSE_ZERO, order, "zero", "wide")["guilt"]
         named = {key: found[key] for key in ("kind", "requests", "offset", "place", "bytes")}
@@ -377,8 +418,8 @@ def many(tally, room):
 
 
 PARTS = (
-    places, lanes, results, proper_requests, proper_in_profiles, guilt, in_words, escaping, refusals, gave_up, pipes, interrupts, examples,
-    many,
+    places, extended_headers, lanes, results, proper_requests, proper_in_profiles, guilt, in_words, escaping, refusals, gave_up, pipes,
+    interrupts, examples, many,
 )
 
 

@@ -5,7 +5,7 @@ import time
 import browser
 from built import TOP, Room, Tally
 from messages import DONE, ERROR, begun, chunk, done, read, request, simple, text, write
-from test_picture import CROSSED, MANY, WRITTEN, long_session, page_of, run_script
+from test_picture import CROSSED, HUGE, MANY, WRITTEN, long_session, page_of, run_script
 
 # The sessions of examples/ whose pages are opened: each kind of answer, chunks, parts, a range at 2^63, none but a negotiation.
 EXAMPLES = ("nbdkit-split", "nbdkit-python-parts", "nbdkit-huge-export", "nbdkit-memory-libnbd-sr", "nbdserver-not-offered",
@@ -22,8 +22,8 @@ WRONG = "READ #2, cookie 0x2, 2 bytes at 0: success"
 WROTE = "WRITE #1, cookie 0x1, 2 bytes at 0: success"
 
 
-def put(room, name, records, order=None, start="zero"):
-    return room.put(f"{name}.html", page_of(room, records, order, start).encode())
+def put(room, name, records, order=None, start="zero", profile=None):
+    return room.put(f"{name}.html", page_of(room, records, order, start, profile).encode())
 
 
 def text_of(page, selector):
@@ -246,7 +246,19 @@ def refused(tally, room, page):
     tally.want("complaints", page.complaints, [])
 
 
-PARTS = (loads, names, refused, several, filters, keyboard, mouse, many)
+def huge(tally, room, page):
+    """A request and a part that are longer than a browser has an exact number for."""
+    page.open(put(room, "huge", HUGE.records, "1 0 9223372036854775807\n2\n", HUGE.start, "wide"))
+    tally.want("the huge request", rows_of(page, "#table")[0], [
+        "1", "WRITE_ZEROES", "0", "9223372036854775807", "133 to 164", "165", "196", "1 (9 223 372 036 854 775 807 bytes at 0)", "success",
+        "the write that should have been returned"])
+    # 132 bytes, WRITE_ZEROES, its reply and a READ of 32 each, and a chunk of 32 and 8 before the byte 01.
+    tally.want("behind it in a sentence", text_of(page, "#link"), "READ #2 returned 01 for offset 9223372036854775806, at byte 269; "
+               "it should have been 00 of WRITE_ZEROES #1, entry 1 of the order.")
+    tally.want("complaints", page.complaints, [])
+
+
+PARTS = (loads, names, refused, several, huge, filters, keyboard, mouse, many)
 
 
 def run(tally):

@@ -3,7 +3,7 @@
 scripts round it: the build, the installation, the conversions of recordings and of captures, the pages of sessions, and the relay that records.
 
 The last line is `N passed, M failed`. With names as words, runs these parts alone: build, cases, commands, contexts, conversions,
-cuts, edits, explain, improper, install, lists, names, order, picture, picture_pages, readme, record, record_answers, record_programs,
+cuts, edits, explain, heads, improper, install, lists, names, order, picture, picture_pages, readme, record, record_answers, record_programs,
 refusals, search, sections, sizes, suites, texts, to_pcap.
 """
 
@@ -20,6 +20,7 @@ import test_conversions
 import test_cuts
 import test_edits
 import test_explain
+import test_heads
 import test_improper
 import test_install
 import test_lists
@@ -49,6 +50,7 @@ PARTS = {
     "cuts": test_cuts,
     "edits": test_edits,
     "explain": test_explain,
+    "heads": test_heads,
     "improper": test_improper,
     "install": test_install,
     "lists": test_lists,

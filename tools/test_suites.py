@@ -9,7 +9,8 @@ recorded/suites.tar.xz has their captures, and recorded/suites.tsv a line for ea
   wide, base                   the line that is wanted in each profile
   order                        the order of service; empty for that of arrival, `none` where the lines are those of `explain` without one
   whole, cut                   of a recording that breaks off in a message: how many bytes stand before it, and the line of these
-  today, why                   of a session whose wanted line is not the one of today: that line, and the reason
+  today, why                   of a session whose wanted line is not the one of today: that line, and the reason; where base is
+                               OutOfProfile it is the line of wide alone
 
 A wanted line is the one that the reader says, which is written from the rules and shares no code with the program; here both are asked.
 That of a session without an order is argued by hand: its WRITE was answered before its READ came, and the READ returned older bytes. Where
@@ -62,6 +63,12 @@ def first_line(told):
     return told._replace(out=told.out[: told.out.find(b"\n") + 1])
 
 
+def line_of_today(session, profile):
+    """The line that is asked for now."""
+    is_left_out = profile == "base" and session.base.endswith(": OutOfProfile")
+    return session.today if session.today and not is_left_out else getattr(session, profile)
+
+
 def asked(room, session, capture, order, profile):
     """What the program says of a session."""
     if session.order == SEARCHED:
@@ -73,12 +80,12 @@ def asked(room, session, capture, order, profile):
 def judged(tally, room, session, capture):
     """A session as it was recorded."""
     for profile in PROFILES:
-        name, wanted = f"{session.file}, {profile}", getattr(session, profile)
+        name, wanted, now = f"{session.file}, {profile}", getattr(session, profile), line_of_today(session, profile)
         order = order_of(session, wanted)
-        tally.want(name, asked(room, session, capture, order, profile), ended(session.today or wanted))
+        tally.want(name, asked(room, session, capture, order, profile), ended(now))
         if session.order != SEARCHED:
             found = served.line(records_of(capture), order, session.start, profile)
-            tally.want(f"{name}: a reader", found, f"{session.today or wanted}\n")
+            tally.want(f"{name}: a reader", found, f"{now}\n")
 
 
 def cut_off(tally, room, session, capture):

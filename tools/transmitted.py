@@ -9,12 +9,22 @@ from collections import namedtuple
 import negotiated
 from negotiated import Refused
 
+# Whether a BLOCK_STATUS with an extended header is followed while a context is in force, and whether one with a payload is, which says
+# which contexts it asks for: one that is not followed is OutOfProfile at its header, as the program has it so far.
+STATUS_FOLLOWED, FILTERS_FOLLOWED = False, False
+
 REQUEST_MAGIC, SIMPLE_MAGIC, CHUNK_MAGIC = 0x25609513, 0x67446698, 0x668E33EF
+EXTENDED_REQUEST_MAGIC, EXTENDED_CHUNK_MAGIC = 0x21E41C71, 0x6E8A278C
+# How many bytes each header has.
+HEADS = {REQUEST_MAGIC: 28, EXTENDED_REQUEST_MAGIC: 32, SIMPLE_MAGIC: 16, CHUNK_MAGIC: 20, EXTENDED_CHUNK_MAGIC: 32}
 READ, WRITE, DISC, FLUSH, TRIM, CACHE, WRITE_ZEROES, BLOCK_STATUS = range(8)
-NONE, OFFSET_DATA, OFFSET_HOLE, STATUS, ERROR, ERROR_OFFSET = 0, 1, 2, 5, 0x8001, 0x8002
+NONE, OFFSET_DATA, OFFSET_HOLE, STATUS, STATUS_EXT, ERROR, ERROR_OFFSET = 0, 1, 2, 5, 6, 0x8001, 0x8002
 READ_ONLY, SEND_FLUSH, SEND_FUA, SEND_TRIM, SEND_WRITE_ZEROES, SEND_DF, SEND_FAST_ZERO = 2, 4, 8, 32, 64, 128, 2048
-FUA, NO_HOLE, DF, REQ_ONE, FAST_ZERO = 1, 2, 4, 8, 16
+BLOCK_STATUS_PAYLOAD = 4096
+FUA, NO_HOLE, DF, REQ_ONE, FAST_ZERO, PAYLOAD_LEN = 1, 2, 4, 8, 16, 32
 DONE = 1
+# The longest payload behind an extended header.
+LONGEST = 2**32 - 1
 
 # Where and with what the session was refused (None: it was not), how many requests came, were answered, and were improper or
 # outside the block sizes; what the negotiation found, and the requests.
@@ -27,6 +37,8 @@ class Request:
     def __init__(self, flags, command, cookie, offset, length, data):
         self.flags, self.command, self.cookie, self.offset, self.length = flags, command, cookie, offset, length
         self.end, self.data = offset + length, data
+        # Of a BLOCK_STATUS whose payload says which contexts it asks for: their ids, each as often as it stands there.
+        self.ids = None
         self.chunks, self.has_failed, self.has_ended = 0, False, False
         # How many requests had come when its reply began, if it did.
         self.known = None
@@ -37,6 +49,14 @@ class Request:
         self.given, self.told = [], set()
         # The id and the extents of the first chunk, where that is a status.
         self.first = None
+
+    def narrow(self, ids, length):
+        """Its payload says that it asks for these, and that its range has this length."""
+        self.ids, self.length, self.end = ids, length, self.offset + length
+
+    def asked(self, contexts):
+        """The ids of those contexts in force that a BLOCK_STATUS asks for."""
+        return set(contexts) if self.ids is None else set(contexts) & set(self.ids)
 
     def holds(self, offset):
         return self.offset <= offset < self.end
@@ -62,7 +82,15 @@ def is_proper(request, found):
     known = {READ: DF if flags & SEND_DF else 0, BLOCK_STATUS: REQ_ONE,
              WRITE_ZEROES: NO_HOLE | (FAST_ZERO if flags & SEND_FAST_ZERO else 0)}.get(command, 0)
     known |= FUA if flags & SEND_FUA else 0
-    return fits and is_allowed and needed & ~flags == 0 and request.flags & ~known == 0
+    if found.extended and (command == WRITE or request.ids is not None):
+        known |= PAYLOAD_LEN
+    return fits and is_allowed and needed & ~flags == 0 and request.flags & ~known == 0 and asks_properly(request, found)
+
+
+def asks_properly(request, found):
+    """Whether a BLOCK_STATUS that says which contexts it asks for may do so, and each of them is in force and stands there once."""
+    ids = request.ids
+    return ids is None or found.flags & BLOCK_STATUS_PAYLOAD != 0 and set(ids) <= set(found.contexts) and len(set(ids)) == len(ids)
 
 
 def is_outside(request, found):
@@ -84,6 +112,22 @@ def cut_extents(payload):
     return (int.from_bytes(payload[:4], "big"), found) if all(length for length, _ in found) else None
 
 
+def cut_long_extents(payload):
+    """The same in a chunk with an extended header."""
+    count = int.from_bytes(payload[4:8], "big")
+    if count == 0 or len(payload) != 8 + 16 * count:
+        return None
+    found = list(struct.iter_unpack(">QQ", payload[8:]))
+    return (int.from_bytes(payload[:4], "big"), found) if all(length for length, _ in found) else None
+
+
+def cut_narrowed(payload):
+    """The ids, and the length of the range, in the payload of a BLOCK_STATUS; None where it does not have the form."""
+    if len(payload) < 8 or len(payload) % 4 != 0:
+        return None
+    return [number for (number,) in struct.iter_unpack(">I", payload[8:])], int.from_bytes(payload[:8], "big")
+
+
 class Side:
     """The bytes of one side behind its last message."""
 
@@ -98,7 +142,7 @@ class Reader:
         self.found, self.at, self.is_over, self.is_wide = found, found.behind, False, is_wide
         self.requests, self.outstanding = [], {}
         self.improper = self.answered = 0
-        self.client, self.server = Side(28), Side(4)
+        self.client, self.server = Side(HEADS[EXTENDED_REQUEST_MAGIC if found.extended else REQUEST_MAGIC]), Side(4)
         # How many requests had come when the server's message began, and the request that it answers.
         self.known, self.of = 0, None
 
@@ -124,39 +168,51 @@ class Reader:
 
     def request(self, one):
         """A client's message, or its head."""
-        magic, *fields, length = struct.unpack(">IHHQQI", one.bytes[:28])
-        request = Request(*fields, length, bytes(one.bytes[28:]))
-        if one.need == 28:
-            self.need(magic == REQUEST_MAGIC, "BadMagic")
-            if request.command == DISC:
-                self.need(request.offset == length == 0, "BadDisconnect")
-            elif request.command == WRITE and length:
-                one.need = 28 + length
+        is_extended = self.found.extended
+        magic, *fields, length = struct.unpack(">IHHQQQ" if is_extended else ">IHHQQI", one.bytes[: one.head])
+        request = Request(*fields, length, bytes(one.bytes[one.head :]))
+        if one.need == one.head:
+            self.need(magic == (EXTENDED_REQUEST_MAGIC if is_extended else REQUEST_MAGIC), "BadMagic")
+            has_payload = request.command == WRITE or is_extended and request.flags & PAYLOAD_LEN
+            self.need(self.is_followed(request) and (length <= LONGEST or not has_payload), "OutOfProfile")
+            self.need(request.command != DISC or request.offset == length == 0, "BadDisconnect")
+            if has_payload and length:
+                one.need += length
                 return
         if request.command == DISC:
             self.is_over = True
         else:
             self.need(request.cookie not in self.outstanding, "CookieInUse")
-            self.requests.append(request)
-            self.outstanding[request.cookie] = len(self.requests)
-            self.improper += not is_proper(request, self.found) or is_outside(request, self.found)
+            self.number(request)
         one.bytes.clear()
-        one.need = 28
+        one.need = one.head
+
+    def is_status(self, request):
+        """Whether a request is a BLOCK_STATUS with an extended header while a context is in force."""
+        return self.found.extended and self.found.contexts and request.command == BLOCK_STATUS
+
+    def is_followed(self, request):
+        is_narrowed = request.flags & PAYLOAD_LEN
+        return not self.is_status(request) or STATUS_FOLLOWED and (FILTERS_FOLLOWED or not is_narrowed)
+
+    def number(self, request):
+        """A request gets the next number."""
+        narrowed = cut_narrowed(request.data) if self.is_status(request) and request.flags & PAYLOAD_LEN else None
+        if narrowed is not None:
+            request.narrow(*narrowed)
+        self.requests.append(request)
+        self.outstanding[request.cookie] = len(self.requests)
+        self.improper += not is_proper(request, self.found) or is_outside(request, self.found)
 
     def reply(self, one):
         """A server's message, its head, or its magic number."""
         magic = int.from_bytes(one.bytes[:4], "big")
         if one.need == 4:
-            self.need(magic in (SIMPLE_MAGIC, CHUNK_MAGIC), "BadMagic")
-            one.need = 16 if magic == SIMPLE_MAGIC else 20
+            self.need(magic in ((EXTENDED_CHUNK_MAGIC,) if self.found.extended else (SIMPLE_MAGIC, CHUNK_MAGIC)), "BadMagic")
+            one.need = HEADS[magic]
             return
-        is_head = one.need == (16 if magic == SIMPLE_MAGIC else 20) and self.of is None
-        if is_head:
-            number = self.outstanding.get(int.from_bytes(one.bytes[8:16], "big"))
-            self.need(number is not None and number <= self.known, "UnknownCookie")
-            self.of = self.requests[number - 1]
-            self.of.known = self.known if self.of.known is None else self.of.known
-            more = self.simple_head(one.bytes) if magic == SIMPLE_MAGIC else self.chunk_head(one.bytes)
+        if one.need == HEADS[magic] and self.of is None:
+            more = self.reply_head(magic, one.bytes)
             if more:
                 one.need += more
                 return
@@ -164,6 +220,19 @@ class Reader:
         self.of = None
         one.bytes.clear()
         one.need = 4
+
+    def reply_head(self, magic, head):
+        """How many bytes stand behind the head of a server's message."""
+        length = int.from_bytes(head[24:32] if magic == EXTENDED_CHUNK_MAGIC else head[16:20], "big")
+        self.need(magic != EXTENDED_CHUNK_MAGIC or length <= LONGEST, "OutOfProfile")
+        number = self.outstanding.get(int.from_bytes(head[8:16], "big"))
+        self.need(number is not None and number <= self.known, "UnknownCookie")
+        self.of = self.requests[number - 1]
+        self.of.known = self.known if self.of.known is None else self.of.known
+        if magic == SIMPLE_MAGIC:
+            return self.simple_head(head)
+        self.need(self.found.structured, "ChunkForbidden")
+        return length
 
     def simple_head(self, head):
         """How many bytes stand behind the head."""
@@ -182,32 +251,40 @@ class Reader:
         self.of.has_failed |= not is_success
         self.end()
 
-    def chunk_head(self, head):
-        self.need(self.found.structured, "ChunkForbidden")
-        return int.from_bytes(head[16:20], "big")
-
     def chunk(self, message):
-        of, payload = self.of, message[20:]
+        of, is_extended = self.of, self.found.extended
         flags, kind = struct.unpack(">HH", message[4:8])
         is_last = flags & DONE == DONE
+        self.payload(kind, message[HEADS[EXTENDED_CHUNK_MAGIC if is_extended else CHUNK_MAGIC] :], is_last)
+        of.chunks += 1
+        if is_last and not of.has_failed:
+            self.success()
+        self.need(not is_extended or of.offset == int.from_bytes(message[16:24], "big"), "BadReplyOffset")
+        if is_last:
+            self.end()
+
+    def payload(self, kind, payload, is_last):
+        """The payload of a chunk of this type."""
         if kind == NONE:
             self.need(payload == b"" and is_last, "BadChunk")
         elif kind in (OFFSET_DATA, OFFSET_HOLE):
             self.content(kind, payload)
         elif kind in (ERROR, ERROR_OFFSET) or self.is_wide and kind >= 2**15:
             self.error(kind, payload)
-        elif kind == STATUS and self.found.contexts:
-            self.status(payload)
+        elif kind == STATUS and self.found.contexts and not self.found.extended:
+            self.status(cut_extents(payload))
+        elif kind == STATUS_EXT and self.found.contexts and self.found.extended and STATUS_FOLLOWED:
+            self.status(cut_long_extents(payload))
         else:
             self.need(False, "BadChunk")
-        of.chunks += 1
-        if is_last:
-            if not of.has_failed:
-                self.need(of.command != READ or of.is_covered(), "IncompleteRead")
-                self.need(is_proper(of, self.found), "SuccessOfImproper")
-                is_whole = of.told == set(self.found.contexts)
-                self.need(of.command != BLOCK_STATUS or of.length == 0 or is_whole, "IncompleteStatus")
-            self.end()
+
+    def success(self):
+        """A reply without an error chunk ends."""
+        of = self.of
+        self.need(of.command != READ or of.is_covered(), "IncompleteRead")
+        self.need(is_proper(of, self.found), "SuccessOfImproper")
+        is_whole = of.told == of.asked(self.found.contexts)
+        self.need(of.command != BLOCK_STATUS or of.length == 0 or is_whole, "IncompleteStatus")
 
     def content(self, kind, payload):
         of = self.of
@@ -229,13 +306,14 @@ class Reader:
             self.need(self.of.holds(int.from_bytes(payload[6 + text : 14 + text], "big")), "BadContent")
         self.of.has_failed = True
 
-    def status(self, payload):
-        of, found = self.of, cut_extents(payload)
+    def status(self, found):
+        """The id and the extents of a chunk; None where it does not have the form."""
+        of = self.of
         self.need(found is not None, "BadChunk")
         number, parts = found
         lengths = [length for length, _ in parts]
         self.need(of.command == BLOCK_STATUS, "BadContent")
-        self.need(number in self.found.contexts and number not in of.told, "BadContent")
+        self.need(number in of.asked(self.found.contexts) and number not in of.told, "BadContent")
         if of.length:
             self.need(sum(lengths[:-1]) < of.length, "BadContent")
             self.need(not of.flags & REQ_ONE or len(lengths) == 1 and lengths[0] <= of.length, "BadContent")

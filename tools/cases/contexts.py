@@ -355,10 +355,11 @@ OTHER_OPTIONS = [
     to_another("GO", GO, go_data(), 64),
     to_another("STRUCTURED_REPLY", STRUCTURED_REPLY, b"", 58),
     not_followed("STARTTLS", STARTTLS, "ACK", ack(STARTTLS)),
-    not_followed("EXTENDED_HEADERS", EXTENDED_HEADERS, "ACK", ack(EXTENDED_HEADERS)),
+    followed("EXTENDED_HEADERS is answered by ACK", FLAGS + [option(EXTENDED_HEADERS), ack(EXTENDED_HEADERS)], at(58), yes(0)),
     not_followed("an unknown option", 12, "ACK", ack(12)),
     not_followed("STARTTLS", STARTTLS, "a context", allocation(1, STARTTLS)),
-    not_followed("EXTENDED_HEADERS", EXTENDED_HEADERS, "a context", allocation(1, EXTENDED_HEADERS)),
+    followed("EXTENDED_HEADERS is answered by a context", FLAGS + [option(EXTENDED_HEADERS), allocation(1, EXTENDED_HEADERS)], at(58),
+             at(58, "BadReplyKind")),
     followed("STARTTLS and EXTENDED_HEADERS are refused", FLAGS + [
         option(STARTTLS), error(STARTTLS), option(EXTENDED_HEADERS), error(EXTENDED_HEADERS)], yes(0), yes(0)),
 ]

@@ -28,6 +28,7 @@ const messages = {
 };
 messages.last = messages.first.map((first, at) => first + data.messages.spans[at]);
 
+// A length is a number, or the text of one that is too large to be exact.
 const requests = {
   count: data.requests.commands.length,
   message: new Int32Array(data.requests.commands.length + 1).fill(-1),

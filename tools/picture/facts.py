@@ -53,7 +53,7 @@ def requests_data(requests):
     return {
         "commands": [request.command for request in requests],
         "offsets": [number(request.offset) for request in requests],
-        "lengths": [request.length for request in requests],
+        "lengths": [number(request.length) for request in requests],
         "results": "".join(str(request.result) for request in requests),
         "improper": [request.number for request in requests if request.is_improper],
         "lanes": [request.lane for request in requests],
@@ -64,7 +64,7 @@ def services_data(entries, requests, end):
     return {
         "requests": [entry.request for entry in entries],
         "offsets": [number(entry.offset) for entry in entries],
-        "lengths": [entry.length for entry in entries],
+        "lengths": [number(entry.length) for entry in entries],
         "at": moments(entries, requests, end),
     }
 

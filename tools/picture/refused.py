@@ -5,14 +5,15 @@ from collections import namedtuple
 
 from .places import SIDES, bytes_of
 
-SIMPLE_REPLY, CHUNK = 0x67446698, 0x668E33EF
+# The numbers with which replies begin; each has its cookie behind eight bytes.
+SIMPLE_REPLY, CHUNK, EXTENDED_CHUNK = 0x67446698, 0x668E33EF, 0x6E8A278C
 # Where a message's bytes stand, and the request that it replies to, or 0.
 Message = namedtuple("Message", "side first last request")
 
 
 def replied_to(session, side, data):
     """The number of the outstanding request that a reply's first bytes name."""
-    if side != "S" or len(data) < 16 or struct.unpack(">I", data[:4])[0] not in (SIMPLE_REPLY, CHUNK):
+    if side != "S" or len(data) < 16 or struct.unpack(">I", data[:4])[0] not in (SIMPLE_REPLY, CHUNK, EXTENDED_CHUNK):
         return 0
     request = session.outstanding.get(struct.unpack(">Q", data[8:16])[0])
     return request.number if request else 0

@@ -11,14 +11,15 @@ OFFSET_DATA, OFFSET_HOLE = 1, 2
 ERRORS = 0x8000
 PENDING, SUCCESS, FAILURE = range(3)
 # The bytes of each message without its payload.
-HEADS = {"greeting": 18, "client-flags": 4, "option": 16, "answer": 20, "export": 10, "request": 28, "simple": 16, "chunk": 20}
+HEADS = {"greeting": 18, "client-flags": 4, "option": 16, "answer": 20, "export": 10, "request": 28, "simple": 16, "chunk": 20,
+         "extended-request": 32, "extended-chunk": 32}
 PADDING = 124
 # The largest block size that is no limit.
 LIMITLESS = 2**32 - 1
 INFO, INFO_EXPORT, INFO_BLOCK_SIZE = 3, 0, 3
 READ_ONLY, SEND_FLUSH, SEND_FUA, SEND_TRIM, SEND_WRITE_ZEROES, SEND_DF, SEND_FAST_ZERO = (1 << at for at in (1, 2, 3, 5, 6, 7, 11))
-FUA, NO_HOLE, DF, REQ_ONE, FAST_ZERO = 1, 2, 4, 8, 16
-EXPORT_NAME, GO, STRUCTURED_REPLY, SET_META_CONTEXT = 1, 7, 8, 10
+FUA, NO_HOLE, DF, REQ_ONE, FAST_ZERO, PAYLOAD_LEN = 1, 2, 4, 8, 16, 32
+EXPORT_NAME, GO, STRUCTURED_REPLY, SET_META_CONTEXT, EXTENDED_HEADERS = 1, 7, 8, 10, 11
 ACK, META_CONTEXT = 1, 4
 
 
@@ -58,7 +59,7 @@ class Contexts:
             self.entered = data if option == EXPORT_NAME else name
 
     def _answered(self, option, kind):
-        if option == STRUCTURED_REPLY:
+        if option in (STRUCTURED_REPLY, EXTENDED_HEADERS):
             self.is_structured |= kind == ACK
         elif option == SET_META_CONTEXT:
             self.count += kind == META_CONTEXT
@@ -111,19 +112,21 @@ class Export:
         elif kind == "answer" and int(fields["kind"]) == INFO and len(payload) == 24 and int(payload[:4], 16) == INFO_EXPORT:
             self.size, self.flags = struct.unpack(">QH", bytes.fromhex(payload[4:].decode()))
 
-    def _allowed(self, command):
-        """The command flags that a request may have."""
+    def _allowed(self, command, is_extended):
+        """The command flags that a request may have, by whether its header is an extended one."""
         allowed = FUA if self.flags & SEND_FUA else 0
         if command == READ and self.flags & SEND_DF:
             allowed |= DF
+        if command == WRITE and is_extended:
+            allowed |= PAYLOAD_LEN
         if command == BLOCK_STATUS:
             allowed |= REQ_ONE
         if command == WRITE_ZEROES:
             allowed |= NO_HOLE | (FAST_ZERO if self.flags & SEND_FAST_ZERO else 0)
         return allowed
 
-    def is_improper(self, request):
-        """Whether the client should not have sent it: docs/PROFILE.md, "Requests" and "Block sizes"."""
+    def is_improper(self, request, is_extended):
+        """Whether the client should not have sent it: docs/PROFILE.md, "Requests", "Block sizes" and "Extended headers"."""
         command = request.command
         needed = {FLUSH: SEND_FLUSH, TRIM: SEND_TRIM, WRITE_ZEROES: SEND_WRITE_ZEROES}.get(command, 0)
         if command == FLUSH:
@@ -135,7 +138,7 @@ class Export:
         is_known |= command == BLOCK_STATUS and self.contexts.are_in_force()
         has_broken = self.sizes is not None and command != FLUSH and self.sizes.are_broken(request, self.contexts.is_structured)
         return bool(not is_known or is_beyond or may_not_change or needed & ~self.flags
-                    or request.flags & ~self._allowed(command) or has_broken)
+                    or request.flags & ~self._allowed(command, is_extended) or has_broken)
 
 
 class Session:
@@ -165,19 +168,19 @@ class Session:
         first, last = stream.place(begin), stream.place(begin + length - 1)
         self.export.told(kind, fields, payload)
         number = 0
-        if kind == "request":
-            number = self._request(fields, payload, first, last)
-        elif kind in ("simple", "chunk"):
+        if kind in ("request", "extended-request"):
+            number = self._request(kind, fields, payload, first, last)
+        elif kind in ("simple", "chunk", "extended-chunk"):
             number = self._reply(kind, fields, payload, first, last, begin + HEADS[kind])
         for column, value in zip((self.sides, self.firsts, self.lasts, self.numbers), (side, first, last, number)):
             column.append(value)
 
-    def _request(self, fields, payload, first, last):
+    def _request(self, kind, fields, payload, first, last):
         command, flags, offset, length = (int(fields[name]) for name in ("command", "flags", "offset", "length"))
         if command == DISC:
             return 0
         request = Request(len(self.requests) + 1, command, flags, offset, length, first, last)
-        request.is_improper = self.export.is_improper(request)
+        request.is_improper = self.export.is_improper(request, kind == "extended-request")
         if command == WRITE and self.offset is not None and request.holds(self.offset):
             at = self.offset - offset
             request.byte = payload[2 * at : 2 * at + 2].decode()
@@ -204,13 +207,13 @@ class Session:
 
     def _content(self, request, kind, of, payload, begin):
         """The byte of the offset in question, where this piece of a reply has it."""
-        base, front = request.offset, 0
-        if kind == "chunk":
+        base, front, is_chunk = request.offset, 0, kind != "simple"
+        if is_chunk:
             if of not in (OFFSET_DATA, OFFSET_HOLE):
                 return
             base, front = int(payload[:16], 16), 8
         at = self.offset - base
-        if at >= 0 and kind == "chunk" and of == OFFSET_HOLE:
+        if at >= 0 and is_chunk and of == OFFSET_HOLE:
             if at < int(payload[16:24], 16):
                 request.byte, request.place = "00", self.places.streams["S"].place(begin + len(payload) // 2 - 1)
         elif 0 <= at < len(payload) // 2 - front:
