@@ -1,4 +1,4 @@
-use Rattle.std.proofs.Common.{arith, sym, ◌∙◌}
+use Rattle.std.proofs.Common.{arith, rules, sym, ◌∙◌}
 use Rattle.nbd_wire.proofs.NumberLemmas.{AreBytes-from_places}
 use Rattle.nbd_session.proofs.expecting.HeadLemmas.{whole_front}
 use Rattle.nbd_session.proofs.expecting.OptionLemmas.{good_choice, no_choice}
@@ -16,3 +16,6 @@ returns-in-Some-clause-expected c = λ now payload.
     let head = c.args.head.now in
     let b = AreBytes-from_places head (λ i. omega (arith, c.type_inv.head i)) in
     good_choice head payload c.in-Some.head now c.requires (sym c.in-Some.is ∙ leading_choice-is c.choice_head.result head head (whole_front 16 head b c.requires) c.choice_head.ensures)
+
+pub returns-in-None-clause-expected : goal.returns-in-None-clause-expected
+returns-in-None-clause-expected c = search rules

@@ -1,4 +1,4 @@
-use Rattle.std.proofs.Common.{arith, sym, ◌∙◌}
+use Rattle.std.proofs.Common.{arith, rules, sym, ◌∙◌}
 use Rattle.nbd_wire.proofs.NumberLemmas.{AreBytes-from_places}
 use Rattle.nbd_session.proofs.expecting.RequestLemmas.{bad_request, beyond_request, good_request, no_request}
 use Rattle.nbd_session.proofs.requests.request.Goals as goal
@@ -22,3 +22,6 @@ returns-clause-expected c = λ now payload s.
     let b = AreBytes-from_places c.args.head.now (λ i. omega (arith, c.type_inv.head i)) in
     good_request c.args.state.now.extended now (sym s.extended_is) c.args.head.now payload c.in-Some.head b c.requires (sym c.in-Some.is ∙ c.read_head.ensures)
     (sym (c.is_beyond.ensures now s) ∙ c.if-is_beyond.false) (sym c.is_bad_disconnect.ensures ∙ c.if-is_bad_disconnect.false)
+
+pub returns-clause-refused : goal.returns-clause-refused
+returns-clause-refused c = search rules
