@@ -1,4 +1,4 @@
-use Rattle.std.proofs.Common.{sym, ◌∙◌, subst, arith, refl}
+use Rattle.std.proofs.Common.{sym, ◌∙◌, subst, arith, refl, rules}
 use Rattle.std.specs.Io.BufRead.{FillKeeps}
 use Rattle.nbd_capture.specs.internal.Kept.{kept}
 use Rattle.nbd_capture.proofs.PieceLemmas.{some_left, takes_last, takes_part}
@@ -23,3 +23,9 @@ returns-else-ends g c =
     takes_part _ _ (g.R.Read.remaining rested) (g.R.BufRead.consumable_len rested) c.in-Ok.shown.now c.min.result c.in_ok-read.read (kept c.args.self.now.line c.args.bytes.now.items) (kept c.add_line.new.self c.add_line.new.bytes.items)
     (record { front = c.in-Ok.ensures.front; end = c.in-Ok.ensures.end; kept = filled.0; fits = filled.1; drops = c.consume.ensures.bytes })
     (omega (arith, size)) (omega (arith, size)) added (some_left _ (sym c.if-is_empty-2.false ∙ c.is_empty-2.ensures)) refl refl
+
+pub returns-then-is_empty-2 : goal.returns-then-is_empty-2
+returns-then-is_empty-2 g c = search rules
+
+pub returns-in_err-read : goal.returns-in_err-read
+returns-in_err-read g c = search rules
