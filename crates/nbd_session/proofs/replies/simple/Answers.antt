@@ -1,4 +1,4 @@
-use Rattle.std.proofs.Common.{◌≡◌, sym, ◌∙◌, ap, slice_get, Some}
+use Rattle.std.proofs.Common.{◌≡◌, sym, ◌∙◌, ap, slice_get, Some, rules}
 use Rattle.std.specs.Option.{option_copied}
 use Rattle.nbd_session.proofs.expecting.ReplyLemmas.{forbidden_of, simple_is}
 use Rattle.nbd_session.proofs.parsing.ShownOperationLemmas.{copied_at}
@@ -19,3 +19,6 @@ returns-then-is_simple_forbidden-clause-refused c = λ core export s p.
     ap (λ xs. slice_get xs place) (sym c.deref.ensures.value) ∙ sym (copied_at c.deref.result.now place c.get.result c.get.ensures.lookup) ∙ ap option_copied c.in-Some-get.is in
     forbidden_of export core c.args.counted place c.args.state.now.exchanges.items c.in-Some-get.exchange.now stands s.asked_with c.args.head (c.in-Some.ensures core export s p)
     (sym (c.is_simple_forbidden.ensures core s) ∙ c.if-is_simple_forbidden.true)
+
+pub returns-then-is_simple_forbidden-clause-expected : goal.returns-then-is_simple_forbidden-clause-expected
+returns-then-is_simple_forbidden-clause-expected c = search rules

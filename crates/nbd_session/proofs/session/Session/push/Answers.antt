@@ -1,3 +1,4 @@
+use Rattle.std.proofs.Common.{rules}
 use Rattle.nbd_session.proofs.judge.BeginningLemmas.{adds_nothing}
 use Rattle.nbd_session.proofs.judge.RefusalLemmas.{refuses, refuses_again, stands_exactly, stands_placeless, stands_under_way}
 use Rattle.nbd_session.proofs.session.Session.push.Goals as goal
@@ -20,3 +21,24 @@ returns-clause-placeless c = stands_placeless c.push.new.self c.self.inside.clos
 
 pub returns-clause-under_way : goal.returns-clause-under_way
 returns-clause-under_way c = stands_under_way c.push.new.self c.self.inside.closed c.in_default-push.ensures.stands
+
+pub invariant_of-self : goal.invariant_of-self
+invariant_of-self c = c.in-Err.ensures.refused.shut
+
+pub returns-in-Err-clause-refused : goal.returns-in-Err-clause-refused
+returns-in-Err-clause-refused c = search rules
+
+pub returns-in-Err-clause-closed : goal.returns-in-Err-clause-closed
+returns-in-Err-clause-closed c = search rules
+
+pub push-requires-clause-stands : goal.push-requires-clause-stands
+push-requires-clause-stands c = search rules
+
+pub returns-clause-open : goal.returns-clause-open
+returns-clause-open c = search rules
+
+pub returns-clause-closed : goal.returns-clause-closed
+returns-clause-closed c = search rules
+
+pub returns-in-Err-clause-at : goal.returns-in-Err-clause-at
+returns-in-Err-clause-at c = search rules
