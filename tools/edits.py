@@ -35,6 +35,8 @@ KIT = Path(shutil.which("rt") or sys.exit("rt is not installed")).resolve().pare
 # A line in which a function begins, and one in which what is implemented for a type does.
 FUNCTION = re.compile(r"( *)(?:pub(?:\(\w+\))? )?(?:const )?fn (\w+)")
 IMPL = re.compile(r"impl(?:<.*?>)? (?:(?:\w+::)*(\w+)(?:<(\w+).*>)? for )?(\w+)")
+# A slice, as the prover writes it in a name.
+SLICE = re.compile(r"&\[(\w+)\]")
 # What is said of a proof that names what an edit took away, which says nothing of the contract.
 NAMES = re.compile("has no field|is not in scope|has no `|was not admitted")
 
@@ -93,7 +95,8 @@ def function_at(lines, place):
         end = next((it for it in rest if it > body and lines[it] == margin + "}"), body)
         if not body < place <= end:
             return None
-        headers = (IMPL.match(lines[it]) for it in range(top, -1, -1) if lines[it].startswith(("impl", "}")))
+        named = (SLICE.sub(lambda found: "RefSlice" + found[1].capitalize(), lines[it]) for it in range(top, -1, -1))
+        headers = (IMPL.match(it) for it in named if it.startswith(("impl", "}")))
         of = next(headers, None) if margin else None
         # (of a trait's impl the prover writes the names as one)
         return ("".join(it or "" for it in (of[3], of[1], of[2])) if of else "", name), (top, end)
