@@ -7,7 +7,7 @@ import struct
 import negotiated
 import transmitted
 from messages import (
-    ACK, BLOCK_STATUS, CLIENT, DISC, DONE, ERROR, EXPORT_NAME, EXTENDED_HEADERS, NONE, OFFSET_DATA, PAYLOAD_LEN, READ, SERVER, STATUS,
+    ACK, CLIENT, DISC, DONE, ERROR, EXPORT_NAME, EXTENDED_HEADERS, NONE, OFFSET_DATA, PAYLOAD_LEN, READ, SERVER, STATUS,
     STATUS_EXT, STRUCTURED_REPLY, WRITE, answer, extended_chunk, extended_extents, extended_request, front, option,
 )
 
@@ -23,12 +23,10 @@ def can_be_extended(records):
 
 
 def says_the_same(records):
-    """Whether such a session has the same line with extended headers: structured replies are in force, what it asks is followed with
-    extended headers, and no request has the flag that says of its length what it is there."""
+    """Whether such a session has the same line with extended headers: structured replies are in force, and no request has the flag that
+    says of its length what it is there."""
     told = transmitted.judge(records, "wide")
-    has_status = told.found.contexts and any(one.command == BLOCK_STATUS for one in told.sent)
-    is_followed = transmitted.STATUS_FOLLOWED or not has_status
-    return told.found.structured and is_followed and not any(one.flags & PAYLOAD_LEN for one in told.sent)
+    return told.found.structured and not any(one.flags & PAYLOAD_LEN for one in told.sent)
 
 
 class Transmission:

@@ -55,6 +55,11 @@ def extended_session(*messages):
     return extended.BEGUN + extended.spoken(messages)
 
 
+def filtered(*messages):
+    """A session with extended headers and two contexts: 304 bytes before these messages."""
+    return extended.TWO_CONTEXTS + extended.spoken(messages)
+
+
 WIRE = {
     "bad-magic": Session([(SERVER, b"NBDMAGICIHAVEOPX\0\3")]),
     "bad-magic-of-a-reply": Session([*ASKED, (SERVER, b"\xde\xad\xbe\xef" + bytes(12))]),
@@ -74,7 +79,8 @@ WIRE = {
     "out-of-profile-of-tls-in-wide": Session([*HELLO, option(5), answer(5, 1)], profile="wide"),
     "out-of-profile-of-a-long-payload": Session(extended_session(extended.asked(TRIM, 1, 0, 2**32, PAYLOAD_LEN)), profile="wide"),
     "out-of-profile-of-a-long-chunk": Session(extended_session(extended.reads(1, 0, 1), extended.head_of(1, 2**32)), profile="wide"),
-    "out-of-profile-of-a-status": Session([*extended.ONE_CONTEXT, extended.asks(1, 0, 8)], profile="wide"),
+    "bad-content-of-a-status-not-asked": Session(filtered(extended.SECOND, extended.WHOLE_FIRST), profile="wide"),
+    "incomplete-status-of-a-filter": Session(filtered(extended.BOTH, extended.WHOLE_FIRST), profile="wide"),
     "bad-magic-without-an-extended-header": Session(extended_session(read(1, 0, 1), (CLIENT, bytes(4))), profile="wide"),
     "bad-magic-of-a-reply-without-an-extended-header": Session(extended_session(extended.reads(1, 0, 1), simple(1)), profile="wide"),
     "bad-reply-offset": Session(extended_session(extended.reads(1, 4, 1), extended.gives_last(1, 4, b"\0", of=0)), profile="wide"),
@@ -166,6 +172,12 @@ JUDGED = {
     "improper-with-a-payload": Session(extended_session(
         extended.carries(READ, 1, 0, b"\xab\xcd"), extended.fails(1), extended.reads(2, 4, 1), extended.gives_last(2, 4, b"\0")), "1\n2\n",
         profile="wide"),
+    "improper-filters": Session(filtered(
+        extended.TWICE, extended.fails(1), extended.UNKNOWN, extended.fails(1), extended.carries(BLOCK_STATUS, 1, 0, bytes(9)),
+        extended.fails(1), extended.carries(BLOCK_STATUS, 1, 0, bytes(4)), extended.fails(1), extended.NONE_ASKED, extended.ends(1)),
+        "1\n2\n3\n4\n5\n", profile="wide"),
+    "improper-filter-that-is-not-offered": Session(
+        [*extended.NOT_OFFERED, *extended.spoken([extended.FIRST, extended.fails(1)])], "1\n", profile="wide"),
     "content-of-many-bytes": Session(PIECED, "1\n2\n3\n4\n5\n"),
     "content-of-many-bytes-in-part": Session(PIECED, "1\n2\n3\n4\n5 20 11\n5 1 19\n"),
     "yes": Session(WRITTEN, "1\n2\n"),
@@ -455,8 +467,8 @@ WIDE_REASONS = [
     (announced(1024, 512, 1024), "the preferred block size is below the least"),
     (announced(1, 512, 0), "the largest block size is 0"),
     ([*GO, sizes(1, 512, 0)], "the largest block size is 0"),
-    (extended_session(extended.TRIM_CARRIES, extended.ends(1)), "it carries PAYLOAD_LEN, which only a WRITE may"),
-    (extended_session(extended.carries(TRIM, 1, 0, b""), extended.ends(1)), "it carries PAYLOAD_LEN, which only a WRITE may"),
+    (extended_session(extended.TRIM_CARRIES, extended.ends(1)), "it carries PAYLOAD_LEN, which only a WRITE and a BLOCK_STATUS may"),
+    (extended_session(extended.carries(TRIM, 1, 0, b""), extended.ends(1)), "it carries PAYLOAD_LEN, which only a WRITE and a BLOCK_STATUS may"),
     (extended_session(extended.carries(WRITE, 1, 0, b"\1", 2**15), extended.ends(1)),
      "it carries a flag that is none of FUA, NO_HOLE, DF, REQ_ONE and FAST_ZERO"),
     (extended_session(extended.asked(TRIM, 1, 0, 2**64 - 1), extended.ends(1)),
@@ -466,9 +478,9 @@ WIDE_REASONS = [
     (extended_session(extended.reads(1, 0, 8), extended.gives(1, 0, b"\0"), extended.zeroes(1, 1, 1)._replace(offset=2**64 - 1)),
      f"its header has offset {2**64 - 1}, that of its request is 0"),
     (extended_session(extended.asks(1, 0, 8), extended.Reply(1, STATUS, struct.pack(">III", 1, 8, 3), DONE, None)),
-     "with an extended header nbdcheck knows no chunk of its type"),
+     "with an extended header a status is of type BLOCK_STATUS_EXT"),
     (extended_session(extended.asks(1, 0, 8), extended.tells_last(1, 1, (8, 3))),
-     "its type is none of NONE, OFFSET_DATA, OFFSET_HOLE, ERROR and ERROR_OFFSET"),
+     "it gives a status, and no metadata context is in force"),
     (extended_session(extended.reads(1, 0, 8), extended.Reply(1, OFFSET_HOLE, bytes(15) + b"\x08", DONE, None)),
      "the payload of a hole has 12 bytes, an offset and a size"),
 ]

@@ -46,7 +46,6 @@ APART = {
     ("abort_fault BadReplyKind", "ack_fault BadReplyPayload"): "one is of no ACK, the other of an ACK",
     ("request_fault BadDisconnect", "cookie_fault CookieInUse"): "one is of a DISC, the other of no DISC",
     ("simple_fault UnknownCookie", "simple_fault SimpleForbidden"): "one is of no request, the other of a request",
-    ("finish_fault IncompleteStatus", "offset_fault BadReplyOffset"): "with an extended header there is no status",
 }
 # The first line of a list behind another where the reply to a request can have no hit of an earlier one.
 FIRST = {("piece_fault", "finish_fault"): 0, ("status_fault", "finish_fault"): 1, ("none_fault", "finish_fault"): 0}

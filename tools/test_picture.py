@@ -34,7 +34,7 @@ FIRST, SECOND = cut(write(2, 4, b"wxyz"), 10)
 # Ten bytes of a WRITE, the reply to the READ before it, and the WRITE's other 22 bytes.
 MIXED = [*begun(), read(1, 0, 4), FIRST, simple(1, bytes(4)), SECOND, simple(2)]
 # Sessions with extended headers, and one of them whose first request has all of the largest export.
-EXTENDED = {told.name.removeprefix("extended headers: "): told for told in extended.FOLLOWED}
+EXTENDED = {told.name.removeprefix("extended headers: "): told for told in extended.TABLE}
 HUGE = EXTENDED["all of the largest export is zeroed, and its last byte is wrong"]
 
 

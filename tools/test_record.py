@@ -11,7 +11,7 @@ import tempfile
 import threading
 
 from built import Tally
-from messages import begun, read, request, simple, write
+from messages import BLOCK_STATUS, DISC, PAYLOAD_LEN, TRIM, WRITE, begun, extended_request, read, request, simple, write
 from recorded_ends import CLIENT, SERVER, Ends, Tool, all_of, bytes_of, player, runs_of
 from recorder import captures
 
@@ -245,8 +245,15 @@ def counts(tally, _):
     """Requests are counted at their last bytes, however they are cut."""
     sent = b"".join(data for side, data in GOOD if side == CLIENT)
     large = b"".join(data for _, data in (write(3, 0, bytes(5000)), read(4, 0, 1), request(2, 5, 0, 0)))
+    # A WRITE without PAYLOAD_LEN, a WRITE and a BLOCK_STATUS with it, a TRIM of 2^40 bytes, and DISC.
+    long = b"".join(data for _, data in (
+        extended_request(WRITE, 1, 0, 300, bytes(300)), extended_request(WRITE, 2, 0, 7, bytes(7), flags=PAYLOAD_LEN),
+        extended_request(BLOCK_STATUS, 3, 0, 12, bytes(12), flags=PAYLOAD_LEN), extended_request(TRIM, 4, 0, 2**40),
+        extended_request(DISC, 5, 0, 0)))
+    options = b"".join(data for side, data in begun() if side == CLIENT)
     for name, data, wanted in (("a session", sent, 2), ("a large WRITE", sent + large, 4), ("in a WRITE", sent + large[:-57], 2),
-                               ("its end", sent + large[:-56], 3), ("nothing", b"", 0)):
+                               ("its end", sent + large[:-56], 3), ("nothing", b"", 0), ("extended headers", options + long, 4),
+                               ("in a filter", options + long[:-65], 2)):
         for size in (1, 7, 4096, len(data) + 1):
             count = captures.Requests()
             for at in range(0, len(data), size):
@@ -255,6 +262,10 @@ def counts(tally, _):
     count = captures.Requests()
     count.feed(sent + b"\x16\x03\x01" + bytes(99))
     tally.want("requests before other bytes", (count.count, count.is_sure), (2, False))
+    for name, data in (("another head", sent + long[:32]), ("a shorter head", options + long + 2 * large[-28:])):
+        count = captures.Requests()
+        count.feed(data)
+        tally.want(f"{name}: not sure", count.is_sure, False)
 
 
 def on_a_terminal(tally, folder):

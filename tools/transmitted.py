@@ -9,10 +9,6 @@ from collections import namedtuple
 import negotiated
 from negotiated import Refused
 
-# Whether a BLOCK_STATUS with an extended header is followed while a context is in force, and whether one with a payload is, which says
-# which contexts it asks for: one that is not followed is OutOfProfile at its header, as the program has it so far.
-STATUS_FOLLOWED, FILTERS_FOLLOWED = False, False
-
 REQUEST_MAGIC, SIMPLE_MAGIC, CHUNK_MAGIC = 0x25609513, 0x67446698, 0x668E33EF
 EXTENDED_REQUEST_MAGIC, EXTENDED_CHUNK_MAGIC = 0x21E41C71, 0x6E8A278C
 # How many bytes each header has.
@@ -174,7 +170,7 @@ class Reader:
         if one.need == one.head:
             self.need(magic == (EXTENDED_REQUEST_MAGIC if is_extended else REQUEST_MAGIC), "BadMagic")
             has_payload = request.command == WRITE or is_extended and request.flags & PAYLOAD_LEN
-            self.need(self.is_followed(request) and (length <= LONGEST or not has_payload), "OutOfProfile")
+            self.need(length <= LONGEST or not has_payload, "OutOfProfile")
             self.need(request.command != DISC or request.offset == length == 0, "BadDisconnect")
             if has_payload and length:
                 one.need += length
@@ -190,10 +186,6 @@ class Reader:
     def is_status(self, request):
         """Whether a request is a BLOCK_STATUS with an extended header while a context is in force."""
         return self.found.extended and self.found.contexts and request.command == BLOCK_STATUS
-
-    def is_followed(self, request):
-        is_narrowed = request.flags & PAYLOAD_LEN
-        return not self.is_status(request) or STATUS_FOLLOWED and (FILTERS_FOLLOWED or not is_narrowed)
 
     def number(self, request):
         """A request gets the next number."""
@@ -273,7 +265,7 @@ class Reader:
             self.error(kind, payload)
         elif kind == STATUS and self.found.contexts and not self.found.extended:
             self.status(cut_extents(payload))
-        elif kind == STATUS_EXT and self.found.contexts and self.found.extended and STATUS_FOLLOWED:
+        elif kind == STATUS_EXT and self.found.contexts and self.found.extended:
             self.status(cut_long_extents(payload))
         else:
             self.need(False, "BadChunk")

@@ -2,8 +2,7 @@
 said.
 
 In `base` no answer to EXTENDED_HEADERS but an error is followed. In `wide` its ACK puts extended headers in force, and with them
-structured replies: each request, and each chunk, has a header of 32 bytes. transmitted.py says which BLOCK_STATUS is not followed so far:
-it is refused at its header, which is where the sessions of STATUSES and of FILTERS are refused then.
+structured replies: each request, and each chunk, has a header of 32 bytes.
 """
 
 import struct
@@ -22,7 +21,6 @@ from messages import (
     STARTTLS, STATUS, STATUS_EXT, STRUCTURED_REPLY, TRIM, WRITE, WRITE_ZEROES, answer, chunk, context, done, extended_chunk,
     extended_extents, extended_request, failed, option, read, request, simple, text,
 )
-from transmitted import FILTERS_FOLLOWED, STATUS_FOLLOWED
 
 # The longest length, the longest length of 32 bits, and the size of the largest export.
 MOST, SHORT, LARGEST = LAST, LENGTH, 2**63 - 1
@@ -444,26 +442,8 @@ FILTERS = [
 ]
 
 
-def so_far(told):
-    """The session where its BLOCK_STATUS is not followed: it is refused at the header of the first one."""
-    begin = 0
-    for _, data in told.records:
-        if data[:4] == REQUEST and data[6:8] == BLOCK_STATUS.to_bytes(2, "big"):
-            return told._replace(name=f"{told.name}, so far", wide=at(begin + 32))
-        begin += len(data)
-    raise ValueError(told.name)
-
-
-FOLLOWED = NEGOTIATIONS + HEADERS + OFFSETS + WRITES + WITHOUT + PAYLOADS + LENGTHS + RANGES + SIZES + MORE + NO_STATUSES
-
-
-def table(has_statuses, has_filters):
-    """The sessions: by whether a BLOCK_STATUS is followed while a context is in force, and whether one is that asks for some contexts."""
-    statuses = STATUSES if has_statuses else list(map(so_far, STATUSES))
-    return FOLLOWED + statuses + (FILTERS if has_statuses and has_filters else list(map(so_far, FILTERS)))
-
-
-TABLE = table(STATUS_FOLLOWED, FILTERS_FOLLOWED)
+TABLE = (NEGOTIATIONS + HEADERS + OFFSETS + WRITES + WITHOUT + PAYLOADS + LENGTHS + RANGES + SIZES + MORE + NO_STATUSES + STATUSES
+         + FILTERS)
 CASES = [case for told in TABLE for case in cases(told)]
 
 READ_LINE = "C extended-request flags=0 command=0 cookie=1 offset=0 length=1 payload=\n"
@@ -508,8 +488,8 @@ STATUS_MIXED = [asks(1, 0, 8), tells(1, 2, (1, 1), (7, 0)), asks(2, 0, 4, REQ_ON
                 tells_last(2, 2, (2, 0))]
 FILTER_MIXED = [FIRST, filters(2, 4, 4, 2, 1), tells(2, 1, (MOST, 3)), tells_last(1, 1, (8, 2)), tells_last(2, 2, (2, 0)),
                 filters(1, 0, 8, 2, 2), tells(1, 2, (8, 0)), fails(1)]
-ALL_MIXED = MIXED + STATUS_MIXED * STATUS_FOLLOWED + FILTER_MIXED * FILTERS_FOLLOWED
-DAMAGED = (TWO_CONTEXTS if STATUS_FOLLOWED else BEGUN) + spoken([*ALL_MIXED, asked(DISC, 9, 0, 0, PAYLOAD_LEN)])
+ALL_MIXED = MIXED + STATUS_MIXED + FILTER_MIXED
+DAMAGED = TWO_CONTEXTS + spoken([*ALL_MIXED, asked(DISC, 9, 0, 0, PAYLOAD_LEN)])
 DAMAGED_ORDER = upto(sum(record[0] == CLIENT for record in spoken(ALL_MIXED)))
 
 # Messages, and their bytes by hand.
@@ -610,4 +590,4 @@ PLACES = {
     "some contexts, a range of no bytes": (348, 380),
     "some contexts, two extents, though one is asked for": (348, 420),
 }
-ENDS = {f"extended headers: {name}{behind}": places for name, places in PLACES.items() for behind in ("", ", so far")}
+ENDS = {f"extended headers: {name}": places for name, places in PLACES.items()}

@@ -18,6 +18,7 @@ PADDING = 124
 LIMITLESS = 2**32 - 1
 INFO, INFO_EXPORT, INFO_BLOCK_SIZE = 3, 0, 3
 READ_ONLY, SEND_FLUSH, SEND_FUA, SEND_TRIM, SEND_WRITE_ZEROES, SEND_DF, SEND_FAST_ZERO = (1 << at for at in (1, 2, 3, 5, 6, 7, 11))
+BLOCK_STATUS_PAYLOAD = 1 << 12
 FUA, NO_HOLE, DF, REQ_ONE, FAST_ZERO, PAYLOAD_LEN = 1, 2, 4, 8, 16, 32
 EXPORT_NAME, GO, STRUCTURED_REPLY, SET_META_CONTEXT, EXTENDED_HEADERS = 1, 7, 8, 10, 11
 ACK, META_CONTEXT = 1, 4
@@ -41,7 +42,7 @@ class Contexts:
     """The metadata contexts that were selected, and the names of exports: docs/PROFILE.md, "Metadata contexts"."""
 
     def __init__(self):
-        self.is_structured, self.is_granted, self.count = False, False, 0
+        self.is_structured, self.is_granted, self.ids = False, False, set()
         # The export of the selection, and the one that was entered last.
         self.selected, self.entered = None, None
 
@@ -49,24 +50,25 @@ class Contexts:
         if kind == "option":
             self._chosen(int(fields["id"]), bytes.fromhex(payload.decode()))
         elif kind == "answer":
-            self._answered(int(fields["option"]), int(fields["kind"]))
+            self._answered(int(fields["option"]), int(fields["kind"]), payload)
 
     def _chosen(self, option, data):
         name = data[4 : 4 + int.from_bytes(data[:4], "big")]
         if option == SET_META_CONTEXT:
-            self.selected, self.is_granted, self.count = name, False, 0
+            self.selected, self.is_granted, self.ids = name, False, set()
         elif option in (EXPORT_NAME, GO):
             self.entered = data if option == EXPORT_NAME else name
 
-    def _answered(self, option, kind):
+    def _answered(self, option, kind, payload):
         if option in (STRUCTURED_REPLY, EXTENDED_HEADERS):
             self.is_structured |= kind == ACK
         elif option == SET_META_CONTEXT:
-            self.count += kind == META_CONTEXT
+            if kind == META_CONTEXT:
+                self.ids.add(int(payload[:8], 16))
             self.is_granted |= kind == ACK
 
     def are_in_force(self):
-        return self.is_structured and self.is_granted and self.count > 0 and self.selected == self.entered
+        return self.is_structured and self.is_granted and bool(self.ids) and self.selected == self.entered
 
 
 class Sizes:
@@ -112,21 +114,32 @@ class Export:
         elif kind == "answer" and int(fields["kind"]) == INFO and len(payload) == 24 and int(payload[:4], 16) == INFO_EXPORT:
             self.size, self.flags = struct.unpack(">QH", bytes.fromhex(payload[4:].decode()))
 
-    def _allowed(self, command, is_extended):
-        """The command flags that a request may have, by whether its header is an extended one."""
-        allowed = FUA if self.flags & SEND_FUA else 0
+    def _allowed(self, command, may_carry):
+        """The command flags that a request may have, by whether PAYLOAD_LEN is one."""
+        allowed = PAYLOAD_LEN if may_carry else 0
+        allowed |= FUA if self.flags & SEND_FUA else 0
         if command == READ and self.flags & SEND_DF:
             allowed |= DF
-        if command == WRITE and is_extended:
-            allowed |= PAYLOAD_LEN
         if command == BLOCK_STATUS:
             allowed |= REQ_ONE
         if command == WRITE_ZEROES:
             allowed |= NO_HOLE | (FAST_ZERO if self.flags & SEND_FAST_ZERO else 0)
         return allowed
 
-    def is_improper(self, request, is_extended):
-        """Whether the client should not have sent it: docs/PROFILE.md, "Requests", "Block sizes" and "Extended headers"."""
+    def _takes(self, ids):
+        """Whether a client may send a filter with these ids."""
+        return self.flags & BLOCK_STATUS_PAYLOAD and len(set(ids)) == len(ids) and self.contexts.ids.issuperset(ids)
+
+    def filter_in(self, request, is_extended, payload):
+        """The length of the range and the ids in the payload of a BLOCK_STATUS that has a filter: docs/PROFILE.md, "Extended headers"."""
+        may_have = is_extended and request.command == BLOCK_STATUS and request.flags & PAYLOAD_LEN and self.contexts.are_in_force()
+        if not may_have or len(payload) < 16 or len(payload) % 8 != 0:
+            return None
+        return int(payload[:16], 16), [int(payload[at : at + 8], 16) for at in range(16, len(payload), 8)]
+
+    def is_improper(self, request, is_extended, ids):
+        """Whether the client should not have sent it, with the ids in its filter, if it has one: docs/PROFILE.md, "Requests", "Block sizes"
+        and "Extended headers"."""
         command = request.command
         needed = {FLUSH: SEND_FLUSH, TRIM: SEND_TRIM, WRITE_ZEROES: SEND_WRITE_ZEROES}.get(command, 0)
         if command == FLUSH:
@@ -134,11 +147,12 @@ class Export:
         else:
             is_beyond = request.offset + request.length > self.size
         may_not_change = command in (WRITE, TRIM, WRITE_ZEROES) and self.flags & READ_ONLY
+        may_carry = is_extended and command == WRITE or ids is not None and self._takes(ids)
         is_known = command in (READ, WRITE, FLUSH, TRIM, CACHE, WRITE_ZEROES)
         is_known |= command == BLOCK_STATUS and self.contexts.are_in_force()
         has_broken = self.sizes is not None and command != FLUSH and self.sizes.are_broken(request, self.contexts.is_structured)
         return bool(not is_known or is_beyond or may_not_change or needed & ~self.flags
-                    or request.flags & ~self._allowed(command, is_extended) or has_broken)
+                    or request.flags & ~self._allowed(command, may_carry) or has_broken)
 
 
 class Session:
@@ -180,7 +194,11 @@ class Session:
         if command == DISC:
             return 0
         request = Request(len(self.requests) + 1, command, flags, offset, length, first, last)
-        request.is_improper = self.export.is_improper(request, kind == "extended-request")
+        is_extended = kind == "extended-request"
+        narrowed = self.export.filter_in(request, is_extended, payload)
+        if narrowed is not None:
+            request.length = narrowed[0]
+        request.is_improper = self.export.is_improper(request, is_extended, None if narrowed is None else narrowed[1])
         if command == WRITE and self.offset is not None and request.holds(self.offset):
             at = self.offset - offset
             request.byte = payload[2 * at : 2 * at + 2].decode()

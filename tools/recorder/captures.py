@@ -37,9 +37,13 @@ class Capture:
         os.close(self.file)
 
 
-OPTION, REQUEST = b"IHAVEOPT", bytes.fromhex("25609513")
-FLAGS_SIZE, OPTION_SIZE, REQUEST_SIZE = 4, 16, 28
+OPTION = b"IHAVEOPT"
+FLAGS_SIZE, OPTION_SIZE = 4, 16
+# How many bytes the head of a request has, by its magic number: the second is that of an extended one.
+REQUESTS = {bytes.fromhex("25609513"): 28, bytes.fromhex("21e41c71"): 32}
 WRITE, DISC = 1, 2
+# The flag of a request with an extended head that says that a payload follows.
+PAYLOAD_LEN = 1 << 5
 # READ, DISC, FLUSH, CACHE and BLOCK_STATUS.
 CHANGE_NOTHING = (0, 2, 3, 5, 7)
 
@@ -84,7 +88,7 @@ class Requests:
         self._head = b""
         if self._size == FLAGS_SIZE:
             self._size = OPTION_SIZE
-        elif head.startswith(REQUEST):
+        elif head[:4] in REQUESTS:
             self._begin_request(head)
         elif self._size == OPTION_SIZE and head.startswith(OPTION):
             self._rest = int.from_bytes(head[12:16], "big")
@@ -93,9 +97,13 @@ class Requests:
 
     def _begin_request(self, head):
         if self._size == OPTION_SIZE:
-            self._size, self._head = REQUEST_SIZE, head
+            self._size, self._head = REQUESTS[head[:4]], head
             return
-        kind = int.from_bytes(head[6:8], "big")
-        self._rest = int.from_bytes(head[24:28], "big") if kind == WRITE else 0
+        if len(head) != REQUESTS[head[:4]]:
+            self.is_sure = False
+            return
+        flags, kind = int.from_bytes(head[4:6], "big"), int.from_bytes(head[6:8], "big")
+        has_payload = kind == WRITE or self._size == 32 and flags & PAYLOAD_LEN
+        self._rest = int.from_bytes(head[24:], "big") if has_payload else 0
         self._adds = int(kind != DISC)
         self.has_change = self.has_change or kind not in CHANGE_NOTHING

@@ -1,5 +1,5 @@
 -- The report of a run states of each request what the messages behind it tell.
-use Rattle.std.proofs.Common.{◌≡◌, ◌∙◌, ◌++◌, ◌∷◌, ◌+◌, ◌==◌, ◌&&◌, ◌||◌, not, ℕ, suc, List, [], Bool, true, false, Option, Some, None, is_some, codes, if◌then◌else◌, append_assoc, append-nil, map, refl, sym, ap, subst, arith, eqb-true}
+use Rattle.std.proofs.Common.{◌≡◌, ◌∙◌, ◌++◌, ◌∷◌, ◌+◌, ◌==◌, ◌&&◌, ◌||◌, not, ℕ, suc, List, [], Bool, true, false, Option, Some, None, is_some, codes, if◌then◌else◌, append_assoc, append-nil, length, map, refl, sym, ap, subst, arith, eqb-true}
 use Rattle.std.proofs.lemmas.List.{map-append}
 use Rattle.std.proofs.Math.Bool.{or-false}
 use Rattle.nbd_wire.specs.declared.commands.TheConstants as commands
@@ -8,14 +8,16 @@ use Rattle.nbd_wire.specs.declared.message.Message.TheVariants.{Greeting, Client
 use Rattle.nbd_wire.specs.declared.profile.Profile.{Profile}
 use Rattle.nbd_wire.specs.protocol.Marks.{Item, Byte, Starts, Completes, Serves, completed_messages}
 use Rattle.nbd_wire.specs.protocol.Operations as definitions
-use Rattle.nbd_wire.specs.protocol.Operations.{Operation, any, ends_reply, is_failing, is_finished, outcome}
+use Rattle.nbd_wire.specs.protocol.Operations.{Exporting, Operation, any, ends_reply, is_failing, is_finished, outcome}
 use Rattle.nbd_wire.specs.protocol.Reports.{Asked, asked_list, known_count, operations_of, report}
 use Rattle.nbd_wire.specs.protocol.Rules.{IsRunBut, MayComplete, Obeys, after, complete, cookie_of, core_with_request, ends_at, reply_to, request_of_reply, target_of}
-use Rattle.nbd_wire.specs.protocol.States.{Core, Phase, State, Transmission, is_awaiting, start, start_of, target, target_from, with_reply, with_reply_at}
+use Rattle.nbd_wire.specs.protocol.Contexts.{Context}
+use Rattle.nbd_wire.specs.protocol.States.{Core, Phase, State, Transmission, has_contexts, in_force, is_awaiting, start, start_of, target, target_from, with_reply, with_reply_at}
 use Rattle.nbd_state.specs.Showing.{outcome_of}
 use Rattle.nbd_state.specs.declared.asked.Outcome.{Outcome}
 use Rattle.nbd_state.specs.declared.asked.Outcome.TheVariants.{Failure, Pending, Success}
 use Rattle.nbd_laws.proofs.requests.OutstandingLemmas.{AreDistinct, Free, both_true, distinct_complete, not_true_is_false}
+use Rattle.nbd_laws.proofs.judge.PhaseLemmas.{in_force_stays, transmission_stays}
 use Rattle.nbd_laws.proofs.runs.ProfileLemmas.{at_base}
 use Rattle.nbd_explain.specs.Named.{AreNamed, IsEnding, is_numbered, message_of, plain}
 use Rattle.nbd_explain.specs.Named.AreNamed.{none as no_names, other, request}
@@ -38,13 +40,13 @@ abbrev told : List Message → Operation → Message × definitions.Outcome
 told messages e = (request_of e, outcome_with (whole_reply messages e))
 
 -- the numbered requests of these messages, each with what became of it
-abbrev told_if : Message → Option Outcome → List (Message × definitions.Outcome)
-told_if m (Some o) = (plain m, outcome_of o) ∷ []
-told_if m None = []
+abbrev told_if : (has_contexts : Bool) → Message → Option Outcome → List (Message × definitions.Outcome)
+told_if has_contexts m (Some o) = (plain has_contexts m, outcome_of o) ∷ []
+told_if has_contexts m None = []
 
-abbrev all_told : List Message → List (Message × definitions.Outcome)
-all_told [] = []
-all_told (m ∷ later) = told_if m (fate m later) ++ all_told later
+abbrev all_told : (has_contexts : Bool) → List Message → List (Message × definitions.Outcome)
+all_told has_contexts [] = []
+all_told has_contexts (m ∷ later) = told_if has_contexts m (fate m later) ++ all_told has_contexts later
 
 same_outcome : (reply : List Message) → outcome_of (outcome_by reply) ≡ outcome_with reply
 same_outcome reply = go (any ends_reply reply) (any is_failing reply)
@@ -134,36 +136,37 @@ module _ (m : Message) (later : List Message) where
         ap (λ o. map (told later) (reply_to o core m).entries) found ∙ r.2
 
 -- a new request
-requested : (b : Bool) (core : Core) (m : Message) (e : Operation) (later : List Message) → plain m ≡ request_of e → e.replies ≡ [] →
-    map (told later) (core_with_request b core e).entries ++ all_told later
-    ≡ map (told later) core.entries ++ (told_if m (if b then None else Some (outcome_by (reply_in e.cookie later))) ++ all_told later)
-requested true core m e later same h = refl
-requested false core m e later same h =
+requested : (x b : Bool) (core : Core) (m : Message) (e : Operation) (later : List Message) → plain x m ≡ request_of e → e.replies ≡ [] →
+    map (told later) (core_with_request b core e).entries ++ all_told x later
+    ≡ map (told later) core.entries ++ (told_if x m (if b then None else Some (outcome_by (reply_in e.cookie later))) ++ all_told x later)
+requested x true core m e later same h = refl
+requested x false core m e later same h =
     let outcome_is : outcome_with (whole_reply later e) ≡ outcome_of (outcome_by (reply_in e.cookie later)) =
     ap (λ r. outcome_with (r ++ (if any ends_reply r then [] else reply_in e.cookie later))) h ∙ sym (same_outcome (reply_in e.cookie later)) in
-    ap (λ l. l ++ all_told later) (map-append (told later) core.entries (e ∷ [])) ∙ append_assoc (map (told later) core.entries) (told later e ∷ []) (all_told later)
-    ∙ (λ i. map (told later) core.entries ++ ((sym same i, outcome_is i) ∷ all_told later))
+    ap (λ l. l ++ all_told x later) (map-append (told later) core.entries (e ∷ [])) ∙ append_assoc (map (told later) core.entries) (told later e ∷ []) (all_told x later)
+    ∙ (λ i. map (told later) core.entries ++ ((sym same i, outcome_is i) ∷ all_told x later))
 
-step : (core : Core) (phase : Phase) (m : Message) (later : List Message) → MayComplete core phase m → AreDistinct core.entries →
-    map (told later) (complete core m).entries ++ all_told later ≡ map (told (m ∷ later)) core.entries ++ all_told (m ∷ later)
+step : (x : Bool) (core : Core) (phase : Phase) (m : Message) (later : List Message) → ((export : Exporting) → phase ≡ Transmission export → x ≡ has_contexts core) → MayComplete core phase m → AreDistinct core.entries →
+    map (told later) (complete core m).entries ++ all_told x later ≡ map (told (m ∷ later)) core.entries ++ all_told x (m ∷ later)
 unfolding MayComplete complete
-step core phase (Greeting flags) later ok d = ap (λ l. l ++ all_told later) (sym (all_unheard (Greeting flags) later (λ cookie. refl) core.entries))
-step core phase (ClientFlags flags) later ok d = ap (λ l. l ++ all_told later) (sym (all_unheard (ClientFlags flags) later (λ cookie. refl) core.entries))
-step core phase (Choice id p) later ok d = ap (λ l. l ++ all_told later) (sym (all_unheard (Choice id p) later (λ cookie. refl) core.entries))
-step core phase (Answer option kind p) later ok d = ap (λ l. l ++ all_told later) (sym (all_unheard (Answer option kind p) later (λ cookie. refl) core.entries))
-step core phase (Exported size flags padded) later ok d = ap (λ l. l ++ all_told later) (sym (all_unheard (Exported size flags padded) later (λ cookie. refl) core.entries))
-step core phase (Request flags command cookie offset len p) later ok d =
-    requested (command == commands.DISC) core (Request flags command cookie offset len p) _ later refl refl
-    ∙ ap (λ l. l ++ all_told (Request flags command cookie offset len p ∷ later)) (sym (all_unheard (Request flags command cookie offset len p) later (λ cookie. refl) core.entries))
-step core phase (ExtendedRequest flags command cookie offset len p) later ok d =
-    requested (command == commands.DISC) core (ExtendedRequest flags command cookie offset len p) _ later refl refl
-    ∙ ap (λ l. l ++ all_told (ExtendedRequest flags command cookie offset len p ∷ later)) (sym (all_unheard (ExtendedRequest flags command cookie offset len p) later (λ cookie. refl) core.entries))
-step core (Transmission export) (Simple error cookie p) later ok d = ap (λ l. l ++ all_told later) (answered (Simple error cookie p) later cookie refl core ok.0 d ok.2)
-step core phase (Simple error cookie p) later ok d = absurd ok
-step core (Transmission export) (Chunk flags kind cookie p) later ok d = ap (λ l. l ++ all_told later) (answered (Chunk flags kind cookie p) later cookie refl core ok.0 d ok.2)
-step core phase (Chunk flags kind cookie p) later ok d = absurd ok
-step core (Transmission export) (ExtendedChunk flags kind cookie offset p) later ok d = ap (λ l. l ++ all_told later) (answered (ExtendedChunk flags kind cookie offset p) later cookie refl core ok.0 d ok.2)
-step core phase (ExtendedChunk flags kind cookie offset p) later ok d = absurd ok
+step x core phase (Greeting flags) later same ok d = ap (λ l. l ++ all_told x later) (sym (all_unheard (Greeting flags) later (λ cookie. refl) core.entries))
+step x core phase (ClientFlags flags) later same ok d = ap (λ l. l ++ all_told x later) (sym (all_unheard (ClientFlags flags) later (λ cookie. refl) core.entries))
+step x core phase (Choice id p) later same ok d = ap (λ l. l ++ all_told x later) (sym (all_unheard (Choice id p) later (λ cookie. refl) core.entries))
+step x core phase (Answer option kind p) later same ok d = ap (λ l. l ++ all_told x later) (sym (all_unheard (Answer option kind p) later (λ cookie. refl) core.entries))
+step x core phase (Exported size flags padded) later same ok d = ap (λ l. l ++ all_told x later) (sym (all_unheard (Exported size flags padded) later (λ cookie. refl) core.entries))
+step x core phase (Request flags command cookie offset len p) later same ok d =
+    requested x (command == commands.DISC) core (Request flags command cookie offset len p) _ later refl refl
+    ∙ ap (λ l. l ++ all_told x (Request flags command cookie offset len p ∷ later)) (sym (all_unheard (Request flags command cookie offset len p) later (λ cookie. refl) core.entries))
+step x core (Transmission export) (ExtendedRequest flags command cookie offset len p) later same ok d =
+    requested x (command == commands.DISC) core (ExtendedRequest flags command cookie offset len p) _ later (ap (λ b. plain b (ExtendedRequest flags command cookie offset len p)) (same export refl)) refl
+    ∙ ap (λ l. l ++ all_told x (ExtendedRequest flags command cookie offset len p ∷ later)) (sym (all_unheard (ExtendedRequest flags command cookie offset len p) later (λ cookie. refl) core.entries))
+step x core phase (ExtendedRequest flags command cookie offset len p) later same ok d = absurd ok
+step x core (Transmission export) (Simple error cookie p) later same ok d = ap (λ l. l ++ all_told x later) (answered (Simple error cookie p) later cookie refl core ok.0 d ok.2)
+step x core phase (Simple error cookie p) later same ok d = absurd ok
+step x core (Transmission export) (Chunk flags kind cookie p) later same ok d = ap (λ l. l ++ all_told x later) (answered (Chunk flags kind cookie p) later cookie refl core ok.0 d ok.2)
+step x core phase (Chunk flags kind cookie p) later same ok d = absurd ok
+step x core (Transmission export) (ExtendedChunk flags kind cookie offset p) later same ok d = ap (λ l. l ++ all_told x later) (answered (ExtendedChunk flags kind cookie offset p) later cookie refl core ok.0 d ok.2)
+step x core phase (ExtendedChunk flags kind cookie offset p) later same ok d = absurd ok
 
 -- a request as it stands
 abbrev as_it_is : Operation → Message × definitions.Outcome
@@ -177,13 +180,25 @@ at_end (e ∷ es) = ap (λ r. (request_of e, outcome_with r) ∷ map as_it_is es
     none true = append-nil e.replies
     none false = append-nil e.replies
 
+-- in transmission the contexts in force stay
+contexts_stay : (state : State) (items : List Item) (export : Exporting) → Obeys state items → state.core.phase ≡ Transmission export → in_force (ends_at state items).core ≡ in_force state.core
+contexts_stay state [] export ob p = refl
+contexts_stay state (Byte s b ∷ items) export ob p = contexts_stay state items export ob.1 p
+contexts_stay state (Starts s m ∷ items) export ob p = contexts_stay state items export ob.1 p
+contexts_stay state (Completes s m ∷ items) export ob p =
+    let may : MayComplete state.core (Transmission export) m = subst (λ phase. MayComplete state.core phase m) p ob.0.0 in
+    contexts_stay (after state (Completes s m)) items export ob.1 (transmission_stays state.core export m may ∙ p) ∙ in_force_stays state.core export m may
+contexts_stay state (Serves e ∷ items) export ob p = contexts_stay (after state (Serves e)) items export ob.1 p
+
 followed : (state : State) (items : List Item) → Obeys state items → AreDistinct state.core.entries →
-    map as_it_is (ends_at state items).core.entries ≡ map (told (completed_messages items)) state.core.entries ++ all_told (completed_messages items)
+    map as_it_is (ends_at state items).core.entries ≡ map (told (completed_messages items)) state.core.entries ++ all_told (has_contexts (ends_at state items).core) (completed_messages items)
 followed state [] ob d = at_end state.core.entries ∙ sym (append-nil (map (told []) state.core.entries))
 followed state (Byte s b ∷ items) ob d = followed state items ob.1 d
 followed state (Starts s m ∷ items) ob d = followed state items ob.1 d
 followed state (Completes s m ∷ items) ob d =
-    followed (after state (Completes s m)) items ob.1 (distinct_complete state.core state.core.phase m ob.0.0 d) ∙ step state.core state.core.phase m (completed_messages items) ob.0.0 d
+    followed (after state (Completes s m)) items ob.1 (distinct_complete state.core state.core.phase m ob.0.0 d)
+    ∙ step (has_contexts (ends_at (after state (Completes s m)) items).core) state.core state.core.phase m (completed_messages items)
+    (λ export p. ap (λ (cs : List Context). not (length cs == 0)) (contexts_stay state (Completes s m ∷ items) export ob p)) ob.0.0 d
 followed state (Serves e ∷ items) ob d = followed (after state (Serves e)) items ob.1 d
 
 -- the same of a report
@@ -195,7 +210,7 @@ all_stated k core κ [] = refl
 all_stated k core κ (e ∷ es) = ap (λ l. as_it_is e ∷ l) (all_stated (suc k) core κ es)
 
 -- of a run with open bytes
-reported : {profile : Profile} (items : List Item) {client server : List ℕ} → IsRunBut profile items client server → map stated (report items).asked ≡ all_told (completed_messages items)
+reported : {profile : Profile} (items : List Item) {client server : List ℕ} → IsRunBut profile items client server → map stated (report items).asked ≡ all_told (has_contexts (ends_at (start_of profile) items).core) (completed_messages items)
 unfolding report
 reported {profile} items run =
     all_stated 0 (ends_at start items).core (known_count items) (operations_of items) ∙ ap (λ (core : Core). map as_it_is core.entries) (sym (at_base profile items))
@@ -215,23 +230,25 @@ has_fate (ExtendedRequest flags command cookie offset len p) later = has_fate_by
 has_fate m later = refl
 
 -- lines that say what became of the messages say what the requests of a report state
-named_by : {messages : List Message} {lines : List ℕ} → AreLines messages lines → (asked : List Asked) → map stated asked ≡ all_told messages → AreNamed messages asked lines
-named_by none [] e = no_names
-named_by none (a ∷ asked) e = absurd (cc)
-named_by (named m later words ending rest feed end tail) asked e = go (fate m later) refl end asked e (named_by tail)
+named_by : (x : Bool) {messages : List Message} {lines : List ℕ} → AreLines messages lines → (asked : List Asked) → map stated asked ≡ all_told x messages → AreNamed x messages asked lines
+named_by x none [] e = no_names
+named_by x none (a ∷ asked) e = absurd (cc)
+named_by x (named m later words ending rest feed end tail) asked e = go (fate m later) refl end asked e (named_by x tail)
   where
     text : List ℕ → List ℕ
     text t = words ++ (t ++ (codes "\n" ++ rest))
 
-    go : (o : Option Outcome) → fate m later ≡ o → EndsWith o ending → (asked : List Asked) → map stated asked ≡ told_if m o ++ all_told later → ((asked : List Asked) → map stated asked ≡ all_told later → AreNamed later asked rest) → AreNamed (m ∷ later) asked (text ending)
-    go None f end asked e ih = subst (λ t. AreNamed (m ∷ later) asked (text t)) (sym end) (other m later asked words rest (sym (has_fate m later) ∙ ap is_some f) feed (ih asked e))
+    go : (o : Option Outcome) → fate m later ≡ o → EndsWith o ending → (asked : List Asked) → map stated asked ≡ told_if x m o ++ all_told x later → ((asked : List Asked) → map stated asked ≡ all_told x later → AreNamed x later asked rest) → AreNamed x (m ∷ later) asked (text ending)
+    go None f end asked e ih = subst (λ t. AreNamed x (m ∷ later) asked (text t)) (sym end) (other m later asked words rest (sym (has_fate m later) ∙ ap is_some f) feed (ih asked e))
     go (Some o) f end [] e ih = absurd (cc)
     go (Some o) f end (a ∷ asked) e ih =
-        let first : stated a ≡ (plain m, outcome_of o) = cc in
-        let others : map stated asked ≡ all_told later = cc in
+        let first : stated a ≡ (plain x m, outcome_of o) = cc in
+        let others : map stated asked ≡ all_told x later = cc in
         request a m later asked words ending rest (sym (ap (λ p. p.0) first)) feed (subst (λ x. IsEnding x ending) (sym (ap (λ p. p.1) first)) end) (ih asked others)
 
 -- and so does the report of a run with open bytes in which the messages complete
 pub named_by_report : {profile : Profile} {messages : List Message} {lines : List ℕ} → AreLines messages lines → (items : List Item) {client server : List ℕ} → IsRunBut profile items client server → completed_messages items ≡ messages →
-    AreNamed messages (report items).asked lines
-named_by_report lines items run same = named_by lines (report items).asked (reported items run ∙ ap all_told same)
+    AreNamed (has_contexts (ends_at (start_of profile) items).core) messages (report items).asked lines
+named_by_report {profile} lines items run same =
+    let x = has_contexts (ends_at (start_of profile) items).core in
+    named_by x lines (report items).asked (reported items run ∙ ap (all_told x) same)

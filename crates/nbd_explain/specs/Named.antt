@@ -6,10 +6,12 @@ use Rattle.nbd_wire.specs.declared.commands.TheConstants as commands
 use Rattle.nbd_wire.specs.declared.message.Message.{Message}
 use Rattle.nbd_wire.specs.declared.message.Message.TheVariants.{Request, ExtendedRequest}
 use Rattle.nbd_wire.specs.declared.profile.Profile.{Profile}
+use Rattle.nbd_wire.specs.protocol.Contexts.{length_by}
 use Rattle.nbd_wire.specs.protocol.Marks.{Item, completed_messages}
 use Rattle.nbd_wire.specs.protocol.Operations.{Outcome, Success, Failure, Pending}
 use Rattle.nbd_wire.specs.protocol.Reports.{Asked, report}
-use Rattle.nbd_wire.specs.protocol.Rules.{IsRunBut, written}
+use Rattle.nbd_wire.specs.protocol.Rules.{IsRunBut, ends_at, filter_in, written}
+use Rattle.nbd_wire.specs.protocol.States.{has_contexts, start_of}
 use Rattle.nbd_capture.specs.Capture.{Chunk, IsCaptureText}
 use Rattle.nbd_capture.specs.Lines.{line_feed}
 use Rattle.nbd_lines.specs.declared.fault.RunFault.{RunFault}
@@ -23,15 +25,17 @@ is_numbered (Request flags command cookie offset length payload) = not (command 
 is_numbered (ExtendedRequest flags command cookie offset length payload) = not (command == commands.DISC)
 is_numbered _ = false
 
--- the message of a request that a report states, if it has no extended header
+-- the message of a request that a report states, with the length of its range, if it had no extended header
 abbrev pub message_of : Asked → Message
 message_of a = Request a.flags a.command a.cookie a.offset a.length a.payload
 
--- a request without its extended header, and with the payload of a WRITE alone
-abbrev pub plain : Message → Message
-plain (ExtendedRequest flags command cookie offset length payload) =
-    Request flags command cookie offset length (written command payload)
-plain m = m
+-- a request without its extended header, with the length of its range and the payload of a WRITE alone, by whether a
+-- metadata context is in force
+abbrev pub plain : (has_contexts : Bool) → Message → Message
+plain has_contexts (ExtendedRequest flags command cookie offset length payload) =
+    Request flags command cookie offset (length_by (filter_in has_contexts flags command payload) length)
+    (written command payload)
+plain has_contexts m = m
 
 -- a line feed stands in the text
 abbrev pub has_feed : List ℕ → Bool
@@ -44,15 +48,16 @@ IsEnding Pending text = text ≡ codes ": pending"
 IsEnding Failure text = (error : List ℕ) × (text ≡ codes ": failure, " ++ error) × (has_feed error ≡ false)
 
 -- a line for each message, and no more: words, and at the end of that of a numbered request what became of it, as these
--- requests state it
-pub data AreNamed : List Message → List Asked → List ℕ → Type 0 where
-  none : AreNamed [] [] []
+-- requests state it; by whether a metadata context is in force in transmission
+pub data AreNamed (has_contexts : Bool) : List Message → List Asked → List ℕ → Type 0 where
+  none : AreNamed has_contexts [] [] []
   request : (a : Asked) (m : Message) (later : List Message) (asked : List Asked) (words ending rest : List ℕ)
-      → plain m ≡ message_of a → has_feed words ≡ false → IsEnding a.outcome ending → AreNamed later asked rest
-      → AreNamed (m ∷ later) (a ∷ asked) (words ++ (ending ++ (codes "\n" ++ rest)))
+      → plain has_contexts m ≡ message_of a → has_feed words ≡ false → IsEnding a.outcome ending
+      → AreNamed has_contexts later asked rest
+      → AreNamed has_contexts (m ∷ later) (a ∷ asked) (words ++ (ending ++ (codes "\n" ++ rest)))
   other : (m : Message) (later : List Message) (asked : List Asked) (words rest : List ℕ)
-      → is_numbered m ≡ false → has_feed words ≡ false → AreNamed later asked rest
-      → AreNamed (m ∷ later) asked (words ++ (codes "\n" ++ rest))
+      → is_numbered m ≡ false → has_feed words ≡ false → AreNamed has_contexts later asked rest
+      → AreNamed has_contexts (m ∷ later) asked (words ++ (codes "\n" ++ rest))
 
 -- the messages of a capture's session of the profile were told in words, with what became of the requests by the report
 -- of each run in which just these messages complete (`is_shown` has such a run), and then the last line of `show`
@@ -65,7 +70,8 @@ pub record NamesAll (profile : Profile) (known : Option (List ℕ)) (yes : Bool)
   pub is_shown : IsShown profile (flat_of chunks) yes messages last
   pub lines : List ℕ
   pub are_named : (items : List Item) (client server : List ℕ) → IsRunBut profile items client server
-      → completed_messages items ≡ messages → AreNamed messages (report items).asked lines
+      → completed_messages items ≡ messages
+      → AreNamed (has_contexts (ends_at (start_of profile) items).core) messages (report items).asked lines
   pub appended : Appends old new (lines ++ last)
 
 -- nothing was written before a fault, but where the writer failed or memory ran out

@@ -11,7 +11,7 @@ use Rattle.nbd_wire.specs.protocol.Operations.{Exporting, Operation, asks_status
 use Rattle.nbd_wire.specs.protocol.Pieces.{SharesNone, is_in, piece_offset, piece_size}
 use Rattle.nbd_wire.specs.protocol.Flags.{has, has_only}
 use Rattle.nbd_wire.specs.protocol.States.{Core, target}
-use Rattle.nbd_wire.specs.protocol.Statuses.{but_last, statuses, tells}
+use Rattle.nbd_wire.specs.protocol.Statuses.{but_last, is_settled}
 use Rattle.nbd_wire.specs.declared.payloads.Info.{Info}
 use Rattle.nbd_wire.specs.declared.payloads.Info.TheVariants.{Export}
 use Rattle.nbd_wire.specs.declared.answers.TheConstants as answers
@@ -24,7 +24,7 @@ use Rattle.nbd_wire.specs.declared.transmission.TheConstants as transmission
 use Rattle.nbd_wire.specs.protocol.Sizes.{are_allowed, sizes_of}
 use Rattle.nbd_wire.specs.declared.handshake.TheConstants as handshake
 use Rattle.nbd_wire.specs.protocol.Options.{is_error, is_proper_option, takes_contexts}
-use Rattle.nbd_wire.specs.protocol.Transmission.{read_as, simple_length}
+use Rattle.nbd_wire.specs.protocol.Transmission.{read_as, simple_length, status_kind}
 use Rattle.nbd_wire.specs.protocol.Options.{is_error, is_proper_option, takes_contexts}
 use Rattle.nbd_wire.specs.protocol.States.{Core, target}
 
@@ -122,15 +122,16 @@ IsContent export e piece =
     × SharesNone piece (pieces e)
     × (IsTrue (is_proper export e && has e.flags command_flags.DF) → pieces e ≡ [])
 
--- a status chunk answers a BLOCK_STATUS and is of a context in force that no earlier chunk of the reply is of; unless
--- the request's length is 0, its extents but the last end before the range does, and with REQ_ONE there is one, not
--- longer than the range (proto.md, "Structured reply types", "Command flags"; that no chunk comes twice in a reply that
--- fails, that the last extent may pass the range, and what holds of length 0 are this project's choices)
+-- a status chunk answers a BLOCK_STATUS and is of a context in force that the request asks and no earlier chunk of the
+-- reply is of; unless the request's length is 0, its extents but the last end before the range does, and with REQ_ONE
+-- there is one, not longer than the range (proto.md, "Structured reply types", "Command flags"; that no chunk comes
+-- twice in a reply that fails, what a filter asks, that the last extent may pass the range, and what holds of length 0
+-- are this project's choices)
 abbrev pub IsStatus : Operation → Status → Type 0
 IsStatus e status =
     (e.command ≡ commands.BLOCK_STATUS)
     × (has_id e.contexts status.id ≡ true)
-    × (tells (statuses e) status.id ≡ false)
+    × (is_settled e status.id ≡ false)
     × (e.length ≢ 0 → (reach (but_last status.extents) < e.length)
     × (IsTrue (has e.flags command_flags.REQ_ONE)
     → (length status.extents ≡ 1) × (reach status.extents ≤ e.length)))
@@ -139,14 +140,14 @@ IsStatus e status =
 abbrev pub IsFailure : Operation → Failure → Type 0
 IsFailure e failure = (x : ℕ) → failure.offset ≡ Some x → IsTrue (is_in e.offset e.length x)
 
--- the payload of a chunk has the form of its type: NONE is empty and the last of its reply, and content, an error and,
--- without an extended header, a status fit the request; in Wide an error chunk of an unknown type has the form of ERROR
--- (proto.md, "Structured reply types")
+-- the payload of a chunk has the form of its type: NONE is empty and the last of its reply, and content, an error and a
+-- status fit the request; in Wide an error chunk of an unknown type has the form of ERROR (proto.md, "Structured reply
+-- types")
 abbrev pub IsChunk : Profile → (extended : Bool) → Exporting → Operation → (flags kind : ℕ) (payload : List ℕ)
     → Type 0
 IsChunk profile extended export e flags kind payload =
     (kind ≡ chunks.NONE) × (payload ≡ []) × IsTrue (has flags chunks.DONE)
     ⊎ ((piece : Piece) × (content_of kind payload ≡ Some piece) × IsContent export e piece)
     ⊎ ((failure : Failure) × (failure_of (read_as profile kind) payload ≡ Some failure) × IsFailure e failure)
-    ⊎ (extended ≡ false) × (kind ≡ chunks.BLOCK_STATUS)
-    × ((status : Status) × (status_of payload ≡ Some status) × IsStatus e status)
+    ⊎ (kind ≡ status_kind extended)
+    × ((status : Status) × (status_of extended payload ≡ Some status) × IsStatus e status)

@@ -1,14 +1,16 @@
 -- Whether extended headers are in force, told by looking back (proto.md, "Option types", "Reserved Magic values"; that
 -- an ACK to EXTENDED_HEADERS puts them in force for good is this project's choice).
-use Rattle.std.specs.Prelude.{◌≡◌, ◌==◌, ◌&&◌, ◌||◌, ℕ, Bool, false, List, [], ◌∷◌}
+use Rattle.std.specs.Prelude.{◌≡◌, ◌==◌, ◌&&◌, ◌||◌, ◌++◌, Bool, false, List, [], ◌∷◌}
 use Rattle.nbd_wire.specs.declared.answers.TheConstants as answers
 use Rattle.nbd_wire.specs.declared.message.Message.{Message}
 use Rattle.nbd_wire.specs.declared.message.Message.TheVariants.{Answer}
+use Rattle.nbd_wire.specs.declared.message.Side.{Side}
 use Rattle.nbd_wire.specs.declared.options.TheConstants as options
 use Rattle.nbd_wire.specs.declared.profile.Profile.{Profile}
-use Rattle.nbd_wire.specs.protocol.Marks.{Item, completed_messages}
-use Rattle.nbd_wire.specs.protocol.Rules.{ends_at}
-use Rattle.nbd_wire.specs.protocol.States.{start_of}
+use Rattle.nbd_wire.specs.protocol.Marks.{Item, Starts, completed_messages}
+use Rattle.nbd_wire.specs.protocol.Operations.{Exporting}
+use Rattle.nbd_wire.specs.protocol.Rules.{IsRunOf, ends_at, is_extended}
+use Rattle.nbd_wire.specs.protocol.States.{Transmission, start_of}
 
 -- an ACK to EXTENDED_HEADERS
 abbrev pub is_grant : Message → Bool
@@ -24,3 +26,9 @@ any_grant (m ∷ messages) = is_grant m || any_grant messages
 abbrev pub HeadersAreGranted : Type 0
 HeadersAreGranted = (profile : Profile) (items : List Item)
     → (ends_at (start_of profile) items).core.extended ≡ any_grant (completed_messages items)
+
+-- each message of transmission has an extended header where these are in force as it starts, and none otherwise
+abbrev pub HeadsAreInForce : Type 0
+HeadsAreInForce = (profile : Profile) (prefix back : List Item) (s : Side) (m : Message) (export : Exporting)
+    → (ends_at (start_of profile) prefix).core.phase ≡ Transmission export
+    → IsRunOf profile (prefix ++ Starts s m ∷ back) → is_extended m ≡ any_grant (completed_messages prefix)

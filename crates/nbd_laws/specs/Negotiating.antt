@@ -73,19 +73,18 @@ IsAcknowledged option info =
     (option ≡ options.ABORT) ⊎ (option ≡ options.LIST) ⊎ (option ≡ options.STRUCTURED_REPLY)
     ⊎ ((option ≡ options.INFO) ⊎ (option ≡ options.GO)) × IsTrue (is_some info)
 
--- of EXTENDED_HEADERS an ACK without payload, and of an option on contexts of which these were told an ACK without
--- payload or a context, which SET_META_CONTEXT asked for by a query, and with another id than each that it was told
+-- of an option on contexts of which these were told an ACK without payload or a context, which SET_META_CONTEXT asked
+-- for by a query, and with another id than each that it was told
 abbrev pub IsContextAnswer : Chosen → (told : List Context) (kind : ℕ) (payload : List ℕ) → Type 0
 IsContextAnswer asked told kind payload =
-    ((asked.option ≡ options.LIST_META_CONTEXT) ⊎ (asked.option ≡ options.SET_META_CONTEXT)
-    ⊎ (asked.option ≡ options.EXTENDED_HEADERS))
+    ((asked.option ≡ options.LIST_META_CONTEXT) ⊎ (asked.option ≡ options.SET_META_CONTEXT))
     × ((kind ≡ answers.ACK) × (payload ≡ [])
     ⊎ (kind ≡ answers.META_CONTEXT) × ((context : Context) × (context_of payload ≡ Some context)
     × (asked.option ≡ options.SET_META_CONTEXT → (queries_of asked.payload ≢ Some 0)
     × (has_id told context.id ≡ false))))
 
 -- an error, or where the option's data has its form an ACK without payload, a name for LIST, an info for INFO and GO,
--- and in Wide what answers an option on contexts, or EXTENDED_HEADERS
+-- and in Wide what answers an option on contexts, and an ACK without payload to EXTENDED_HEADERS
 abbrev pub IsAnswer : Profile → Chosen → (info : Option Exporting) (told : List Context) (kind : ℕ) (payload : List ℕ)
     → Type 0
 IsAnswer profile asked info told kind payload =
@@ -94,7 +93,8 @@ IsAnswer profile asked info told kind payload =
     (kind ≡ answers.ACK) × (payload ≡ []) × IsAcknowledged asked.option info
     ⊎ (kind ≡ answers.SERVER) × (asked.option ≡ options.LIST)
     ⊎ (kind ≡ answers.INFO) × ((asked.option ≡ options.INFO) ⊎ (asked.option ≡ options.GO))
-    ⊎ (profile ≡ Wide) × IsContextAnswer asked told kind payload)
+    ⊎ (profile ≡ Wide) × (IsContextAnswer asked told kind payload
+    ⊎ (asked.option ≡ options.EXTENDED_HEADERS) × (kind ≡ answers.ACK) × (payload ≡ [])))
 
 -- an answer is one to the option that was chosen last
 abbrev pub AnswersFollowChoices : Type 0

@@ -17,25 +17,26 @@ use Rattle.nbd_wire.specs.protocol.Flags.{has}
 use Rattle.nbd_wire.specs.protocol.Pieces.{is_in}
 use Rattle.nbd_wire.specs.protocol.Rules.{IsRunOf, cookie_of, ends_at}
 use Rattle.nbd_wire.specs.protocol.States.{operation, start, with_reply}
-use Rattle.nbd_wire.specs.protocol.Statuses.{statuses, tells_all}
-use Rattle.nbd_wire.specs.protocol.Transmission.{read_as}
+use Rattle.nbd_wire.specs.protocol.Statuses.{are_settled, is_settled}
+use Rattle.nbd_wire.specs.protocol.Transmission.{read_as, status_kind}
 
 -- a chunk to this request: an empty one with DONE, content of a READ, an error in its range, or the status of a context
--- that is in force for a BLOCK_STATUS
+-- that is in force and that a BLOCK_STATUS asks
 abbrev pub FitsRequest : Profile → (extended : Bool) → Operation → (flags kind : ℕ) (payload : List ℕ) → Type 0
 FitsRequest profile extended e flags kind payload =
     (kind ≡ chunks.NONE) × (payload ≡ []) × IsTrue (has flags chunks.DONE)
     ⊎ ((piece : Piece) × (content_of kind payload ≡ Some piece) × (e.command ≡ commands.READ))
     ⊎ ((failure : Failure) × (failure_of (read_as profile kind) payload ≡ Some failure)
     × ((x : ℕ) → failure.offset ≡ Some x → IsTrue (is_in e.offset e.length x)))
-    ⊎ (extended ≡ false) × (kind ≡ chunks.BLOCK_STATUS)
-    × ((status : Status) × (status_of payload ≡ Some status) × IsStatus e status)
+    ⊎ (kind ≡ status_kind extended)
+    × ((status : Status) × (status_of extended payload ≡ Some status) × IsStatus e status)
 
 -- where the last message of the reply to a BLOCK_STATUS has come, none states a failure and the length is not 0, each
--- context in force has its status (proto.md, "Structured reply types")
+-- context in force that it asks has its status (proto.md, "Structured reply types"; what a filter asks is this
+-- project's choice)
 abbrev pub TellsAllAtEnd : Operation → Message → Type 0
 TellsAllAtEnd e m = IsTrue (ends_reply m) → has_failed (with_reply e m) ≡ false
-    → e.command ≡ commands.BLOCK_STATUS → e.length ≢ 0 → IsTrue (tells_all (statuses (with_reply e m)) e.contexts)
+    → e.command ≡ commands.BLOCK_STATUS → e.length ≢ 0 → IsTrue (are_settled (is_settled (with_reply e m)) e.contexts)
 
 -- a simple reply comes alone, not to a READ where structured replies are in force, and not as the success of a
 -- BLOCK_STATUS of a context in force; a chunk needs structured replies, and one with an extended header has the offset

@@ -4,7 +4,7 @@ use Rattle.nbd_wire.specs.declared.entry.Entry.{Entry}
 use Rattle.nbd_wire.specs.declared.commands.TheConstants as commands
 use Rattle.nbd_wire.specs.declared.message.Side.TheVariants.{Client, Server}
 use Rattle.nbd_wire.specs.declared.message.Message.{Message}
-use Rattle.nbd_wire.specs.declared.message.Message.TheVariants.{Request}
+use Rattle.nbd_wire.specs.declared.message.Message.TheVariants.{Request, ExtendedRequest}
 use Rattle.nbd_wire.specs.declared.profile.Profile.{Profile}
 use Rattle.nbd_wire.specs.protocol.Entries.{IsServedAt, MayServe}
 use Rattle.nbd_wire.specs.protocol.Explains.{IsExplainedOf, Start}
@@ -53,19 +53,23 @@ ServedOnceAfterCompletion = (profile : Profile) (prefix back : List Item) (e : E
 abbrev pub EmptyIsExplained : Type 0
 EmptyIsExplained = (profile : Profile) (initial : Start) → IsExplainedOf profile [] [] initial
 
--- a DISC is empty
-abbrev pub DisconnectsAreEmpty : Type 0
-DisconnectsAreEmpty = (profile : Profile) (prefix back : List Item) (flags cookie offset len : ℕ)
-    (payload : List ℕ) →
-    IsRunOf profile (prefix ++ Completes Client (Request flags commands.DISC cookie offset len payload) ∷ back)
-    → (offset ≡ 0) × (len ≡ 0)
+-- a DISC with this offset and length, with an extended header or not
+pub data IsDisconnect : Message → (offset len : ℕ) → Type 0 where
+  short : (flags cookie offset len : ℕ) (payload : List ℕ)
+      → IsDisconnect (Request flags commands.DISC cookie offset len payload) offset len
+  extended : (flags cookie offset len : ℕ) (payload : List ℕ)
+      → IsDisconnect (ExtendedRequest flags commands.DISC cookie offset len payload) offset len
 
--- the client starts nothing after a DISC
+-- a DISC is empty (proto.md, "Request types")
+abbrev pub DisconnectsAreEmpty : Type 0
+DisconnectsAreEmpty = (profile : Profile) (prefix back : List Item) (disc : Message) (offset len : ℕ) →
+    IsDisconnect disc offset len → IsRunOf profile (prefix ++ Completes Client disc ∷ back) → (offset ≡ 0) × (len ≡ 0)
+
+-- the client starts nothing after a DISC (proto.md, "Request types")
 abbrev pub NothingAfterDisconnect : Type 0
-NothingAfterDisconnect = (profile : Profile) (prefix middle back : List Item) (flags cookie offset len : ℕ)
-    (payload : List ℕ) (m : Message) →
-    IsRunOf profile (prefix ++ Completes Client (Request flags commands.DISC cookie offset len payload) ∷ (middle
-    ++ Starts Client m ∷ back)) → ⊥
+NothingAfterDisconnect = (profile : Profile) (prefix middle back : List Item) (disc : Message) (offset len : ℕ)
+    (m : Message) → IsDisconnect disc offset len →
+    IsRunOf profile (prefix ++ Completes Client disc ∷ (middle ++ Starts Client m ∷ back)) → ⊥
 
 -- the reply that completes next is the one that started, and it still answers the same request
 abbrev pub RepliesEndAsTheyStart : Type 0

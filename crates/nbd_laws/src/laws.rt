@@ -1,7 +1,7 @@
 //! Laws over the definitions of nbd_wire: each is the contract of a function that does nothing.
 ghost use Rattle.nbd_laws.specs.Soundness.{ReportsAreSound};
 ghost use Rattle.nbd_laws.specs.Announcing.{SizesAreAnnounced};
-ghost use Rattle.nbd_laws.specs.Granting.{HeadersAreGranted};
+ghost use Rattle.nbd_laws.specs.Granting.{HeadersAreGranted, HeadsAreInForce};
 ghost use Rattle.nbd_laws.specs.Bytes.{OpenBytesEndRuns, RunsHoldEachSide};
 ghost use Rattle.nbd_laws.specs.Prefixes.{CompletionsStandAfterBytes, PrefixesAreRuns, NoProperPrefix, StartsStandBeforeBytes};
 ghost use Rattle.nbd_laws.specs.Cuts.{CutsDoNotCount};
@@ -179,9 +179,10 @@ pub fn sizes_are_announced()
 {}
 
 /// Extended headers are in force where an ACK answered EXTENDED_HEADERS before, and nowhere else: no error, no other option and no
-/// later answer begins or ends them.
+/// later answer begins or ends them. Each request and reply has one where they are in force, and none otherwise.
 pub fn headers_are_granted()
-    ensures { HeadersAreGranted }
+    ensures granted { HeadersAreGranted }
+    ensures heads { HeadsAreInForce }
 {}
 
 /// The metadata contexts stay as they are in transmission: each request was asked while those were in force that are at the end.

@@ -1,12 +1,11 @@
 //! Chunks of structured replies (proto.md, "Structured reply chunk message", "Structured reply flags",
 //! "Structured reply types").
 
-ghost use Rattle.std.specs.Prelude.{◌≡◌, ◌+◌, ◌==◌, ◌&&◌, ◌||◌, List, None, Some, false, is_some, length, not};
+ghost use Rattle.std.specs.Prelude.{ℕ, Bool, ◌≡◌, ◌+◌, ◌==◌, ◌&&◌, ◌||◌, None, Some, false, is_some, length, not};
 ghost use Rattle.nbd_wire.specs.declared.chunks.TheConstants as chunks;
 ghost use Rattle.nbd_wire.specs.declared.payloads.Piece.{Piece};
 ghost use Rattle.nbd_wire.specs.declared.command_flags.TheConstants as command_flags;
 ghost use Rattle.nbd_wire.specs.protocol.Flags as flags;
-ghost use Rattle.nbd_wire.specs.protocol.Contexts.{Status};
 ghost use Rattle.nbd_wire.specs.protocol.Operations.{Operation, Exporting, has_failed, is_finished, is_proper, pieces};
 ghost use Rattle.nbd_wire.specs.protocol.States.{Core, in_force, with_reply};
 ghost use Rattle.nbd_wire.specs.declared.fault.WireFault.TheVariants.{BadChunk, BadContent};
@@ -68,7 +67,7 @@ fn payload_fault(
 {
     let kind = head.kind;
     if is_status(head) {
-        return status_fault(state, head.flags, payload, exchange);
+        return status_fault(state, head.at.is_some(), head.flags, payload, exchange);
     }
     let done = has(head.flags, chunks::DONE);
     if kind == chunks::NONE {
@@ -87,20 +86,24 @@ fn payload_fault(
     }
 }
 
-// A chunk of a status. With an extended header there is none of its type (this project's choice).
+// A chunk of a status: with an extended header its type is another one.
 fn is_status(head: &ChunkHead) -> bool
     ensures { result ≡ is_status head.now.at head.now.kind }
 {
-    head.at.is_none() && head.kind == chunks::BLOCK_STATUS
+    if head.at.is_some() {
+        head.kind == chunks::BLOCK_STATUS_EXT
+    } else {
+        head.kind == chunks::BLOCK_STATUS
+    }
 }
 
 // A chunk without content is empty, and ends its reply.
 fn none_fault(state: &State, payload: &[u8], done: bool, exchange: &Exchange) -> Option<WireFault>
-    ensures { (core : Core) (export : Exporting) (e : Operation) (statuses : List Status) → Shows state.now core →
-        e.contexts ≡ in_force core → IsShown export e exchange.now → TellsThese statuses exchange.now.told None →
+    ensures { (core : Core) (export : Exporting) (e : Operation) (settled : ℕ → Bool) → Shows state.now core →
+        e.contexts ≡ in_force core → IsShown export e exchange.now → TellsThese settled e.contexts exchange.now.told None →
         result ≡ fault_if (not (length payload.now == 0) || not done) BadChunk
         (done_by done (finish_by e.command e.length (is_proper export e) (has_failed e) (total (pieces e))
-        (lacks_by e.command e.length statuses e.contexts))) }
+        (lacks_by e.command e.length settled e.contexts))) }
 {
     if !payload.is_empty() || !done {
         Some(WireFault::BadChunk)
@@ -111,12 +114,12 @@ fn none_fault(state: &State, payload: &[u8], done: bool, exchange: &Exchange) ->
 
 // Content has to fit its request; if it is the last of its reply, so does the end of the reply.
 fn content_fault(state: &State, span: Span, done: bool, exchange: &Exchange) -> Option<WireFault>
-    ensures { (core : Core) (export : Exporting) (e : Operation) (piece : Piece) (statuses : List Status) →
+    ensures { (core : Core) (export : Exporting) (e : Operation) (piece : Piece) (settled : ℕ → Bool) →
         Shows state.now core → e.contexts ≡ in_force core → IsShown export e exchange.now →
-        TellsThese statuses exchange.now.told None → span_of piece ≡ span →
+        TellsThese settled e.contexts exchange.now.told None → span_of piece ≡ span →
         result ≡ fault_if (not (fits_read export e piece)) BadContent
         (done_by done (finish_by e.command e.length (is_proper export e) (has_failed e)
-        (total (pieces e) + span.size) (lacks_by e.command e.length statuses e.contexts))) }
+        (total (pieces e) + span.size) (lacks_by e.command e.length settled e.contexts))) }
 {
     if !fits_read(span, exchange) {
         return Some(WireFault::BadContent);
@@ -161,17 +164,17 @@ fn fits_failure(offset: Option<u64>, asked: &Asked) -> bool
 
 /// What is wrong with the end of a reply, after so many more bytes of content or after the status of the context with
 /// this id. Nothing is wrong if the reply states a failure, or if its request is proper, all of a READ's range came,
-/// and for a BLOCK_STATUS of a range that is not empty each context in force has its status.
+/// and for a BLOCK_STATUS of a range that is not empty each context in force that it asks has its status.
 pub(crate) fn finish_fault(
     state: &State,
     exchange: &Exchange,
     more: u64,
     id: Option<u32>,
 ) -> Option<WireFault>
-    ensures { (core : Core) (export : Exporting) (e : Operation) (statuses : List Status) → Shows state.now core →
-        e.contexts ≡ in_force core → IsShown export e exchange.now → TellsThese statuses exchange.now.told id →
+    ensures { (core : Core) (export : Exporting) (e : Operation) (settled : ℕ → Bool) → Shows state.now core →
+        e.contexts ≡ in_force core → IsShown export e exchange.now → TellsThese settled e.contexts exchange.now.told id →
         result ≡ finish_by e.command e.length (is_proper export e) (has_failed e) (total (pieces e) + more)
-        (lacks_by e.command e.length statuses e.contexts) }
+        (lacks_by e.command e.length settled e.contexts) }
 {
     let asked = &exchange.asked;
     if exchange.failed {
@@ -191,13 +194,13 @@ pub(crate) fn finish_fault(
     None
 }
 
-// Whether the reply to a BLOCK_STATUS of a range that is not empty lacks the status of a context in force, even if the
-// one with this id is counted.
+// Whether the reply to a BLOCK_STATUS of a range that is not empty lacks the status of a context in force that it asks,
+// even if the one with this id is counted.
 fn lacks_status(state: &State, exchange: &Exchange, id: Option<u32>) -> bool
-    ensures { (core : Core) (e : Operation) (statuses : List Status) → Shows state.now core →
+    ensures { (core : Core) (e : Operation) (settled : ℕ → Bool) → Shows state.now core →
         e.contexts ≡ in_force core → e.command ≡ exchange.now.asked.command → e.length ≡ exchange.now.asked.length →
-        TellsThese statuses exchange.now.told id →
-        result ≡ lacks_by e.command e.length statuses e.contexts }
+        TellsThese settled e.contexts exchange.now.told id →
+        result ≡ lacks_by e.command e.length settled e.contexts }
 {
     let asked = &exchange.asked;
     asked.command == commands::BLOCK_STATUS

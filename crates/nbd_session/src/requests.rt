@@ -1,7 +1,7 @@
 //! Requests (proto.md, "Request message", "Reserved Magic values").
 
 ghost use Rattle.std.specs.Prelude.{◌≡◌, ◌++◌, ℕ, List, IfErr, IfOk, Some, length};
-ghost use Rattle.nbd_wire.specs.protocol.States.{Core, has_contexts};
+ghost use Rattle.nbd_wire.specs.protocol.States.{Core};
 ghost use Rattle.nbd_wire.specs.protocol.Decisions.{request};
 ghost use Rattle.nbd_session.specs.internal.Asking.{is_bad_disconnect, is_beyond};
 ghost use Rattle.nbd_session.specs.internal.Expecting.{IsPlaced, expected_decision};
@@ -27,7 +27,7 @@ pub(crate) fn request(state: &State, head: &[u8]) -> Result<Expected, WireFault>
     let Some(head) = read_head(state.extended, head) else {
         return Err(WireFault::BadMagic);
     };
-    if is_beyond(state, &head) {
+    if is_beyond(&head) {
         return Err(WireFault::OutOfProfile);
     }
     if is_bad_disconnect(&head) {
@@ -48,14 +48,11 @@ fn read_head(extended: bool, head: &[u8]) -> Option<RequestHead>
     }
 }
 
-// With an extended header: a payload that is too large, or a BLOCK_STATUS where a metadata context is in force. That
-// they are refused is this project's choice.
-fn is_beyond(state: &State, head: &RequestHead) -> bool
-    ensures { (core : Core) → Shows state.now core → result ≡ is_beyond (has_contexts core) head.now }
+// With an extended header: a payload that is too large. That it is refused is this project's choice.
+fn is_beyond(head: &RequestHead) -> bool
+    ensures { result ≡ is_beyond head.now }
 {
-    head.extended
-        && (carries_payload(head.flags, head.command) && head.length > LONGEST_PAYLOAD
-            || state.has_contexts() && head.command == commands::BLOCK_STATUS)
+    head.extended && carries_payload(head.flags, head.command) && head.length > LONGEST_PAYLOAD
 }
 
 // A DISC with an offset or a length.

@@ -199,25 +199,12 @@ exporting_is state core export x s p q =
     let v : x ≡ export_shown export = cc in
     ap exporting v
 
--- what is known of a request with no reply
-none_known : (o : Option ℕ) → is_some o ≡ false → o ≡ None
-none_known (Some n) e = absurd (cc)
-none_known None e = refl
-
 at_end : (xs : List Exchange) (x y : Exchange) (place : ℕ) → slice_get (xs ++ x ∷ []) place ≡ Some y → (slice_get xs place ≡ Some y) ⊎ (length xs ≤ place) × (y ≡ x)
 at_end [] x y zero q = inr (omega arith, (cc))
 at_end [] x y (suc place) q = absurd (cc)
 at_end (z ∷ xs) x y zero q = inl q
 at_end (z ∷ xs) x y (suc place) q = elim (at_end xs x y place q) [ inl a ↦ inl a | inr b ↦ inr (let l : length xs ≤ place = b.0 in (omega (arith, l), b.1)) ]
 
--- contexts of which there is one or none
-pub some_contexts : (b : Bool) → (contexts : List Context) × (b ≡ not (length contexts == 0))
-some_contexts true = (record { id = 0; name = [] } ∷ [], refl)
-some_contexts false = ([], refl)
-
-pub added_unanswered : (export : Exporting) (e : Operation) (x : Exchange) (old new : List Exchange) → e.replies ≡ [] → IsShown export e x → new ≡ old ++ x ∷ [] → AddsUnanswered old new
-added_unanswered export e x old new r s is place y q =
-    elim (at_end old x y place (subst (λ xs. slice_get xs place ≡ Some y) is q)) [
-      | inl a ↦ inl a
-      | inr b ↦ inr (b.0, ap (λ (z : Exchange). z.asked.known_at) b.1 ∙ none_known x.asked.known_at (s.replied ∙ ap (λ ms. not (is_none_yet ms)) r))
-    ]
+pub added_unanswered : (x : Exchange) (old new : List Exchange) → x.asked.known_at ≡ None → new ≡ old ++ x ∷ [] → AddsUnanswered old new
+added_unanswered x old new none is place y q =
+    elim (at_end old x y place (subst (λ xs. slice_get xs place ≡ Some y) is q)) [ inl a ↦ inl a | inr b ↦ inr (b.0, ap (λ (z : Exchange). z.asked.known_at) b.1 ∙ none) ]

@@ -1,5 +1,6 @@
 pub mod NotingLemmas
 pub mod CompletionLemmas
+pub mod FilterLemmas
 pub mod HeadLemmas
 pub mod IndexLemmas
 pub mod KnownLemmas

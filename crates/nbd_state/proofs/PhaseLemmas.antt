@@ -143,7 +143,7 @@ extended_asked_in core Naming flags command cookie offset len payload ok = absur
 extended_asked_in core Aborting flags command cookie offset len payload ok = absurd ok
 extended_asked_in core (Answering asked given info) flags command cookie offset len payload ok = absurd ok
 extended_asked_in core Ended flags command cookie offset len payload ok = absurd ok
-extended_asked_in core (Transmission export) flags command cookie offset len payload ok = (export, refl, extended_ask_allow core (has_contexts core) flags command cookie offset len ok.0 ok.1)
+extended_asked_in core (Transmission export) flags command cookie offset len payload ok = (export, refl, extended_ask_allow core flags command cookie offset len ok.0 ok.1)
 
 pub simple_in : (core : Core) (p : Phase) (error cookie : ℕ) (payload : List ℕ) → MayComplete core p (Simple error cookie payload) →
     (export : Exporting) × (p ≡ Transmission export) × AnswersOne core export cookie (Simple error cookie payload)

@@ -4,14 +4,13 @@ use Rattle.nbd_wire.specs.declared.message.Message.{Message}
 use Rattle.nbd_wire.specs.protocol.Operations.{Operation, Exporting, ends_reply, has_failed, is_failing, is_finished, is_proper, outcome, pieces, pieces_of}
 use Rattle.nbd_wire.specs.declared.commands.TheConstants as commands
 use Rattle.nbd_wire.specs.declared.payloads.Piece.{Piece}
-use Rattle.std.specs.BTreeSet.{BTreeSet, contains}
 use Rattle.std.specs.BTreeMap.{is_at}
 use Rattle.std.specs.Cmp.{nat_cmp_is}
 use Rattle.std.specs.Ordering.{is_eq, nat_cmp}
 use Rattle.std.proofs.lemmas.Bool.{eqb-false}
-use Rattle.nbd_wire.specs.protocol.Contexts.{Status}
+use Rattle.nbd_wire.specs.protocol.Contexts.{Status, has_id, is_left_out}
 use Rattle.nbd_wire.specs.protocol.Pieces.{piece_of}
-use Rattle.nbd_wire.specs.protocol.Statuses.{is_allocation, status_in, statuses, statuses_of, tells, zeroes, zeroes_in, zeroes_told}
+use Rattle.nbd_wire.specs.protocol.Statuses.{is_allocation, is_settled, status_in, statuses, statuses_of, tells, zeroes, zeroes_in, zeroes_told}
 use Rattle.nbd_wire.specs.protocol.Operations as definitions
 use Rattle.nbd_wire.specs.protocol.States.{with_reply}
 use Rattle.nbd_state.specs.declared.asked.Exchange.{Exchange}
@@ -19,7 +18,9 @@ use Rattle.nbd_state.specs.declared.asked.Outcome.{Outcome}
 use Rattle.nbd_state.specs.declared.asked.Outcome.TheVariants.{Success, Failure}
 use Rattle.nbd_wire.specs.protocol.Transmission.{is_none_yet}
 use Rattle.nbd_state.specs.Showing.{AreCounted, IsShown, outcome_of}
+use Rattle.nbd_state.specs.Filters.{is_settled_by}
 use Rattle.nbd_state.specs.Shows.{TellsThese}
+use Rattle.nbd_state.specs.declared.asking.Telling.{Telling}
 use Rattle.nbd_state.proofs.ReplyLemmas.{any-snoc, proper-same}
 use Rattle.nbd_laws.proofs.requests.LaidLemmas.{pieces-snoc}
 
@@ -49,7 +50,7 @@ pub exchange_shows_reply : (export : Exporting) (e : Operation) (m : Message) (x
     y.failed ≡ (x.failed || fails) →
     y.asked.outcome ≡ (if ends then (if y.failed then Failure else Success) else x.asked.outcome) →
     y.asked.pieces.items ≡ zeroes export (with_reply e m) ++ pieces (with_reply e m) →
-    (is_finished (with_reply e m) ≡ false → (id : ℕ) → contains nat_cmp y.told id ≡ tells (statuses (with_reply e m)) id) →
+    (is_finished (with_reply e m) ≡ false → (id : ℕ) → has_id e.contexts id ≡ true → is_settled_by y.told id ≡ is_settled (with_reply e m) id) →
     (ends ≡ false → (y.asked.ended_at ≡ None) × (e.command ≡ commands.READ → AreCounted y.asked)) →
     IsShown export (with_reply e m) y
 exchange_shows_reply export e m x y ends fails known s u n f k known_is failed_is outcome_is pieces_are told_are is_open =
@@ -110,32 +111,41 @@ module _ (export : Exporting) (e : Operation) (m : Message) (x : Exchange) (ends
   not_yet : is_finished (with_reply e m) ≡ false → ends ≡ false
   not_yet f = sym (any-snoc ends_reply e.replies m ∙ ap (λ b. b || ends_reply m) u ∙ n) ∙ f
 
-  -- what is told with the message
-  pub told_without : status_in m ≡ [] → TellsThese (statuses (with_reply e m)) x.told None
-  told_without none i = ap (λ ss. tells ss i) (statuses-snoc e.replies m ∙ ap (λ l. statuses e ++ l) none ∙ append-nil (statuses e)) ∙ sym (s.told_are u i)
+  -- with the message, a context is settled as before
+  settled_still : status_in m ≡ [] → (id : ℕ) → is_settled (with_reply e m) id ≡ is_settled e id
+  settled_still none id = ap (λ ss. tells ss id || is_left_out e.filter id) (statuses-snoc e.replies m ∙ ap (λ l. statuses e ++ l) none ∙ append-nil (statuses e))
 
-  pub told_with : (status : Status) → status_in m ≡ status ∷ [] → TellsThese (statuses (with_reply e m)) x.told (Some status.id)
-  told_with status is i =
-      ap (λ ss. tells ss i) (statuses-snoc e.replies m ∙ ap (λ l. statuses e ++ l) is) ∙ tells-snoc (statuses e) status i
-      ∙ ap (λ b. if status.id == i then true else b) (sym (s.told_are u i)) ∙ go (status.id == i)
+  -- or it has its status
+  settled_more : (status : Status) → status_in m ≡ status ∷ [] → (id : ℕ) → is_settled (with_reply e m) id ≡ (if status.id == id then true else is_settled e id)
+  settled_more status is id =
+      ap (λ ss. tells ss id || is_left_out e.filter id) (statuses-snoc e.replies m ∙ ap (λ l. statuses e ++ l) is)
+      ∙ ap (λ b. b || is_left_out e.filter id) (tells-snoc (statuses e) status id) ∙ go (status.id == id) (tells (statuses e) id) (is_left_out e.filter id)
     where
-      go : (b : Bool) → (if b then true else contains nat_cmp x.told i) ≡ (b || contains nat_cmp x.told i)
+      go : (b c d : Bool) → ((if b then true else c) || d) ≡ (if b then true else (c || d))
+      go true c d = refl
+      go false c d = refl
+
+  -- what is told with the message
+  pub told_without : status_in m ≡ [] → TellsThese (is_settled (with_reply e m)) e.contexts x.told None
+  told_without none i h = settled_still none i ∙ sym (s.told_are u i h)
+
+  pub told_with : (status : Status) → status_in m ≡ status ∷ [] → TellsThese (is_settled (with_reply e m)) e.contexts x.told (Some status.id)
+  told_with status is i h =
+      settled_more status is i ∙ ap (λ b. if status.id == i then true else b) (sym (s.told_are u i h)) ∙ go (status.id == i)
+    where
+      go : (b : Bool) → (if b then true else is_settled_by x.told i) ≡ (b || is_settled_by x.told i)
       go true = refl
       go false = refl
 
-  -- a message without a status leaves the ids
-  pub told_kept : (told : BTreeSet ℕ) → status_in m ≡ [] → (ends ≡ false → told ≡ x.told) → is_finished (with_reply e m) ≡ false → (id : ℕ) → contains nat_cmp told id ≡ tells (statuses (with_reply e m)) id
-  told_kept told none kept f id =
-      ap (λ t. contains nat_cmp t id) (kept (not_yet f)) ∙ s.told_are u id
-      ∙ ap (λ ss. tells ss id) (sym (statuses-snoc e.replies m ∙ ap (λ l. statuses e ++ l) none ∙ append-nil (statuses e)))
+  -- a message without a status leaves what is settled
+  pub told_kept : (told : Telling) → status_in m ≡ [] → (ends ≡ false → told ≡ x.told) → is_finished (with_reply e m) ≡ false → (id : ℕ) → has_id e.contexts id ≡ true → is_settled_by told id ≡ is_settled (with_reply e m) id
+  told_kept told none kept f id h = ap (λ t. is_settled_by t id) (kept (not_yet f)) ∙ s.told_are u id h ∙ sym (settled_still none id)
 
-  -- a status adds its id
-  pub told_more : (told : BTreeSet ℕ) (status : Status) → status_in m ≡ status ∷ [] → (ends ≡ false → (id : ℕ) → contains nat_cmp told id ≡ (if status.id == id then true else contains nat_cmp x.told id)) →
-      is_finished (with_reply e m) ≡ false → (id : ℕ) → contains nat_cmp told id ≡ tells (statuses (with_reply e m)) id
-  told_more told status is added f id =
-      added (not_yet f) id ∙ ap (λ b. if status.id == id then true else b) (s.told_are u id)
-      ∙ sym (tells-snoc (statuses e) status id)
-      ∙ ap (λ ss. tells ss id) (sym (statuses-snoc e.replies m ∙ ap (λ l. statuses e ++ l) is))
+  -- a status settles its context
+  pub told_more : (told : Telling) (status : Status) → status_in m ≡ status ∷ [] → (ends ≡ false → (id : ℕ) → is_settled_by told id ≡ (if status.id == id then true else is_settled_by x.told id)) →
+      is_finished (with_reply e m) ≡ false → (id : ℕ) → has_id e.contexts id ≡ true → is_settled_by told id ≡ is_settled (with_reply e m) id
+  told_more told status is added f id h =
+      added (not_yet f) id ∙ ap (λ b. if status.id == id then true else b) (s.told_are u id h) ∙ sym (settled_more status is id)
 
 -- the zeroes of a request look at the first message of its reply alone
 module _ (export : Exporting) (e : Operation) (m : Message) where

@@ -1,5 +1,5 @@
 -- Whether contexts were selected.
-use Rattle.std.proofs.Common.{◌≡◌, ℕ, ◌==◌, ◌&&◌, ◌||◌, List, [], ◌∷◌, length, refl, sym, ◌∙◌, ap, subst, Bool, true, false, IsTrue, arith, Option}
+use Rattle.std.proofs.Common.{◌≡◌, ℕ, ◌==◌, ◌&&◌, ◌||◌, List, [], ◌∷◌, length, refl, sym, ◌∙◌, ap, subst, Bool, true, false, not, IsTrue, arith, Option}
 use Rattle.std.proofs.lemmas.Bool.{eq-eqb, eqb-true, ne_eqb}
 use Rattle.std.proofs.lemmas.Map.Views.{All-set_contains}
 use Rattle.std.specs.BTreeMap.{is_at}
@@ -11,8 +11,8 @@ use Rattle.nbd_state.proofs.RecordingLemmas.{at-same}
 use Rattle.std.specs.Ordering.{nat_cmp}
 use Rattle.std.proofs.lemmas.Cmp.{nat_cmp_total}
 use Rattle.nbd_laws.proofs.judge.BoolLemmas.{and_true}
-use Rattle.nbd_wire.specs.protocol.Contexts.{Context, Status, has_id}
-use Rattle.nbd_wire.specs.protocol.Statuses.{tells, tells_all}
+use Rattle.nbd_wire.specs.protocol.Contexts.{Context, has_id}
+use Rattle.nbd_wire.specs.protocol.Statuses.{are_settled}
 
 head_id : (c : Context) (contexts : List Context) → has_id (c ∷ contexts) c.id ≡ true
 head_id c contexts = ap (λ b. b || has_id contexts c.id) (eq-eqb c.id c.id refl)
@@ -38,23 +38,23 @@ none_of s contexts is same to from = go is (length s.keys == 0) refl to from ∙
     go false true e to from = from (eqb-true (length s.keys) 0 e) ∙ sym e
     go false false e to from = sym e
 
--- each context has a status exactly where each id of them is told
-each_told : (statuses : List Status) (contexts : List Context) (id : ℕ) → tells_all statuses contexts ≡ true → has_id contexts id ≡ true → tells statuses id ≡ true
-each_told statuses [] id a h = absurd (cc)
-each_told statuses (c ∷ contexts) id a h = go (c.id == id) refl (λ r. each_told statuses contexts id both.1 r)
+-- each of the contexts is settled exactly where each id of them is
+each_settled : (settled : ℕ → Bool) (contexts : List Context) (id : ℕ) → are_settled settled contexts ≡ true → has_id contexts id ≡ true → settled id ≡ true
+each_settled settled [] id a h = absurd (cc)
+each_settled settled (c ∷ contexts) id a h = go (c.id == id) refl (λ r. each_settled settled contexts id both.1 r)
   where
-    both : (tells statuses c.id ≡ true) × (tells_all statuses contexts ≡ true)
-    both = and_true (tells statuses c.id) (tells_all statuses contexts) a
+    both : (settled c.id ≡ true) × (are_settled settled contexts ≡ true)
+    both = and_true (settled c.id) (are_settled settled contexts) a
 
-    go : (b : Bool) → (c.id == id) ≡ b → (has_id contexts id ≡ true → tells statuses id ≡ true) → tells statuses id ≡ true
-    go true q later = subst (λ i. tells statuses i ≡ true) (eqb-true c.id id q) both.0
+    go : (b : Bool) → (c.id == id) ≡ b → (has_id contexts id ≡ true → settled id ≡ true) → settled id ≡ true
+    go true q later = subst (λ i. settled i ≡ true) (eqb-true c.id id q) both.0
     go false q later = later (sym (ap (λ b. b || has_id contexts id) q) ∙ h)
 
-told_each : (statuses : List Status) (contexts : List Context) → ((id : ℕ) → has_id contexts id ≡ true → tells statuses id ≡ true) → tells_all statuses contexts ≡ true
-told_each statuses [] f = refl
-told_each statuses (c ∷ contexts) f =
-    ap (λ b. b && tells_all statuses contexts) (f c.id (head_id c contexts))
-    ∙ told_each statuses contexts (λ id h. f id (ap (λ b. (c.id == id) || b) h ∙ or_right (c.id == id)))
+settled_each : (settled : ℕ → Bool) (contexts : List Context) → ((id : ℕ) → has_id contexts id ≡ true → settled id ≡ true) → are_settled settled contexts ≡ true
+settled_each settled [] f = refl
+settled_each settled (c ∷ contexts) f =
+    ap (λ b. b && are_settled settled contexts) (f c.id (head_id c contexts))
+    ∙ settled_each settled contexts (λ id h. f id (ap (λ b. (c.id == id) || b) h ∙ or_right (c.id == id)))
   where
     or_right : (b : Bool) → (b || true) ≡ true
     or_right true = refl
@@ -86,15 +86,51 @@ keys_all test (k ∷ keys) f =
     or_right true = refl
     or_right false = refl
 
-pub all_told : (ids told : BTreeSet ℕ) (id : Option ℕ) (contexts : List Context) (statuses : List Status) → ((i : ℕ) → contains nat_cmp ids i ≡ has_id contexts i) → TellsThese statuses told id →
-    list_all (λ i. is_this id i || contains nat_cmp told i) ids.keys ≡ tells_all statuses contexts
-all_told ids told id contexts statuses these those = go (list_all test ids.keys) (tells_all statuses contexts) refl refl
+-- a test of each id in a set is one of each context, where it says of the contexts what settles them
+all_settled : (ids : BTreeSet ℕ) (test settled : ℕ → Bool) (contexts : List Context) →
+    ((i : ℕ) → contains nat_cmp ids i ≡ true → (has_id contexts i ≡ true → settled i ≡ true) → test i ≡ true) →
+    ((i : ℕ) → has_id contexts i ≡ true → (contains nat_cmp ids i ≡ true → test i ≡ true) → settled i ≡ true) →
+    list_all test ids.keys ≡ are_settled settled contexts
+all_settled ids test settled contexts to from = go (list_all test ids.keys) (are_settled settled contexts) refl refl
   where
-    test : ℕ → Bool
-    test i = is_this id i || contains nat_cmp told i
-
-    go : (a t : Bool) → list_all test ids.keys ≡ a → tells_all statuses contexts ≡ t → a ≡ t
+    go : (a t : Bool) → list_all test ids.keys ≡ a → are_settled settled contexts ≡ t → a ≡ t
     go true true q r = refl
-    go true false q r = absurd (let w : false ≡ true = sym r ∙ told_each statuses contexts (λ i h. those i ∙ all_keys test ids.keys i q (these i ∙ h)) in cc)
-    go false true q r = absurd (let w : false ≡ true = sym q ∙ keys_all test ids.keys (λ i h. sym (those i) ∙ each_told statuses contexts i r (sym (these i) ∙ h)) in cc)
+    go true false q r = absurd (let w : false ≡ true = sym r ∙ settled_each settled contexts (λ i h. from i h (all_keys test ids.keys i q)) in cc)
+    go false true q r = absurd (let w : false ≡ true = sym q ∙ keys_all test ids.keys (λ i h. to i h (each_settled settled contexts i r)) in cc)
     go false false q r = refl
+
+module _ (id : Option ℕ) (contexts : List Context) (settled : ℕ → Bool) where
+  -- without a filter: each id in force has its status
+  pub all_told : (ids told : BTreeSet ℕ) → ((i : ℕ) → contains nat_cmp ids i ≡ has_id contexts i) → TellsThese settled contexts (record { filtered = false; ids = told }) id →
+      list_all (λ i. is_this id i || contains nat_cmp told i) ids.keys ≡ are_settled settled contexts
+  all_told ids told these those =
+      all_settled ids (λ i. is_this id i || contains nat_cmp told i) settled contexts
+      (λ i c f. let h = sym (these i) ∙ c in sym (those i h) ∙ f h)
+      (λ i h f. those i h ∙ f (these i ∙ h))
+
+  -- with a filter: each id that it asks and that lacks its status is none in force
+  pub none_left : (ids left : BTreeSet ℕ) → ((i : ℕ) → contains nat_cmp ids i ≡ has_id contexts i) → TellsThese settled contexts (record { filtered = true; ids = left }) id →
+      list_all (λ i. is_this id i || not (contains nat_cmp ids i)) left.keys ≡ are_settled settled contexts
+  none_left ids left these those = all_settled left (λ i. is_this id i || not (contains nat_cmp ids i)) settled contexts to from
+    where
+      to : (i : ℕ) → contains nat_cmp left i ≡ true → (has_id contexts i ≡ true → settled i ≡ true) → (is_this id i || not (contains nat_cmp ids i)) ≡ true
+      to i c f = go (has_id contexts i) refl
+        where
+          either : (a : Bool) → (a || true) ≡ true
+          either true = refl
+          either false = refl
+
+          go : (b : Bool) → has_id contexts i ≡ b → (is_this id i || not (contains nat_cmp ids i)) ≡ true
+          go true h = ap (λ b. is_this id i || not b) (these i ∙ h) ∙ ap (λ b. is_this id i || not b) (sym c) ∙ sym (those i h) ∙ f h
+          go false h = ap (λ b. is_this id i || not b) (these i ∙ h) ∙ either (is_this id i)
+
+      from : (i : ℕ) → has_id contexts i ≡ true → (contains nat_cmp left i ≡ true → (is_this id i || not (contains nat_cmp ids i)) ≡ true) → settled i ≡ true
+      from i h f = those i h ∙ go (contains nat_cmp left i) refl
+        where
+          either : (a : Bool) → (a || true) ≡ true
+          either true = refl
+          either false = refl
+
+          go : (b : Bool) → contains nat_cmp left i ≡ b → (is_this id i || not (contains nat_cmp left i)) ≡ true
+          go true c = ap (λ b. is_this id i || not b) (c ∙ sym (these i ∙ h)) ∙ f c
+          go false c = ap (λ b. is_this id i || not b) c ∙ either (is_this id i)

@@ -1,4 +1,5 @@
 pub mod Completions
+pub mod Filters
 pub mod Heads
 pub mod Indexes
 pub mod Logs

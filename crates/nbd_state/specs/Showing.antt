@@ -1,17 +1,17 @@
 -- How the program's values show what the definitions speak of.
-use Rattle.std.specs.Prelude.{◌≡◌, ℕ, false, not, Option, Some, None, ◌++◌, is_some, length}
+use Rattle.std.specs.Prelude.{◌≡◌, ℕ, false, true, not, Option, Some, None, ◌++◌, is_some, length}
 use Rattle.nbd_wire.specs.declared.commands.TheConstants as commands
-use Rattle.std.specs.BTreeSet.{contains}
-use Rattle.std.specs.Ordering.{nat_cmp}
+use Rattle.nbd_wire.specs.protocol.Contexts.{has_id}
 use Rattle.nbd_wire.specs.protocol.Transmission.{is_none_yet}
 use Rattle.nbd_wire.specs.protocol.Operations.{Operation, Exporting, is_finished, is_outside, is_proper, has_failed, outcome, pieces}
-use Rattle.nbd_wire.specs.protocol.Statuses.{statuses, tells, zeroes}
+use Rattle.nbd_wire.specs.protocol.Statuses.{is_settled, zeroes}
 use Rattle.nbd_wire.specs.protocol.Operations as definitions
 use Rattle.nbd_state.specs.declared.asked.Asked.{Asked}
 use Rattle.nbd_state.specs.declared.asked.Exchange.{Exchange}
 use Rattle.nbd_state.specs.declared.asked.Outcome.{Outcome}
 use Rattle.nbd_state.specs.declared.asked.Outcome.TheVariants.{Success, Failure, Pending}
 use Rattle.nbd_state.specs.declared.state.Export.{Export}
+use Rattle.nbd_state.specs.Filters.{is_settled_by}
 
 -- the export of a session
 abbrev pub exporting : Export → Exporting
@@ -48,4 +48,5 @@ pub record IsShown (export : Exporting) (e : Operation) (x : Exchange) : Type 0 
   -- while it is outstanding nothing has ended, and each piece of a READ has its count
   pub is_open : is_finished e ≡ false → (x.asked.ended_at ≡ None)
       × (e.command ≡ commands.READ → AreCounted x.asked)
-  pub told_are : is_finished e ≡ false → (id : ℕ) → contains nat_cmp x.told id ≡ tells (statuses e) id
+  pub told_are : is_finished e ≡ false → (id : ℕ) → has_id e.contexts id ≡ true
+      → is_settled_by x.told id ≡ is_settled e id

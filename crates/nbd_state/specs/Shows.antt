@@ -1,18 +1,20 @@
 -- How the program's state shows what the completed messages have led to.
-use Rattle.std.specs.Prelude.{◌≡◌, ℕ, suc, ◌+◌, ◌-◌, ◌||◌, List, [], ◌∷◌, Option, Some, None, slice_get}
+use Rattle.std.specs.Prelude.{◌≡◌, ℕ, suc, ◌+◌, ◌-◌, ◌||◌, true, Bool, List, [], ◌∷◌, Option, Some, None, slice_get}
 use Rattle.nbd_state.specs.Places.{place_at}
-use Rattle.std.specs.BTreeSet.{BTreeSet, contains}
+use Rattle.std.specs.BTreeSet.{contains}
 use Rattle.std.specs.Ordering.{nat_cmp}
 use Rattle.nbd_wire.specs.protocol.Options.{is_proper_option, takes_contexts}
 use Rattle.nbd_wire.specs.protocol.Contexts as contexts
-use Rattle.nbd_wire.specs.protocol.Contexts.{Status, has_id}
-use Rattle.nbd_wire.specs.protocol.Statuses.{is_allocation, tells}
+use Rattle.nbd_wire.specs.protocol.Contexts.{has_id}
+use Rattle.nbd_wire.specs.protocol.Statuses.{is_allocation}
 use Rattle.nbd_wire.specs.protocol.Operations.{Operation, Exporting}
 use Rattle.nbd_wire.specs.protocol.States as definitions
 use Rattle.nbd_wire.specs.protocol.States.{Core, Shown, start, target, export_in, in_force}
 use Rattle.nbd_laws.specs.Selecting.{AreAskedWith}
 use Rattle.nbd_state.specs.declared.asked.Exchange.{Exchange}
+use Rattle.nbd_state.specs.declared.asking.Telling.{Telling}
 use Rattle.nbd_state.specs.declared.selection.Selection.{Selection}
+use Rattle.nbd_state.specs.Filters.{is_settled_by}
 use Rattle.nbd_state.specs.declared.state.Export.{Export}
 use Rattle.nbd_state.specs.declared.state.Phase.{Phase}
 use Rattle.nbd_state.specs.declared.state.Phase.TheVariants.{Greet, Flags, Choosing, Naming, Aborting, Answering, Ended, Transmission}
@@ -66,9 +68,10 @@ pub record HasSelection (shown : Selection) (selection : contexts.Selection) : T
   pub allocations_are : (id : ℕ) → contains nat_cmp shown.allocations id ≡ is_allocation selection.contexts id
   pub granted_is : shown.granted ≡ selection.granted
 
--- the statuses are of the contexts with these ids, and of the one with this, if any
-abbrev pub TellsThese : List Status → BTreeSet ℕ → Option ℕ → Type 0
-TellsThese statuses told id = (i : ℕ) → tells statuses i ≡ (is_this id i || contains nat_cmp told i)
+-- each of these contexts is settled exactly where a telling says so, or where it is the one with this id, if any
+abbrev pub TellsThese : (settled : ℕ → Bool) → List contexts.Context → Telling → Option ℕ → Type 0
+TellsThese settled in_force told id = (i : ℕ) → has_id in_force i ≡ true
+    → settled i ≡ (is_this id i || is_settled_by told i)
 
 -- what the messages of a reply showed before the last one, of an exchange if there is one
 abbrev pub shown_if : Option Exchange → List Shown

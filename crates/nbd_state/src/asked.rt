@@ -2,10 +2,10 @@
 
 ghost use Rattle.nbd_state.specs.Indexes.{Indexes};
 
+use crate::asking::Telling;
 use crate::index::SpanIndex;
 use nbd_wire::{Bytes, Piece};
 use smallvec::SmallVec;
-use std::collections::BTreeSet;
 
 /// What became of a request.
 #[derive(Clone, Copy, PartialEq, Eq, Drop)]
@@ -51,8 +51,8 @@ pub struct Asked {
 pub struct Exchange {
     /// A reply message told a failure.
     pub failed: bool,
-    /// The ids of the metadata contexts that have a status chunk in the reply, until it ends.
-    pub told: BTreeSet<u32>,
+    /// The metadata contexts that the reply need not tell any more, until it ends.
+    pub told: Telling,
     // The pieces by their offsets, from the second one on and until the reply ends.
     pub(crate) index: SpanIndex,
     pub asked: Asked,

@@ -11,7 +11,8 @@ ghost use Rattle.nbd_wire.specs.protocol.Operations.{Exporting};
 ghost use Rattle.nbd_wire.specs.protocol.Rules.{MayComplete, complete, grants_extended, grants_structured, core_with_reply, core_with_request};
 ghost use Rattle.nbd_wire.specs.protocol.Sendable.{IsSendable};
 ghost use Rattle.nbd_wire.specs.protocol.States as definitions;
-ghost use Rattle.nbd_wire.specs.protocol.States.{Core, in_force, start_of, target};
+ghost use Rattle.nbd_wire.specs.protocol.States.{Core, has_contexts, in_force, start_of, target};
+ghost use Rattle.nbd_state.specs.Filters.{filter_of_head};
 ghost use Rattle.nbd_state.specs.Heads.{chunk_of};
 ghost use Rattle.nbd_state.specs.internal.Showing.{carried, operation_of_head};
 ghost use Rattle.nbd_wire.specs.protocol.Sizes.{sizes_for, sizes_kept};
@@ -209,6 +210,7 @@ impl State {
             target head.now.cookie core.entries ≡ None) →
             Shows self.new (core_with_request (head.now.command == commands.DISC) core
             (operation_of_head head.now (carried head.now payload.now) (in_force core)
+            (filter_of_head (has_contexts core) head.now payload.now)
             (sizes_for core.structured head.now.command (sizes_kept core.sizing)) []))) }
         ensures adds { OnOk result (AddsUnanswered self.old.exchanges.items self.new.exchanges.items) }
         ensures profile { self.new.profile ≡ self.old.profile }
@@ -219,9 +221,11 @@ impl State {
         }
         match self.phase {
             Phase::Transmission(export) => {
-                let contexts = self.has_contexts();
                 let sizes = sizes_for(self.structured, head.command, self.sizing.kept());
-                let exchange = Exchange::new(alloc, export, contexts, sizes, head, payload)?;
+                let (in_force, flags) = (self.brings_contexts, export.flags);
+                let bytes = payload.as_slice();
+                let asking = self.selection.asking(alloc, in_force, flags, head, bytes)?;
+                let exchange = Exchange::new(alloc, export, asking, sizes, head, payload)?;
                 self.add(head.cookie, exchange)
             }
             _ => unreachable!(),

@@ -6,6 +6,7 @@
 
 mod apart;
 mod asked;
+mod asking;
 mod completing;
 mod index;
 mod offsets;
@@ -20,6 +21,7 @@ mod statuses;
 mod transcript;
 
 pub use asked::{Asked, Exchange, Outcome};
+pub use asking::{Asking, Telling};
 pub use index::SpanIndex;
 pub use offsets::byte_read;
 pub use outstanding::Outstanding;

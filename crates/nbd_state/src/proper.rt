@@ -4,44 +4,53 @@
 ghost use Rattle.std.specs.Prelude.{◌≡◌, ◌<◌, ◌+◌, ◌==◌, ◌&&◌, ◌||◌, ℕ, List, Option, false, length, not, nat_le};
 ghost use Rattle.nbd_wire.specs.declared.message.Message.{Message};
 ghost use Rattle.nbd_wire.specs.declared.sizes.Sizes.{Sizes};
-ghost use Rattle.nbd_wire.specs.protocol.Contexts.{Context};
+ghost use Rattle.nbd_wire.specs.protocol.Contexts.{Context, Filter};
 ghost use Rattle.nbd_wire.specs.protocol.Operations as operations;
 ghost use Rattle.nbd_wire.specs.protocol.Operations.{Operation};
+ghost use Rattle.nbd_state.specs.Filters.{Asks};
 ghost use Rattle.nbd_state.specs.Showing.{exporting};
 ghost use Rattle.nbd_state.specs.internal.Showing.{operation_of_head};
 
+use crate::asking::Asking;
 use crate::state::Export;
 use nbd_wire::flags::{has, has_only};
 use nbd_wire::{RequestHead, Sizes, breaks_sizes, command_flags, commands, transmission};
 
-/// Whether a client should send this request to the export; a BLOCK_STATUS, where a metadata context is in force.
+/// Whether a client should send this request, which asks this, to the export.
 #[tactic(auto, unfolding(nbd_wire::specs::protocol::Operations::is_proper))]
-pub fn is_proper(export: Export, has_contexts: bool, request: &RequestHead) -> bool
-    ensures { (payload : List ℕ) (contexts : List Context) (sizes : Option Sizes) (replies : List Message) →
-        has_contexts ≡ not (length contexts == 0) → result ≡ operations.is_proper (exporting export)
-        (operation_of_head request.now payload contexts sizes replies) }
+pub fn is_proper(export: Export, asking: &Asking, request: &RequestHead) -> bool
+    ensures { (payload : List ℕ) (contexts : List Context) (filter : Option Filter) (sizes : Option Sizes)
+        (replies : List Message) → Asks export.flags contexts filter request.now.length asking.now →
+        result ≡ operations.is_proper (exporting export)
+        (operation_of_head request.now payload contexts filter sizes replies) }
 {
-    is_known(request.command, has_contexts)
-        && is_in_range(export.size, request)
+    let carries = request.extended && request.command == commands::WRITE || asking.takes_filter;
+    is_known(request.command, asking.has_contexts)
+        && is_in_range(export.size, request.command, request.offset, asking.length)
         && is_offered(export.flags, request.command)
         && !(is_change(request.command) && has(export.flags, transmission::READ_ONLY))
         && has_only(
             u32::from(request.flags),
-            u32::from(allowed_flags(request.extended, export.flags, request.command)),
+            u32::from(allowed_flags(carries, export.flags, request.command)),
         )
-        && (request.command != commands::FLUSH || request.offset == 0 && request.length == 0)
+        && (request.command != commands::FLUSH || request.offset == 0 && asking.length == 0)
 }
 
-/// Whether the range of this request, if its type is known and has one, breaks the block sizes, if there are some; a BLOCK_STATUS is
-/// known where a metadata context is in force.
-pub fn is_outside(sizes: Option<Sizes>, has_contexts: bool, request: &RequestHead) -> bool
-    ensures { (payload : List ℕ) (contexts : List Context) (replies : List Message) →
-        has_contexts ≡ not (length contexts == 0) →
-        result ≡ operations.is_outside (operation_of_head request.now payload contexts sizes replies) }
+/// Whether a request of this type, with a range of this offset and size in bytes, breaks the block sizes, if there are
+/// some. Its type has to be known and to have a range; a BLOCK_STATUS is known where a metadata context is in force.
+pub fn is_outside(
+    sizes: Option<Sizes>,
+    has_contexts: bool,
+    command: u16,
+    offset: u64,
+    size: u64,
+) -> bool
+    ensures { (e : Operation) → e.command ≡ command → e.offset ≡ offset → e.length ≡ size → e.sizes ≡ sizes →
+        has_contexts ≡ not (length e.contexts == 0) → result ≡ operations.is_outside e }
 {
-    is_known(request.command, has_contexts)
-        && has_range(request.command)
-        && breaks_sizes(sizes, request.command, request.offset, request.length)
+    is_known(command, has_contexts)
+        && has_range(command)
+        && breaks_sizes(sizes, command, offset, size)
 }
 
 // The type of a numbered request is known.
@@ -81,12 +90,11 @@ pub fn ends_by(offset: u64, size: u64, end: u64) -> bool
     offset <= end && size <= end - offset
 }
 
-// The range of the request, if it has one, lies in the export.
-fn is_in_range(size: u64, request: &RequestHead) -> bool
-    ensures { result ≡ not (operations.has_range request.now.command) || nat_le
-        (request.now.offset + request.now.length) size }
+// The range of a request of this type, if it has one, lies in an export of this size.
+fn is_in_range(size: u64, command: u16, offset: u64, length: u64) -> bool
+    ensures { result ≡ not (operations.has_range command) || nat_le (offset + length) size }
 {
-    !has_range(request.command) || ends_by(request.offset, request.length, size)
+    !has_range(command) || ends_by(offset, length, size)
 }
 
 // The export offers the type. CACHE needs no SEND_CACHE: servers carry it out without that flag
@@ -102,14 +110,11 @@ fn is_offered(flags: u16, command: u16) -> bool
     }
 }
 
-// The flags that a request of this type may carry.
-fn allowed_flags(extended: bool, flags: u16, command: u16) -> u16
-    ensures { result ≡ operations.allowed_flags extended flags command }
+// The flags that a request of this type may have, by whether PAYLOAD_LEN is one.
+fn allowed_flags(carries: bool, flags: u16, command: u16) -> u16
+    ensures { result ≡ operations.allowed_flags carries flags command }
 {
-    mask_if(
-        extended && command == commands::WRITE,
-        command_flags::PAYLOAD_LEN,
-    ) | other_flags(flags, command)
+    mask_if(carries, command_flags::PAYLOAD_LEN) | other_flags(flags, command)
 }
 
 // The same, but for PAYLOAD_LEN.

@@ -5,7 +5,7 @@ ghost use Rattle.smallvec.specs.SmallVec.{HasRoomFor};
 ghost use Rattle.nbd_wire.specs.declared.message.Message.{Message};
 ghost use Rattle.nbd_wire.specs.declared.message.Message.TheVariants.{Simple};
 ghost use Rattle.nbd_wire.specs.codec.Contents.{piece_of};
-ghost use Rattle.nbd_wire.specs.protocol.Contexts.{Context, Status};
+ghost use Rattle.nbd_wire.specs.protocol.Contexts.{Context, Filter, Status};
 ghost use Rattle.nbd_wire.specs.protocol.Payloads as payloads;
 ghost use Rattle.nbd_wire.specs.protocol.Pieces as pieces;
 ghost use Rattle.nbd_wire.specs.protocol.Operations.{Operation, Exporting, ends_reply, is_error_chunk, is_failing, is_finished};
@@ -17,25 +17,26 @@ ghost use Rattle.nbd_state.specs.internal.Completing.{is_allocation_told};
 ghost use Rattle.nbd_state.specs.declared.asked.Outcome.TheVariants.{Failure, Success};
 ghost use Rattle.std.specs.Option.{option_copied};
 ghost use Rattle.nbd_state.specs.Indexes.{Indexes};
+ghost use Rattle.nbd_state.specs.Filters.{Asks};
 ghost use Rattle.nbd_state.specs.Heads.{chunk_of};
 ghost use Rattle.nbd_state.specs.internal.Showing.{carried, operation_of_head};
 ghost use Rattle.nbd_state.specs.Showing.{IsShown, exporting};
 ghost use Rattle.nbd_state.specs.internal.Noting.{IsNotedWith};
 ghost use Rattle.nbd_wire.specs.protocol.Rules.{noted};
-ghost use Rattle.std.specs.Prelude.{◌&&◌, OnOk, IsTrue, vec_capacity, vec_len};
+ghost use Rattle.std.specs.Prelude.{◌&&◌, None, OnOk, Option, IsTrue, vec_capacity, vec_len};
 
 use crate::asked::{Asked, Exchange, Outcome};
+use crate::asking::Asking;
 use crate::index::SpanIndex;
 use crate::proper::{is_outside, is_proper};
 use crate::state::Export;
-use crate::statuses::{clear_if, tell, told_in, zeroes_told};
+use crate::statuses::{told_in, zeroes_told};
 use nbd_wire::flags::has;
 use nbd_wire::{
     Bytes, ChunkHead, Content, Piece, RequestHead, Sizes, chunks, commands, content_of,
 };
 use smallvec::SmallVec;
 use std::alloc::{AllocError, Global};
-use std::collections::BTreeSet;
 use std::mem;
 
 /// How many numbered requests had completed before the first byte of a message, and how many when it was whole.
@@ -46,24 +47,26 @@ pub(crate) struct Counts {
 }
 
 impl Exchange {
-    /// A request that has just completed; whether a metadata context is in force, and the block sizes that are, if any. An `Err`
-    /// says that memory ran out.
+    /// A request that has just completed, what it asks, and the block sizes that are in force, if any. An `Err` says that
+    /// memory ran out.
     pub(crate) fn new(
         alloc: Global,
         export: Export,
-        has_contexts: bool,
+        asking: Asking,
         sizes: Option<Sizes>,
         head: &RequestHead,
         payload: &Bytes,
     ) -> Result<Exchange, AllocError>
-        ensures { IfOk result (λ x. (contexts : List Context) → has_contexts ≡ not (length contexts == 0) →
-            IsShown (exporting export) (operation_of_head head.now (carried head.now payload.now) contexts sizes []) x) }
+        ensures shown { IfOk result (λ x. (contexts : List Context) (filter : Option Filter) →
+            Asks export.flags contexts filter head.now.length asking → IsShown (exporting export)
+            (operation_of_head head.now (carried head.now payload.now) contexts filter sizes []) x) }
+        ensures unanswered { IfOk result (λ x. x.asked.known_at ≡ None) }
     {
         let payload = carried(head, payload)?;
         let asked = Asked {
             flags: head.flags,
             command: head.command,
-            length: head.length,
+            length: asking.length,
             cookie: head.cookie,
             offset: head.offset,
             payload,
@@ -72,13 +75,19 @@ impl Exchange {
             ended_at: None,
             known_at: None,
             outcome: Outcome::Pending,
-            proper: is_proper(export, has_contexts, head),
-            outside: is_outside(sizes, has_contexts, head),
+            proper: is_proper(export, &asking, head),
+            outside: is_outside(
+                sizes,
+                asking.has_contexts,
+                head.command,
+                head.offset,
+                asking.length,
+            ),
         };
         Ok(Exchange {
             asked,
             failed: false,
-            told: BTreeSet::new(alloc),
+            told: asking.told,
             index: SpanIndex::new(alloc),
         })
     }
@@ -138,7 +147,15 @@ impl Exchange {
             if self.asked.known_at.is_some() {
                 return self.take_status(id, counts, ends);
             }
-            return self.take_first_status(alloc, id, descriptors, zeroes, counts, ends);
+            return self.take_first_status(
+                alloc,
+                id,
+                head.at.is_some(),
+                descriptors,
+                zeroes,
+                counts,
+                ends,
+            );
         }
         let piece = content_piece(alloc, head.kind, payload)?;
         self.take(alloc, piece, counts, ends, is_error_chunk(head.kind))
@@ -149,6 +166,7 @@ impl Exchange {
         &mut self,
         alloc: Global,
         id: u32,
+        extended: bool,
         descriptors: &[u8],
         zeroes: bool,
         counts: Counts,
@@ -158,7 +176,7 @@ impl Exchange {
             IsShown export e self.old → is_finished e ≡ false → export.size < 2 ^ 64 →
             is_some self.old.asked.known_at ≡ false → ends_reply m ≡ ends →
             is_failing m ≡ false → pieces.piece_of e.offset m ≡ [] →
-            status_in m ≡ record { id = id; extents = extents_of descriptors.now } ∷ [] →
+            status_in m ≡ record { id = id; extents = extents_of extended descriptors.now } ∷ [] →
             zeroes ≡ is_allocation e.contexts id → IsShown export (with_reply e m) self.new) }
         ensures noted { IfOk result (λ _. (export : Exporting) (e : Operation) (m : Message) →
             IsShown export e self.old → is_finished e ≡ false → is_some self.old.asked.known_at ≡ false →
@@ -171,8 +189,8 @@ impl Exchange {
             IsShown export e self.old → IsShown export e self.new) }
         ensures kept { IfErr result (λ _. self.new.asked.known_at ≡ self.old.asked.known_at) }
     {
-        let pieces = zeroes_told(alloc, &self.asked, descriptors, zeroes)?;
-        tell(&mut self.told, id, ends)?;
+        let pieces = zeroes_told(alloc, &self.asked, extended, descriptors, zeroes)?;
+        self.told.tell(id, ends)?;
         self.asked.pieces = SmallVec::from_vec(pieces);
         self.index = SpanIndex::new(alloc);
         self.asked.known_at = first(self.asked.known_at, counts.known);
@@ -197,7 +215,7 @@ impl Exchange {
             IsShown export e self.old → IsShown export e self.new) }
         ensures kept { IfErr result (λ _. self.new.asked.known_at ≡ self.old.asked.known_at) }
     {
-        tell(&mut self.told, id, ends)?;
+        self.told.tell(id, ends)?;
         self.asked.known_at = first(self.asked.known_at, counts.known);
         self.asked.ended_at = ended(self.asked.ended_at, ends, counts.now);
         self.asked.outcome = outcome_after(self.asked.outcome, ends, self.failed);
@@ -235,7 +253,7 @@ impl Exchange {
         push_if(&mut self.asked.pieces, piece)?;
         self.index = index;
         count_if(&mut self.asked.shown, gives, ends, counts.now)?;
-        clear_if(&mut self.told, ends);
+        self.told.clear_if(ends);
         self.failed |= fails;
         self.asked.known_at = first(self.asked.known_at, counts.known);
         self.asked.ended_at = ended(self.asked.ended_at, ends, counts.now);

@@ -1,16 +1,17 @@
 //! What SET_META_CONTEXT selects (proto.md, "Option types", "Metadata querying").
 
-ghost use Rattle.std.specs.Prelude.{◌≡◌, ◌==◌, [], List, false, OnOk, length};
+ghost use Rattle.std.specs.Prelude.{ℕ, ◌≡◌, ◌==◌, [], List, Bool, false, OnOk, length};
 ghost use Rattle.std.specs.BTreeSet.{contains};
 ghost use Rattle.std.specs.Ordering.{nat_cmp};
 ghost use Rattle.nbd_wire.specs.protocol.Contexts as contexts;
-ghost use Rattle.nbd_wire.specs.protocol.Contexts.{Status, has_id, no_selection};
+ghost use Rattle.nbd_wire.specs.protocol.Contexts.{has_id, no_selection};
 ghost use Rattle.nbd_wire.specs.protocol.Options.{agrees, selection_after, selection_at, selection_told, with_context};
 ghost use Rattle.nbd_wire.specs.protocol.Payloads.{context_of};
 ghost use Rattle.nbd_wire.specs.protocol.States as definitions;
-ghost use Rattle.nbd_wire.specs.protocol.Statuses.{is_allocation, tells_all};
+ghost use Rattle.nbd_wire.specs.protocol.Statuses.{are_settled, is_allocation};
 ghost use Rattle.nbd_state.specs.Shows.{HasSelection, TellsThese, phase_shown};
 
+use crate::asking::Telling;
 use crate::state::{Chosen, Phase};
 use nbd_wire::{answers, context_of, name_in, options};
 use std::alloc::{AllocError, Global};
@@ -69,12 +70,20 @@ impl Selection {
         self.ids.is_empty()
     }
 
-    /// Whether each of the contexts has one of these ids, or this one.
-    pub(crate) fn are_told(&self, told: &BTreeSet<u32>, id: Option<u32>) -> bool
-        ensures { (selection : contexts.Selection) (statuses : List Status) → HasSelection self.now selection →
-            TellsThese statuses told.now id → result ≡ tells_all statuses selection.contexts }
+    /// Whether each of the contexts is settled, or is the one with this id.
+    pub(crate) fn are_told(&self, told: &Telling, id: Option<u32>) -> bool
+        ensures { (selection : contexts.Selection) (settled : ℕ → Bool) → HasSelection self.now selection →
+            TellsThese settled selection.contexts told.now id → result ≡ are_settled settled selection.contexts }
     {
-        self.ids.iter().all(|i| id == Some(*i) || told.contains(i))
+        if told.filtered {
+            told.ids
+                .iter()
+                .all(|i| id == Some(*i) || !self.ids.contains(i))
+        } else {
+            self.ids
+                .iter()
+                .all(|i| id == Some(*i) || told.ids.contains(i))
+        }
     }
 
     /// Whether an option that is chosen leads, if it is granted, into transmission with this selection.

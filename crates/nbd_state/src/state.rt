@@ -1,12 +1,12 @@
 //! What the completed messages of a session have led to.
 
 use crate::asked::Exchange;
+use crate::asking::Telling;
 use crate::outstanding::Outstanding;
 use crate::selection::Selection;
 use crate::transcript::Transcript;
 use nbd_wire::{Profile, Sizing};
 use std::alloc::Global;
-use std::collections::BTreeSet;
 
 /// An export as the server described it: its size in bytes and its transmission flags.
 #[derive(Clone, Copy, PartialEq, Eq, Drop)]
@@ -76,9 +76,9 @@ pub struct State {
 
 impl State {
     ghost use Rattle.nbd_wire.specs.protocol.States.{Core, in_force, start, start_of};
-    ghost use Rattle.std.specs.Prelude.{◌≡◌, ◌==◌, List, length, not};
-    ghost use Rattle.nbd_wire.specs.protocol.Contexts.{Status, has_id};
-    ghost use Rattle.nbd_wire.specs.protocol.Statuses.{is_allocation, tells_all};
+    ghost use Rattle.std.specs.Prelude.{ℕ, Bool, ◌≡◌, ◌==◌, length, not};
+    ghost use Rattle.nbd_wire.specs.protocol.Contexts.{has_id};
+    ghost use Rattle.nbd_wire.specs.protocol.Statuses.{are_settled, is_allocation};
     ghost use Rattle.nbd_state.specs.Shows.{Shows, TellsThese};
     ghost use Rattle.nbd_laws.specs.Soundness.{IsSoundReport};
     ghost use Rattle.nbd_state.specs.Transcripts.{export_of, transcript_report};
@@ -132,11 +132,11 @@ impl State {
         self.brings_contexts && self.selection.is_allocation(id)
     }
 
-    /// Whether each metadata context in force has one of these ids, or this one. The cost is the number of contexts
-    /// in force times the logarithm of the number of ids.
-    pub fn are_told(&self, told: &BTreeSet<u32>, id: Option<u32>) -> bool
-        ensures { (core : Core) (statuses : List Status) → Shows self.now core → TellsThese statuses told.now id →
-            result ≡ tells_all statuses (in_force core) }
+    /// Whether each metadata context in force is settled, or is the one with this id. The cost is the number of contexts
+    /// that the request asks, times the logarithm of the number in force.
+    pub fn are_told(&self, told: &Telling, id: Option<u32>) -> bool
+        ensures { (core : Core) (settled : ℕ → Bool) → Shows self.now core →
+            TellsThese settled (in_force core) told.now id → result ≡ are_settled settled (in_force core) }
     {
         !self.brings_contexts || self.selection.are_told(told, id)
     }

@@ -21,7 +21,13 @@ impl Story {
     // Whether a request is outside of them.
     fn is_outside(&self, head: &RequestHead) -> bool {
         let sizes = sizes_for(self.contexts.is_structured(), head.command, self.sizes());
-        is_outside(sizes, self.contexts.are_in_force(), head)
+        is_outside(
+            sizes,
+            self.contexts.are_in_force(),
+            head.command,
+            head.offset,
+            head.length,
+        )
     }
 
     // Whether the client should not have sent a request.
@@ -64,7 +70,7 @@ impl Text {
         let text = self
             .asked("message: ", request)
             .end()
-            .improper(&request.head, story);
+            .improper(request, story);
         match story.sizes() {
             Some(sizes) if story.is_outside(&request.head) => {
                 text.unfit(&request.head, sizes, story.contexts.is_structured())

@@ -5,10 +5,13 @@ use crate::requests::Request;
 use crate::story::Story;
 use crate::text::Text;
 use crate::told::Told;
-use crate::zeroes::{Descriptor, count_of, descriptor_in};
-use nbd_state::Selection;
-use nbd_wire::flags::has_wide;
-use nbd_wire::{Side, answers, chunks, context_of, options, states, status_of};
+use crate::zeroes::{Descriptor, Descriptors, count_of, descriptor_in};
+use nbd_state::{Asking, Selection};
+use nbd_wire::flags::{has, has_long};
+use nbd_wire::{
+    RequestHead, Side, answers, bytes_in, command_flags, commands, context_of, filter_of, first_id,
+    options, states, status_ext_of, status_of,
+};
 use std::alloc::{AllocError, Global};
 use std::collections::{BTreeMap, BTreeSet};
 
@@ -70,6 +73,18 @@ impl Contexts {
         self.selection.is_allocation(id)
     }
 
+    /// What a request with this head and payload asks of an export with these flags.
+    pub fn asking(
+        &self,
+        alloc: Global,
+        flags: u16,
+        head: &RequestHead,
+        payload: &[u8],
+    ) -> Result<Asking, AllocError> {
+        self.selection
+            .asking(alloc, self.agreed, flags, head, payload)
+    }
+
     /// The client has chosen an option with these data.
     pub fn choose(&mut self, option: u32, data: &[u8]) -> Result<(), AllocError> {
         self.agreed = self.structured && self.selection.agrees(option, data);
@@ -106,11 +121,80 @@ impl Contexts {
 
 impl Story {
     /// The context of a status chunk and its descriptors; of another message no descriptor.
-    pub fn status_in(&self, told: &Told) -> (u32, &[u8]) {
-        match status_of(self.behind(told)) {
-            Some(status) if told.is_chunk(chunks::BLOCK_STATUS) => status,
-            _ => (0, &[]),
+    pub fn status_in(&self, told: &Told) -> (u32, Descriptors<'_>) {
+        let extended = told.at.is_some();
+        let payload = self.behind(told);
+        let read = if extended {
+            status_ext_of(payload)
+        } else {
+            status_of(payload)
+        };
+        let (id, bytes) = match read {
+            Some(status) if told.is_status() => status,
+            _ => (0, &[] as &[u8]),
+        };
+        (id, Descriptors { extended, bytes })
+    }
+
+    /// The filter of a request, whose payload is a filter and has come whole: the length of its range in bytes, and the bytes
+    /// of the ids that it asks.
+    pub fn filter_in(&self, told: &Told) -> Option<(u64, &[u8])> {
+        let payload = self.behind(told);
+        if self.may_filter(&told.head()) && payload.len() as u64 == told.payload {
+            filter_of(payload)
+        } else {
+            None
         }
+    }
+
+    /// The same of a request that came whole before: the bytes of the ids.
+    pub fn filter_of(&self, request: &Request) -> Option<&[u8]> {
+        if !self.may_filter(&request.head) {
+            return None;
+        }
+        let payload = self
+            .recording
+            .bytes_at(Side::Client, request.payload_from, request.payload);
+        filter_of(payload).map(|filter| filter.1)
+    }
+
+    // Whether the payload of a request with this head is a filter, if it has the form of one.
+    fn may_filter(&self, head: &RequestHead) -> bool {
+        head.extended
+            && head.command == commands::BLOCK_STATUS
+            && has(head.flags, command_flags::PAYLOAD_LEN)
+            && self.contexts.are_in_force()
+    }
+
+    /// Whether a request asks the context in force with this id.
+    pub fn asks(&self, request: &Request, id: u32) -> bool {
+        match self.filter_of(request) {
+            Some(ids) => is_among(ids, id),
+            None => true,
+        }
+    }
+}
+
+// Whether one of these ids is this one.
+fn is_among(ids: &[u8], id: u32) -> bool {
+    for number in 0..count_of_ids(ids) {
+        if id_in(ids, number) == id {
+            return true;
+        }
+    }
+    false
+}
+
+// How many ids these bytes are.
+fn count_of_ids(ids: &[u8]) -> u64 {
+    ids.len() as u64 / 4
+}
+
+// The id with this number, from 0.
+fn id_in(ids: &[u8], number: u64) -> u32 {
+    match first_id(bytes_in(ids, number.saturating_mul(4) as usize, 4)) {
+        Some((id, _)) => id,
+        None => 0,
     }
 }
 
@@ -118,7 +202,7 @@ impl Story {
 pub fn is_told(id: u32, request: u64, story: &Story) -> bool {
     for told in &story.told {
         let (context, descriptors) = story.status_in(told);
-        if told.answers(request) && context == id && !descriptors.is_empty() {
+        if told.answers(request) && context == id && !descriptors.bytes.is_empty() {
             return true;
         }
     }
@@ -162,6 +246,42 @@ impl Text {
         text
     }
 
+    /// The first contexts that a request with this filter asks, and how many more there are.
+    pub fn filter(self, told: &Told, story: &Story) -> Text {
+        let Some((_, ids)) = story.filter_in(told) else {
+            return self;
+        };
+        let count = count_of_ids(ids);
+        let mut text = self.say_if(count == 0, ", asks no context");
+        for number in 0..count.min(LISTED) {
+            text = text
+                .say_either(number == 0, ", asks ", "; ")
+                .context("", id_in(ids, number), story);
+        }
+        text.more(count, LISTED, "; {} more")
+    }
+
+    /// What is wrong with the filter of a request that has one: its first id that no client sends.
+    pub fn bad_filter(self, request: &Request, story: &Story) -> Text {
+        let mut seen = Ids::none(*story.requests.allocator());
+        let ids = story.filter_of(request).unwrap_or(&[] as &[u8]);
+        for number in 0..count_of_ids(ids) {
+            let id = id_in(ids, number);
+            if !story.contexts.has(id) {
+                return self.number(
+                    "wrong: its filter asks context {}, which is not in force\n",
+                    u64::from(id),
+                );
+            }
+            if !seen.add(id) {
+                return self
+                    .refused_if(seen.is_refused)
+                    .number("wrong: its filter asks context {} twice\n", u64::from(id));
+            }
+        }
+        self
+    }
+
     /// What a reply to an option with these data says of a context.
     pub fn context_told(self, data: &[u8]) -> Text {
         match context_of(data) {
@@ -174,7 +294,7 @@ impl Text {
     pub fn status(self, told: &Told, story: &Story) -> Text {
         let (id, descriptors) = story.status_in(told);
         let offset = story.request(told.request).head.offset;
-        if descriptors.is_empty() {
+        if descriptors.bytes.is_empty() {
             self
         } else {
             self.context(", ", id, story)
@@ -183,7 +303,7 @@ impl Text {
     }
 
     // The first descriptors, of bytes from an offset on, and how many more there are.
-    fn extents(self, is_allocation: bool, descriptors: &[u8], offset: u64) -> Text {
+    fn extents(self, is_allocation: bool, descriptors: Descriptors<'_>, offset: u64) -> Text {
         let count = count_of(descriptors);
         let mut text = self;
         let mut from = offset;
@@ -201,17 +321,17 @@ impl Text {
     fn extent(self, is_allocation: bool, one: Descriptor) -> Text {
         let text = self.part("", one.part);
         if is_allocation {
-            let is_hole = has_wide(one.flags, states::HOLE);
-            let is_zero = has_wide(one.flags, states::ZERO);
+            let is_hole = has_long(one.flags, u64::from(states::HOLE));
+            let is_zero = has_long(one.flags, u64::from(states::ZERO));
             text.say_if(is_hole, " hole")
                 .say_if(is_zero, " zero")
                 .say_if(!is_hole && !is_zero, " data")
         } else {
-            text.number(" flags {:#x}", u64::from(one.flags))
+            text.number(" flags {:#x}", one.flags)
         }
     }
 
-    /// The contexts in force of which the reply to a request has no status, with the refused chunk.
+    /// The contexts in force that a request asks and of which its reply has no status, with the refused chunk.
     pub fn missing_statuses(
         self,
         alloc: Global,
@@ -219,26 +339,24 @@ impl Text {
         request: &Request,
         story: &Story,
     ) -> Text {
-        let mut told = Ids {
-            ids: BTreeSet::new(alloc),
-            is_refused: false,
-        }
-        .with(chunk, story);
+        let mut told = Ids::none(alloc).with(chunk, story);
         for message in &story.told {
             if message.answers(request.number) {
                 told = told.with(message, story);
             }
         }
-        self.without_status(&told.ids, story)
-            .refused_if(told.is_refused)
+        let asked = Ids::asked(alloc, request, story);
+        self.without_status(&told.ids, &asked, story)
+            .refused_if(told.is_refused || asked.is_refused)
     }
 
-    // The first contexts in force that have none of these ids, and how many more there are.
-    fn without_status(self, told: &BTreeSet<u32>, story: &Story) -> Text {
+    // The first of these contexts, where a filter asks them, or else of those in force, that are not told; and how many more
+    // there are.
+    fn without_status(self, told: &BTreeSet<u32>, asked: &Ids, story: &Story) -> Text {
         let mut text = self;
         let mut missing = 0u64;
         for (id, _) in &story.contexts.names {
-            if story.contexts.has(*id) && !told.contains(id) {
+            if asked.may_have(*id) && story.contexts.has(*id) && !told.contains(id) {
                 missing = missing.saturating_add(1);
                 if missing <= LISTED {
                     text = text.context("missing: the status of ", *id, story).end();
@@ -259,19 +377,59 @@ fn are_graphic(bytes: &[u8]) -> bool {
     true
 }
 
-/// The contexts whose status a reply has. Once memory was refused they are not known.
+/// The contexts whose status a reply has, or that a request asks. Once memory was refused they are not known.
 #[derive(Drop)]
 struct Ids {
     ids: BTreeSet<u32>,
+    /// They are those that a request asks, and it has no filter: each is one.
+    are_all: bool,
     is_refused: bool,
 }
 
 impl Ids {
+    fn none(alloc: Global) -> Ids {
+        Ids {
+            ids: BTreeSet::new(alloc),
+            are_all: false,
+            is_refused: false,
+        }
+    }
+
+    // Those that a request asks.
+    fn asked(alloc: Global, request: &Request, story: &Story) -> Ids {
+        let mut asked = Ids::none(alloc);
+        match story.filter_of(request) {
+            Some(ids) => {
+                for number in 0..count_of_ids(ids) {
+                    asked.add(id_in(ids, number));
+                }
+            }
+            None => asked.are_all = true,
+        }
+        asked
+    }
+
+    // One more; whether it is new.
+    fn add(&mut self, id: u32) -> bool {
+        match self.ids.insert(id) {
+            Ok(is_new) => is_new,
+            Err(_) => {
+                self.is_refused = true;
+                false
+            }
+        }
+    }
+
+    // Whether one has this id.
+    fn may_have(&self, id: u32) -> bool {
+        self.are_all || self.ids.contains(&id)
+    }
+
     // These and that of a message, if it is a status.
     fn with(mut self, told: &Told, story: &Story) -> Ids {
         let (id, descriptors) = story.status_in(told);
-        if !descriptors.is_empty() {
-            self.is_refused |= self.ids.insert(id).is_err();
+        if !descriptors.bytes.is_empty() {
+            self.add(id);
         }
         self
     }

@@ -24,9 +24,8 @@ const EXTENDED_IN_WIDE: &str = "try --profile wide, which follows extended heade
 /// What metadata contexts are for.
 const CONTEXTS: &str = "metadata contexts, which block status needs";
 
-/// What of a message with an extended header nbdcheck does not follow, and how a session is recorded without it.
-const BEYOND: &str =
-    "record requests whose payload has at most 4294967295 bytes, and no BLOCK_STATUS where extended headers are in force: in libnbd h.set_request_extended_headers(False), or a server that has none";
+/// What of a message with an extended header nbdcheck does not follow: how a session is recorded without it.
+const BEYOND: &str = "record requests and chunks whose payload has at most 4294967295 bytes";
 
 /// The options that have a name.
 const EXTENSIONS: &[Extension] = &[

@@ -146,7 +146,8 @@ impl Text {
     }
 
     /// Adds why a client should not send this request to the export: each reason.
-    pub fn improper(self, head: &RequestHead, story: &Story) -> Text {
+    pub fn improper(self, request: &Request, story: &Story) -> Text {
+        let head = &request.head;
         if head.command == commands::BLOCK_STATUS && !story.contexts.are_in_force() {
             return match story.profile {
                 Profile::Base => self.wrong(UNKNOWN_TYPE),
@@ -160,6 +161,30 @@ impl Text {
             text = text.wrong_if(ban.forbids(head, story.export.flags), ban.reason);
         }
         text.wrong_type(head, has(story.export.flags, transmission::READ_ONLY))
+            .wrong_payload(request, story)
+    }
+
+    // Why no request with an extended header has PAYLOAD_LEN and this payload.
+    fn wrong_payload(self, request: &Request, story: &Story) -> Text {
+        let head = &request.head;
+        if !head.extended
+            || head.command == commands::WRITE
+            || !has(head.flags, command_flags::PAYLOAD_LEN)
+        {
+            return self;
+        }
+        if head.command != commands::BLOCK_STATUS {
+            return self.wrong("it carries PAYLOAD_LEN, which only a WRITE and a BLOCK_STATUS may");
+        }
+        self.wrong_if(
+            !has(story.export.flags, transmission::BLOCK_STATUS_PAYLOAD),
+            "it carries PAYLOAD_LEN, and the export lacks BLOCK_STATUS_PAYLOAD",
+        )
+        .wrong_if(
+            story.filter_of(request).is_none(),
+            "its payload is no filter, which has a length of 8 bytes and ids of 4 bytes each",
+        )
+        .bad_filter(request, story)
     }
 
     // Why no request of this type and form, or with such flags, is sent to an export.
@@ -174,12 +199,6 @@ impl Text {
             "it changes an export that is read-only: it has READ_ONLY",
         )
         .wrong_if(!is_flush && !has_range(head.command), UNKNOWN_TYPE)
-        .wrong_if(
-            head.extended
-                && head.command != commands::WRITE
-                && has(head.flags, command_flags::PAYLOAD_LEN),
-            "it carries PAYLOAD_LEN, which only a WRITE may",
-        )
         .wrong_if(
             !has_only(u32::from(head.flags), u32::from(flags_of(head))),
             "it carries a flag that is none of FUA, NO_HOLE, DF, REQ_ONE and FAST_ZERO",
@@ -221,7 +240,11 @@ pub fn chunk_reason(told: &Told, story: &Story) -> &'static str {
             "the payload of a hole has 12 bytes, an offset and a size",
         chunks::OFFSET_HOLE => "its hole has size 0",
         chunks::BLOCK_STATUS if told.at.is_some() =>
-            "with an extended header nbdcheck knows no chunk of its type",
+            "with an extended header a status is of type BLOCK_STATUS_EXT",
+        chunks::BLOCK_STATUS_EXT if told.at.is_some() => wide_status_form(
+            story.behind(told),
+            story,
+        ),
         chunks::BLOCK_STATUS if story.profile == Profile::Wide => status_form(told.payload, story),
         chunks::ERROR | chunks::ERROR_OFFSET => failure_reason(kind, story.behind(told)),
         _ if kind >= chunks::FIRST_ERROR =>
@@ -236,6 +259,18 @@ fn status_form(length: u64, story: &Story) -> &'static str {
         "it gives a status, and no metadata context is in force"
     } else if length < 12 || length % 8 != 4 {
         "the payload of a status has an id of 4 bytes and a descriptor of 8 bytes or more of them"
+    } else {
+        "one of its descriptors has length 0"
+    }
+}
+
+// Why a status chunk with an extended header and this payload has not its form.
+fn wide_status_form(payload: &[u8], story: &Story) -> &'static str {
+    let descriptors = number_in(payload, 4, 4).saturating_mul(16);
+    if !story.contexts.are_in_force() {
+        "it gives a status, and no metadata context is in force"
+    } else if payload.len() < 24 || payload.len() as u64 - 8 != descriptors {
+        "the payload of a status has an id and the number of its descriptors, of 4 bytes each, and so many descriptors of 16 bytes, at least one"
     } else {
         "one of its descriptors has length 0"
     }
@@ -258,7 +293,7 @@ fn failure_reason(kind: u16, payload: &[u8]) -> &'static str {
 pub fn content_reason(told: &Told, request: &Request, story: &Story) -> &'static str {
     let (id, descriptors) = story.status_in(told);
     match told.form {
-        Form::Chunk if !descriptors.is_empty() => status_reason(id, request, story),
+        Form::Chunk if !descriptors.bytes.is_empty() => status_reason(id, request, story),
         Form::Chunk if told.part.length != 0 => misplaced(told.part, request, &story.told),
         Form::Chunk => "the offset of the error lies outside the range of the request",
         _ => "",
@@ -271,6 +306,8 @@ fn status_reason(id: u32, request: &Request, story: &Story) -> &'static str {
         "a status answers only a BLOCK_STATUS"
     } else if !story.contexts.has(id) {
         "no metadata context in force has its id"
+    } else if !story.asks(request, id) {
+        "the filter of the request does not ask its context"
     } else if is_told(id, request.number, story) {
         "its context has a status before it in this reply"
     } else if has(request.head.flags, command_flags::REQ_ONE) {

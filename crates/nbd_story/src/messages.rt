@@ -40,7 +40,7 @@ impl Text {
                 .number(", {byte} of data", told.payload),
             Form::Answer => self.answer(told, story),
             Form::Exported => self.export("export of ", told.part.length, told.flags),
-            Form::Request => self.request(&told.head(), told.request),
+            Form::Request => self.request(&told.head(), told.request).filter(told, story),
             Form::Simple => self.simple(told, story),
             Form::Chunk => self.chunk(told, story),
         }

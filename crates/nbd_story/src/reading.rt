@@ -25,6 +25,9 @@ impl Story {
         told.before = before;
         told.first = self.recording.place(side, before);
         told.last = self.recording.place(side, end.saturating_sub(1));
+        if let Some((length, _)) = self.filter_in(&told) {
+            told.part.length = length;
+        }
         told
     }
 

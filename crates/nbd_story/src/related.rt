@@ -78,7 +78,7 @@ impl Text {
             WireFault::SuccessOfImproper => self
                 .export("export: ", story.export.size, story.export.flags)
                 .end()
-                .improper(&request.head, story),
+                .improper(request, story),
             WireFault::BadChunk => self.wrong(chunk_reason(told, story)),
             WireFault::BadContent => self.wrong(content_reason(told, request, story)).told(
                 "content before: ",

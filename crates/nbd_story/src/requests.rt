@@ -10,10 +10,13 @@ use nbd_wire::{Part, RequestHead, commands};
 pub struct Request {
     /// From 1, in the order of arrival.
     pub number: u64,
-    /// What it asks for.
+    /// What it asks for; its length is that of its range.
     pub head: RequestHead,
     /// How many bytes of the client stand before it.
     pub before: u64,
+    /// How many bytes stand behind its head, and how many bytes of the client before these.
+    pub payload: u64,
+    pub payload_from: u64,
     /// The place of its first byte, from 1.
     pub first: u64,
     /// The place of its last one.
@@ -42,6 +45,8 @@ pub const NO_REQUEST: Request = Request {
         length: 0,
     },
     before: 0,
+    payload: 0,
+    payload_from: 0,
     first: 0,
     last: 0,
     replied: 0,

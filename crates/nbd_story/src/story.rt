@@ -8,8 +8,8 @@ use crate::told::{Form, Told};
 use nbd_state::{Export, is_proper};
 use nbd_wire::flags::{has, has_wide};
 use nbd_wire::{
-    Info, Message, Part, Profile, Side, Sizing, answers, chunks, commands, handshake, head_lengths,
-    info_of, options, side_of,
+    Info, Message, Part, Profile, RequestHead, Side, Sizing, answers, chunks, commands, handshake,
+    head_lengths, info_of, options, side_of,
 };
 use std::alloc::{AllocError, Global};
 use std::collections::BTreeMap;
@@ -136,16 +136,34 @@ impl Story {
                 number: told.request,
                 head,
                 before: told.before,
+                payload: told.payload,
+                payload_from: told.before_last(told.payload),
                 first: told.first,
                 last: told.last,
                 replied: 0,
                 finished: 0,
                 due: 0,
                 error: 0,
-                proper: is_proper(self.export, self.contexts.are_in_force(), &head),
+                proper: self.is_proper(told, &head),
             };
             self.is_refused |= self.requests.push(request).is_err();
             self.is_refused |= self.outstanding.insert(told.cookie, told.request).is_err();
+        }
+    }
+
+    // Whether a client should send a request that has come. Where memory was refused that is not known.
+    fn is_proper(&mut self, told: &Told, head: &RequestHead) -> bool {
+        let alloc = *self.requests.allocator();
+        let payload = payload_of(&self.recording, told);
+        match self
+            .contexts
+            .asking(alloc, self.export.flags, head, payload)
+        {
+            Ok(asking) => is_proper(self.export, &asking, head),
+            Err(_) => {
+                self.is_refused = true;
+                false
+            }
         }
     }
 

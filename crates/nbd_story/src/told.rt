@@ -41,7 +41,8 @@ pub struct Told {
     pub cookie: u64,
     /// The error that a reply tells.
     pub error: u32,
-    /// The range of a request, or the content that a reply brings, empty where it brings none. An export ends where it ends.
+    /// The range of a request, of one with a filter once that has come; or the content that a reply brings, empty where it brings
+    /// none. An export ends where it ends.
     pub part: Part,
     /// How many bytes stand behind its head.
     pub payload: u64,
@@ -109,6 +110,15 @@ impl Told {
     /// Whether it is a chunk of this type.
     pub fn is_chunk(&self, kind: u16) -> bool {
         self.kind == kind && matches!(self.form, Form::Chunk)
+    }
+
+    /// Whether it is a chunk of the type of a status; with an extended header that is another one.
+    pub fn is_status(&self) -> bool {
+        if self.at.is_some() {
+            self.is_chunk(chunks::BLOCK_STATUS_EXT)
+        } else {
+            self.is_chunk(chunks::BLOCK_STATUS)
+        }
     }
 
     /// Whether it is a hole.

@@ -4,14 +4,16 @@ use crate::parts::{common, end_of, has_offset};
 use crate::requests::range;
 use crate::story::Story;
 use crate::told::{EMPTY, NO_MESSAGE, Told};
-use nbd_wire::flags::has_wide;
+use nbd_wire::flags::has_long;
 use nbd_wire::{Part, Side, first_extent, head_lengths, states};
 
-/// Where the descriptors of a status chunk begin, in bytes of the chunk.
-const FIRST: u64 = head_lengths::CHUNK as u64 + 4;
-
-/// The length of a descriptor, in bytes.
-const LENGTH: u64 = 8;
+/// The descriptors of a status chunk.
+#[derive(Clone, Copy)]
+pub struct Descriptors<'a> {
+    /// The chunk has an extended header.
+    pub extended: bool,
+    pub bytes: &'a [u8],
+}
 
 /// A descriptor of a status chunk.
 #[derive(Clone, Copy)]
@@ -20,7 +22,7 @@ pub struct Descriptor {
     pub number: u64,
     /// The bytes that it speaks of; those of the last one may pass the range of the request.
     pub part: Part,
-    pub flags: u32,
+    pub flags: u64,
 }
 
 /// What stands for a descriptor where there is none.
@@ -33,12 +35,16 @@ pub const NO_DESCRIPTOR: Descriptor = Descriptor {
 impl Descriptor {
     /// The place in the capture of its first byte in this chunk, or of the first behind so many bytes of it.
     pub fn place(&self, behind: u64, chunk: &Told, story: &Story) -> u64 {
-        let before = self.number.saturating_sub(1).saturating_mul(LENGTH);
+        let extended = chunk.at.is_some();
+        let before = self
+            .number
+            .saturating_sub(1)
+            .saturating_mul(length_of(extended));
         story.recording.place(
             Side::Server,
             chunk
                 .before
-                .saturating_add(FIRST)
+                .saturating_add(first_of(extended))
                 .saturating_add(before)
                 .saturating_add(behind),
         )
@@ -46,24 +52,51 @@ impl Descriptor {
 
     /// The place of its last byte.
     pub fn last(&self, chunk: &Told, story: &Story) -> u64 {
-        self.place(LENGTH - 1, chunk, story)
+        self.place(
+            length_of(chunk.at.is_some()).saturating_sub(1),
+            chunk,
+            story,
+        )
     }
 }
 
-/// How many descriptors these bytes of a status are.
-pub fn count_of(descriptors: &[u8]) -> u64 {
-    descriptors.len() as u64 / LENGTH
+// Where the descriptors of a status chunk begin, in bytes of the chunk: behind its head and an id, and with an extended header
+// behind their number.
+fn first_of(extended: bool) -> u64 {
+    if extended {
+        head_lengths::EXTENDED_CHUNK as u64 + 8
+    } else {
+        head_lengths::CHUNK as u64 + 4
+    }
+}
+
+// The length of a descriptor, in bytes.
+fn length_of(extended: bool) -> u64 {
+    if extended { 16 } else { 8 }
+}
+
+/// How many descriptors there are.
+pub fn count_of(descriptors: Descriptors<'_>) -> u64 {
+    let bytes = descriptors.bytes.len() as u64;
+    if descriptors.extended {
+        bytes / 16
+    } else {
+        bytes / 8
+    }
 }
 
 /// The descriptor behind so many others, which speaks of bytes from this offset on.
-pub fn descriptor_in(descriptors: &[u8], before: u64, offset: u64) -> Descriptor {
-    let from = before.saturating_mul(LENGTH) as usize;
-    match first_extent(descriptors.get(from..).unwrap_or(&[])) {
+pub fn descriptor_in(descriptors: Descriptors<'_>, before: u64, offset: u64) -> Descriptor {
+    let from = before.saturating_mul(length_of(descriptors.extended)) as usize;
+    match first_extent(
+        descriptors.extended,
+        descriptors.bytes.get(from..).unwrap_or(&[]),
+    ) {
         Some((extent, _)) => Descriptor {
             number: before.saturating_add(1),
             part: Part {
                 offset,
-                length: u64::from(extent.length),
+                length: extent.length,
             },
             flags: extent.flags,
         },
@@ -77,7 +110,7 @@ pub struct Zeroes<'a> {
     /// The chunk that says so, the first message of the reply.
     pub chunk: &'a Told,
     /// Those of the chunk.
-    pub descriptors: &'a [u8],
+    pub descriptors: Descriptors<'a>,
     /// The range of the request.
     pub range: Part,
 }
@@ -86,14 +119,13 @@ impl Story {
     /// What the request with this number calls zero, if it is a BLOCK_STATUS whose reply begins with a status of `base:allocation`.
     pub fn zeroes_of(&self, request: u64) -> Zeroes<'_> {
         let chunk = first_reply(&self.told, request);
-        let (id, descriptors) = self.status_in(chunk);
+        let (id, mut descriptors) = self.status_in(chunk);
+        if !self.contexts.is_allocation(id) {
+            descriptors.bytes = &[];
+        }
         Zeroes {
             chunk,
-            descriptors: if self.contexts.is_allocation(id) {
-                descriptors
-            } else {
-                &[]
-            },
+            descriptors,
             range: range(&self.request(request).head),
         }
     }
@@ -111,7 +143,7 @@ fn first_reply(told: &[Told], request: u64) -> &Told {
 
 /// The bytes of a range that a descriptor calls zero.
 pub fn called_zero(descriptor: Descriptor, range: Part) -> Part {
-    if has_wide(descriptor.flags, states::ZERO) {
+    if has_long(descriptor.flags, u64::from(states::ZERO)) {
         common(descriptor.part, range)
     } else {
         EMPTY

@@ -1,5 +1,5 @@
 -- A status chunk's payload: `status_of` gives exactly what has the form.
-use Rattle.std.proofs.Common.{◌≡◌, ℕ, zero, suc, ◌-◌, ◌*◌, ◌/◌, ◌%◌, ◌<◌, ◌≤◌, ◌^◌, ◌==◌, ◌||◌, List, [], ◌∷◌, ◌++◌, length, drop, not, Option, Some, None, Bool, true, false, nat_le, if◌then◌else◌, refl, sym, ◌∙◌, ap, arith, length-drop, append_assoc, subst}
+use Rattle.std.proofs.Common.{◌≡◌, ℕ, zero, suc, ◌+◌, ◌-◌, ◌*◌, ◌/◌, ◌%◌, ◌<◌, ◌≤◌, ◌^◌, ◌==◌, ◌||◌, List, [], ◌∷◌, ◌++◌, length, drop, not, Option, Some, None, Bool, true, false, nat_le, if◌then◌else◌, refl, sym, ◌∙◌, ap, arith, length-drop, append_assoc, subst}
 use Rattle.std.specs.Prelude.{All}
 use Rattle.std.specs.Option.{option_map}
 use Rattle.std.proofs.lemmas.Bool.{eqb-false, eqb-true, leb-false, leb-true, ne_eqb}
@@ -12,168 +12,238 @@ use Rattle.nbd_wire.specs.protocol.Contexts.{Extent, Status}
 use Rattle.nbd_wire.specs.protocol.Forms.{HasStatusForm, with_extents}
 use Rattle.nbd_wire.specs.protocol.Payloads.{extents_in, extents_of, has_empty, number_at, status_of}
 use Rattle.nbd_wire.specs.codec.Reads.{ReadsAs}
-use Rattle.nbd_wire.proofs.HeadLemmas.{with_next}
+use Rattle.nbd_wire.proofs.HeadLemmas.{with_known, with_next}
 use Rattle.nbd_wire.proofs.NumberLemmas.{AreBytes-drop, number_at-lt}
 use Rattle.nbd_wire.proofs.ReadLemmas.{Reads-found, Reads-none}
 
--- one descriptor less
-pub one_fewer : (left : ℕ) (rest : List ℕ) → 0 < left → (number_at 0 4 rest ≡ 0 → ⊥) → has_empty (extents_in (left - 1) (drop 8 rest)) ≡ has_empty (extents_in left rest)
-one_fewer zero rest l n = absurd (omega arith)
-one_fewer (suc left) rest l n =
-    let less : suc left - 1 ≡ left = omega arith in
-    ap (λ k. has_empty (extents_in k (drop 8 rest))) less ∙ ap (λ b. b || has_empty (extents_in left (drop 8 rest))) (sym (ne_eqb (number_at 0 4 rest) 0 n))
-
 -- bytes that are too short hold no descriptor, others the first and those behind it
-pub extents-none : (bytes : List ℕ) → length bytes < 8 → extents_of bytes ≡ []
-extents-none bytes l = ap (λ n. extents_in n bytes) (let none : length bytes / 8 ≡ 0 = omega (arith, l) in none)
+pub extents-none : (bytes : List ℕ) → length bytes < 8 → extents_of false bytes ≡ []
+extents-none bytes l = ap (λ n. extents_in 4 n bytes) (let none : length bytes / 8 ≡ 0 = omega (arith, l) in none)
 
-pub extents-first : (bytes : List ℕ) → 8 ≤ length bytes → extents_of bytes ≡ record { length = number_at 0 4 bytes; flags = number_at 4 4 bytes } ∷ extents_of (drop 8 bytes)
+pub extents-first : (bytes : List ℕ) → 8 ≤ length bytes → extents_of false bytes ≡ record { length = number_at 0 4 bytes; flags = number_at 4 4 bytes } ∷ extents_of false (drop 8 bytes)
 extents-first bytes l =
     let n : length bytes / 8 ≡ suc (length (drop 8 bytes) / 8) = omega (arith, l, length-drop 8 bytes) in
-    ap (λ k. extents_in k bytes) n
+    ap (λ k. extents_in 4 k bytes) n
 
-abbrev Fit : Extent → Type 0
-Fit x = (0 < x.length) × (x.length < 2 ^ 32) × (x.flags < 2 ^ 32)
+pub wide-none : (bytes : List ℕ) → length bytes < 16 → extents_of true bytes ≡ []
+wide-none bytes l = ap (λ n. extents_in 8 n bytes) (let none : length bytes / 16 ≡ 0 = omega (arith, l) in none)
+
+pub wide-first : (bytes : List ℕ) → 16 ≤ length bytes → extents_of true bytes ≡ record { length = number_at 0 8 bytes; flags = number_at 8 8 bytes } ∷ extents_of true (drop 16 bytes)
+wide-first bytes l =
+    let n : length bytes / 16 ≡ suc (length (drop 16 bytes) / 16) = omega (arith, l, length-drop 16 bytes) in
+    ap (λ k. extents_in 8 k bytes) n
+
+abbrev Fit : (width : ℕ) → Extent → Type 0
+Fit width x = (0 < x.length) × (x.length < 256 ^ width) × (x.flags < 256 ^ width)
 
 no_bytes : (bytes : List ℕ) → length bytes ≡ 0 → bytes ≡ []
 no_bytes [] e = refl
 no_bytes (x ∷ bytes) e = absurd (cc)
-
-extents_in-some : (n : ℕ) (bytes : List ℕ) → 0 < n → extents_in n bytes ≡ [] → ⊥
-extents_in-some zero bytes l e = omega (arith, l)
-extents_in-some (suc n) bytes l e = cc
-
--- whole descriptors are the bytes that they are read from
-extents_in-bytes : (n : ℕ) (bytes : List ℕ) → AreBytes bytes → length bytes ≡ 8 * n → bytes ≡ with_extents (extents_in n bytes)
-extents_in-bytes zero bytes b e = no_bytes bytes (omega (arith, e))
-extents_in-bytes (suc n) bytes b e =
-    let later : drop 8 bytes ≡ with_extents (extents_in n (drop 8 bytes)) = extents_in-bytes n (drop 8 bytes) (AreBytes-drop 8 bytes b) (length-drop 8 bytes ∙ omega (arith, e)) in
-    with_next 0 4 bytes _ b (omega (arith, e)) (with_next 4 4 bytes _ b (omega (arith, e)) later)
-    ∙ sym (append_assoc (big_bytes 4 (number_at 0 4 bytes)) (big_bytes 4 (number_at 4 4 bytes)) (with_extents (extents_in n (drop 8 bytes))))
 
 neither : (a b : Bool) → (a || b) ≡ false → (a ≡ false) × (b ≡ false)
 neither false false e = (refl, refl)
 neither false true e = absurd (cc)
 neither true b e = absurd (cc)
 
-extents_in-fit : (n : ℕ) (bytes : List ℕ) → AreBytes bytes → has_empty (extents_in n bytes) ≡ false → All Fit (extents_in n bytes)
-extents_in-fit zero bytes b e = All-nil Fit
-extents_in-fit (suc n) bytes b e =
-    let p = neither (number_at 0 4 bytes == 0) (has_empty (extents_in n (drop 8 bytes))) e in
-    let some : number_at 0 4 bytes ≡ 0 → ⊥ = eqb-false (number_at 0 4 bytes) 0 p.0 in
-    All-cons Fit (record { length = number_at 0 4 bytes; flags = number_at 4 4 bytes }) (extents_in n (drop 8 bytes))
-    (omega (arith, some), omega (arith, number_at-lt 0 4 bytes b), omega (arith, number_at-lt 4 4 bytes b))
-    (extents_in-fit n (drop 8 bytes) (AreBytes-drop 8 bytes b) p.1)
+module _ (width : ℕ) where
+  extents_in-some : (n : ℕ) (bytes : List ℕ) → 0 < n → extents_in width n bytes ≡ [] → ⊥
+  extents_in-some zero bytes l e = omega (arith, l)
+  extents_in-some (suc n) bytes l e = cc
 
--- descriptors are read back from their bytes
-extents_in-only : (xs : List Extent) → All Fit xs → extents_in (length xs) (with_extents xs) ≡ xs
-extents_in-only [] f = refl
-extents_in-only (x ∷ xs) f =
-    let h = All-head Fit x xs f in
-    let size : number_at 0 4 (big_bytes 4 x.length ++ big_bytes 4 x.flags ++ with_extents xs) ≡ x.length = big_number-reads_back 4 x.length (big_bytes 4 x.flags ++ with_extents xs) (omega (arith, h.1)) in
-    let flags : number_at 4 4 (big_bytes 4 x.length ++ big_bytes 4 x.flags ++ with_extents xs) ≡ x.flags = big_number-reads_back 4 x.flags (with_extents xs) (omega (arith, h.2)) in
-    let later : extents_in (length xs) (with_extents xs) ≡ xs = extents_in-only xs (All-tail Fit x xs f) in
+  extents_in-length : (n : ℕ) (bytes : List ℕ) → length (extents_in width n bytes) ≡ n
+  extents_in-length zero bytes = refl
+  extents_in-length (suc n) bytes = ap suc (extents_in-length n (drop (width + width) bytes))
+
+  extents_in-fit : (n : ℕ) (bytes : List ℕ) → AreBytes bytes → has_empty (extents_in width n bytes) ≡ false → All (Fit width) (extents_in width n bytes)
+  extents_in-fit zero bytes b e = All-nil (Fit width)
+  extents_in-fit (suc n) bytes b e =
+      let later : List Extent = extents_in width n (drop (width + width) bytes) in
+      let p = neither (number_at 0 width bytes == 0) (has_empty later) e in
+      let some : number_at 0 width bytes ≡ 0 → ⊥ = eqb-false (number_at 0 width bytes) 0 p.0 in
+      All-cons (Fit width) (record { length = number_at 0 width bytes; flags = number_at width width bytes }) later
+      (omega (arith, some), number_at-lt 0 width bytes b, number_at-lt width width bytes b)
+      (extents_in-fit n (drop (width + width) bytes) (AreBytes-drop (width + width) bytes b) p.1)
+
+  with_extents-full : (xs : List Extent) → All (Fit width) xs → has_empty xs ≡ false
+  with_extents-full [] f = refl
+  with_extents-full (x ∷ xs) f =
+      let h = All-head (Fit width) x xs f in
+      ap (λ b. b || has_empty xs) (ne_eqb x.length 0 (λ e. omega (arith, e, h.0))) ∙ with_extents-full xs (All-tail (Fit width) x xs f)
+
+-- whole descriptors are the bytes that they are read from, and are read back from their bytes
+short-bytes : (n : ℕ) (bytes : List ℕ) → AreBytes bytes → length bytes ≡ 8 * n → bytes ≡ with_extents 4 (extents_in 4 n bytes)
+short-bytes zero bytes b e = no_bytes bytes (omega (arith, e))
+short-bytes (suc n) bytes b e =
+    let later : drop 8 bytes ≡ with_extents 4 (extents_in 4 n (drop 8 bytes)) = short-bytes n (drop 8 bytes) (AreBytes-drop 8 bytes b) (length-drop 8 bytes ∙ omega (arith, e)) in
+    with_next 0 4 bytes _ b (omega (arith, e)) (with_next 4 4 bytes _ b (omega (arith, e)) later)
+    ∙ sym (append_assoc (big_bytes 4 (number_at 0 4 bytes)) (big_bytes 4 (number_at 4 4 bytes)) (with_extents 4 (extents_in 4 n (drop 8 bytes))))
+
+wide-bytes : (n : ℕ) (bytes : List ℕ) → AreBytes bytes → length bytes ≡ 16 * n → bytes ≡ with_extents 8 (extents_in 8 n bytes)
+wide-bytes zero bytes b e = no_bytes bytes (omega (arith, e))
+wide-bytes (suc n) bytes b e =
+    let later : drop 16 bytes ≡ with_extents 8 (extents_in 8 n (drop 16 bytes)) = wide-bytes n (drop 16 bytes) (AreBytes-drop 16 bytes b) (length-drop 16 bytes ∙ omega (arith, e)) in
+    with_next 0 8 bytes _ b (omega (arith, e)) (with_next 8 8 bytes _ b (omega (arith, e)) later)
+    ∙ sym (append_assoc (big_bytes 8 (number_at 0 8 bytes)) (big_bytes 8 (number_at 8 8 bytes)) (with_extents 8 (extents_in 8 n (drop 16 bytes))))
+
+short-only : (xs : List Extent) → All (Fit 4) xs → extents_in 4 (length xs) (with_extents 4 xs) ≡ xs
+short-only [] f = refl
+short-only (x ∷ xs) f =
+    let h = All-head (Fit 4) x xs f in
+    let size : number_at 0 4 (big_bytes 4 x.length ++ big_bytes 4 x.flags ++ with_extents 4 xs) ≡ x.length = big_number-reads_back 4 x.length (big_bytes 4 x.flags ++ with_extents 4 xs) h.1 in
+    let flags : number_at 4 4 (big_bytes 4 x.length ++ big_bytes 4 x.flags ++ with_extents 4 xs) ≡ x.flags = big_number-reads_back 4 x.flags (with_extents 4 xs) h.2 in
+    let later : extents_in 4 (length xs) (with_extents 4 xs) ≡ xs = short-only xs (All-tail (Fit 4) x xs f) in
     (λ i. record { length = size i; flags = flags i } ∷ later i)
 
-with_extents-length : (xs : List Extent) → length (with_extents xs) ≡ 8 * length xs
-with_extents-length [] = refl
-with_extents-length (x ∷ xs) = let e = with_extents-length xs in omega (arith, e)
+wide-only : (xs : List Extent) → All (Fit 8) xs → extents_in 8 (length xs) (with_extents 8 xs) ≡ xs
+wide-only [] f = refl
+wide-only (x ∷ xs) f =
+    let h = All-head (Fit 8) x xs f in
+    let size : number_at 0 8 (big_bytes 8 x.length ++ big_bytes 8 x.flags ++ with_extents 8 xs) ≡ x.length = big_number-reads_back 8 x.length (big_bytes 8 x.flags ++ with_extents 8 xs) h.1 in
+    let flags : number_at 8 8 (big_bytes 8 x.length ++ big_bytes 8 x.flags ++ with_extents 8 xs) ≡ x.flags = big_number-reads_back 8 x.flags (with_extents 8 xs) h.2 in
+    let later : extents_in 8 (length xs) (with_extents 8 xs) ≡ xs = wide-only xs (All-tail (Fit 8) x xs f) in
+    (λ i. record { length = size i; flags = flags i } ∷ later i)
 
-with_extents-full : (xs : List Extent) → All Fit xs → has_empty xs ≡ false
-with_extents-full [] f = refl
-with_extents-full (x ∷ xs) f =
-    let h = All-head Fit x xs f in
-    ap (λ b. b || has_empty xs) (ne_eqb x.length 0 (λ e. omega (arith, e, h.0))) ∙ with_extents-full xs (All-tail Fit x xs f)
+short-length : (xs : List Extent) → length (with_extents 4 xs) ≡ 8 * length xs
+short-length [] = refl
+short-length (x ∷ xs) = let e = short-length xs in omega (arith, e)
+
+wide-length : (xs : List Extent) → length (with_extents 8 xs) ≡ 16 * length xs
+wide-length [] = refl
+wide-length (x ∷ xs) = let e = wide-length xs in omega (arith, e)
+
+-- where the descriptors begin
+abbrev pub behind : (extended : Bool) → ℕ
+behind false = 4
+behind true = 8
 
 -- what is read of a payload that has the form
-abbrev pub seen_in : List ℕ → Status
-seen_in bytes = record { id = number_at 0 4 bytes; extents = extents_of (drop 4 bytes) }
+abbrev pub seen_in : (extended : Bool) → List ℕ → Status
+seen_in extended bytes = record { id = number_at 0 4 bytes; extents = extents_of extended (drop (behind extended) bytes) }
 
 -- the three tests of a payload
-pub record Whole (bytes : List ℕ) : Type 0 where
-  pub long : 12 ≤ length bytes
-  pub even : length (drop 4 bytes) % 8 ≡ 0
-  pub full : has_empty (extents_of (drop 4 bytes)) ≡ false
+abbrev pub IsWhole : (extended : Bool) → List ℕ → Type 0
+IsWhole false bytes = (12 ≤ length bytes) × (length (drop 4 bytes) % 8 ≡ 0) × (has_empty (extents_of false (drop 4 bytes)) ≡ false)
+IsWhole true bytes = (24 ≤ length bytes) × (length (drop 8 bytes) ≡ 16 * number_at 4 4 bytes) × (has_empty (extents_of true (drop 8 bytes)) ≡ false)
 
-status-found : (bytes : List ℕ) → AreBytes bytes → Whole bytes → HasStatusForm (seen_in bytes) bytes
+status-found : (extended : Bool) (bytes : List ℕ) → AreBytes bytes → IsWhole extended bytes → HasStatusForm extended (seen_in extended bytes) bytes
 unfolding HasStatusForm
-status-found bytes b w =
+status-found false bytes b w =
     let rest : List ℕ = drop 4 bytes in
     let left : length rest ≡ length bytes - 4 = length-drop 4 bytes in
     let n : ℕ = length rest / 8 in
-    let whole : length rest ≡ 8 * n = omega (arith, w.even) in (
+    let whole : length rest ≡ 8 * n = omega (arith, w.1) in (
       omega (arith, number_at-lt 0 4 bytes b),
-      extents_in-some n rest (omega (arith, w.long, left, whole)),
-      extents_in-fit n rest (AreBytes-drop 4 bytes b) w.full,
-      with_next 0 4 bytes _ b (omega (arith, w.long)) (extents_in-bytes n rest (AreBytes-drop 4 bytes b) whole),
+      extents_in-some 4 n rest (omega (arith, w.0, left, whole)),
+      extents_in-fit 4 n rest (AreBytes-drop 4 bytes b) w.2,
+      with_next 0 4 bytes _ b (omega (arith, w.0)) (short-bytes n rest (AreBytes-drop 4 bytes b) whole),
+    )
+status-found true bytes b w =
+    let rest : List ℕ = drop 8 bytes in
+    let left : length rest ≡ length bytes - 8 = length-drop 8 bytes in
+    let n : ℕ = length rest / 16 in
+    let whole : length rest ≡ 16 * n = omega (arith, w.1) in
+    let count : number_at 4 4 bytes ≡ length (extents_in 8 n rest) = (let c : number_at 4 4 bytes ≡ n = omega (arith, w.1, whole) in c) ∙ sym (extents_in-length 8 n rest) in
+    let low : number_at 4 4 bytes < 2 ^ 32 = omega (arith, number_at-lt 4 4 bytes b) in (
+      omega (arith, number_at-lt 0 4 bytes b),
+      extents_in-some 8 n rest (omega (arith, w.0, left, whole)),
+      extents_in-fit 8 n rest (AreBytes-drop 8 bytes b) w.2,
+      subst (λ k. k < 2 ^ 32) count low,
+      with_next 0 4 bytes _ b (omega (arith, w.0)) (with_known 4 4 (length (extents_in 8 n rest)) bytes _ b (omega (arith, w.0)) count (wide-bytes n rest (AreBytes-drop 8 bytes b) whole)),
     )
 
-status-only : (status : Status) (bytes : List ℕ) → HasStatusForm status bytes → Whole bytes × (seen_in bytes ≡ status)
+some_of : (xs : List Extent) → (xs ≡ [] → ⊥) → 0 < length xs
+some_of [] n = absurd (n refl)
+some_of (x ∷ xs) n = omega arith
+
+status-only : (extended : Bool) (status : Status) (bytes : List ℕ) → HasStatusForm extended status bytes → IsWhole extended bytes × (seen_in extended bytes ≡ status)
 unfolding HasStatusForm
-status-only status bytes h =
+status-only false status bytes h =
     let xs : List Extent = status.extents in
-    let size : length (with_extents xs) ≡ 8 * length xs = with_extents-length xs in
-    let count : length (with_extents xs) / 8 ≡ length xs = omega (arith, size) in
-    let read : extents_of (with_extents xs) ≡ xs = ap (λ n. extents_in n (with_extents xs)) count ∙ extents_in-only xs h.2 in
+    let size : length (with_extents 4 xs) ≡ 8 * length xs = short-length xs in
+    let count : length (with_extents 4 xs) / 8 ≡ length xs = omega (arith, size) in
+    let read : extents_of false (with_extents 4 xs) ≡ xs = ap (λ n. extents_in 4 n (with_extents 4 xs)) count ∙ short-only xs h.2 in
     let some : 0 < length xs = some_of xs h.1 in
-    subst (λ l. Whole l × (seen_in l ≡ status)) (sym h.3) (
-      record {
-        long = omega (arith, size, some);
-        even = omega (arith, size);
-        full = ap has_empty read ∙ with_extents-full xs h.2;
-      },
-      (λ i. record { id = big_number-reads_back 4 status.id (with_extents xs) (omega (arith, h.0)) i; extents = read i }),
+    subst (λ l. IsWhole false l × (seen_in false l ≡ status)) (sym h.3) (
+      (omega (arith, size, some), omega (arith, size), ap has_empty read ∙ with_extents-full 4 xs h.2),
+      (λ i. record { id = big_number-reads_back 4 status.id (with_extents 4 xs) (omega (arith, h.0)) i; extents = read i }),
     )
-  where
-    some_of : (xs : List Extent) → (xs ≡ [] → ⊥) → 0 < length xs
-    some_of [] n = absurd (n refl)
-    some_of (x ∷ xs) n = omega arith
-
-abbrev answer : (long even empty : Bool) → List ℕ → Option Status
-answer long even empty bytes = if not long || not even || empty then None else Some (seen_in bytes)
-
-status-answer : (bytes : List ℕ) → status_of bytes ≡ answer (nat_le 12 (length bytes)) (length (drop 4 bytes) % 8 == 0) (has_empty (extents_of (drop 4 bytes))) bytes
-unfolding status_of
-status-answer bytes = refl
+status-only true status bytes h =
+    let xs : List Extent = status.extents in
+    let size : length (with_extents 8 xs) ≡ 16 * length xs = wide-length xs in
+    let count : length (with_extents 8 xs) / 16 ≡ length xs = omega (arith, size) in
+    let read : extents_of true (with_extents 8 xs) ≡ xs = ap (λ n. extents_in 8 n (with_extents 8 xs)) count ∙ wide-only xs h.2 in
+    let some : 0 < length xs = some_of xs h.1 in
+    let told : number_at 4 4 (big_bytes 4 status.id ++ big_bytes 4 (length xs) ++ with_extents 8 xs) ≡ length xs = big_number-reads_back 4 (length xs) (with_extents 8 xs) (omega (arith, h.3)) in
+    subst (λ l. IsWhole true l × (seen_in true l ≡ status)) (sym h.4) (
+      (omega (arith, size, some), omega (arith, size, told), ap has_empty read ∙ with_extents-full 8 xs h.2),
+      (λ i. record { id = big_number-reads_back 4 status.id (big_bytes 4 (length xs) ++ with_extents 8 xs) (omega (arith, h.0)) i; extents = read i }),
+    )
 
 -- what is read of a whole payload, and of another one
-pub data Told (bytes : List ℕ) : Type 0 where
-  whole : Whole bytes → status_of bytes ≡ Some (seen_in bytes) → Told bytes
-  broken : (Whole bytes → ⊥) → status_of bytes ≡ None → Told bytes
+pub data Told (extended : Bool) (bytes : List ℕ) : Type 0 where
+  whole : IsWhole extended bytes → status_of extended bytes ≡ Some (seen_in extended bytes) → Told extended bytes
+  broken : (IsWhole extended bytes → ⊥) → status_of extended bytes ≡ None → Told extended bytes
 
-pub status-told : (bytes : List ℕ) → Told bytes
-status-told bytes = go (nat_le 12 (length bytes)) (length (drop 4 bytes) % 8 == 0) (has_empty (extents_of (drop 4 bytes))) refl refl refl
+abbrev answer : (extended long even empty : Bool) → List ℕ → Option Status
+answer extended long even empty bytes = if not long || not even || empty then None else Some (seen_in extended bytes)
+
+short-answer : (bytes : List ℕ) → status_of false bytes ≡ answer false (nat_le 12 (length bytes)) (length (drop 4 bytes) % 8 == 0) (has_empty (extents_of false (drop 4 bytes))) bytes
+unfolding status_of
+short-answer bytes = refl
+
+wide-answer : (bytes : List ℕ) → status_of true bytes ≡ answer true (nat_le 24 (length bytes)) (length (drop 8 bytes) == 16 * number_at 4 4 bytes) (has_empty (extents_of true (drop 8 bytes))) bytes
+unfolding status_of
+wide-answer bytes = refl
+
+short-told : (bytes : List ℕ) → Told false bytes
+short-told bytes = go (nat_le 12 (length bytes)) (length (drop 4 bytes) % 8 == 0) (has_empty (extents_of false (drop 4 bytes))) refl refl refl
   where
-    go : (long even empty : Bool) → nat_le 12 (length bytes) ≡ long → (length (drop 4 bytes) % 8 == 0) ≡ even → has_empty (extents_of (drop 4 bytes)) ≡ empty → Told bytes
-    go false even empty l e n = broken (λ w. absurd (let m = leb-false 12 (length bytes) l in omega (arith, m, w.long))) (status-answer bytes ∙ (λ i. answer (l i) (length (drop 4 bytes) % 8 == 0) (has_empty (extents_of (drop 4 bytes))) bytes))
-    go true false empty l e n = broken (λ w. absurd (eqb-false (length (drop 4 bytes) % 8) 0 e w.even)) (status-answer bytes ∙ (λ i. answer (l i) (e i) (has_empty (extents_of (drop 4 bytes))) bytes))
-    go true true true l e n = broken (λ w. absurd (cc)) (status-answer bytes ∙ (λ i. answer (l i) (e i) (n i) bytes))
-    go true true false l e n = whole (record { long = leb-true 12 (length bytes) l; even = eqb-true (length (drop 4 bytes) % 8) 0 e; full = n }) (status-answer bytes ∙ (λ i. answer (l i) (e i) (n i) bytes))
+    go : (long even empty : Bool) → nat_le 12 (length bytes) ≡ long → (length (drop 4 bytes) % 8 == 0) ≡ even → has_empty (extents_of false (drop 4 bytes)) ≡ empty → Told false bytes
+    go false even empty l e n = broken (λ w. absurd (let m = leb-false 12 (length bytes) l in omega (arith, m, w.0))) (short-answer bytes ∙ (λ i. answer false (l i) (length (drop 4 bytes) % 8 == 0) (has_empty (extents_of false (drop 4 bytes))) bytes))
+    go true false empty l e n = broken (λ w. absurd (eqb-false (length (drop 4 bytes) % 8) 0 e w.1)) (short-answer bytes ∙ (λ i. answer false (l i) (e i) (has_empty (extents_of false (drop 4 bytes))) bytes))
+    go true true true l e n = broken (λ w. absurd (let q : true ≡ false = sym n ∙ w.2 in cc)) (short-answer bytes ∙ (λ i. answer false (l i) (e i) (n i) bytes))
+    go true true false l e n = whole (leb-true 12 (length bytes) l, eqb-true (length (drop 4 bytes) % 8) 0 e, n) (short-answer bytes ∙ (λ i. answer false (l i) (e i) (n i) bytes))
+
+wide-told : (bytes : List ℕ) → Told true bytes
+wide-told bytes = go (nat_le 24 (length bytes)) (length (drop 8 bytes) == 16 * number_at 4 4 bytes) (has_empty (extents_of true (drop 8 bytes))) refl refl refl
+  where
+    go : (long even empty : Bool) → nat_le 24 (length bytes) ≡ long → (length (drop 8 bytes) == 16 * number_at 4 4 bytes) ≡ even → has_empty (extents_of true (drop 8 bytes)) ≡ empty → Told true bytes
+    go false even empty l e n =
+        broken (λ w. absurd (let m = leb-false 24 (length bytes) l in omega (arith, m, w.0))) (wide-answer bytes ∙ (λ i. answer true (l i) (length (drop 8 bytes) == 16 * number_at 4 4 bytes) (has_empty (extents_of true (drop 8 bytes))) bytes))
+    go true false empty l e n = broken (λ w. absurd (eqb-false (length (drop 8 bytes)) (16 * number_at 4 4 bytes) e w.1)) (wide-answer bytes ∙ (λ i. answer true (l i) (e i) (has_empty (extents_of true (drop 8 bytes))) bytes))
+    go true true true l e n = broken (λ w. absurd (let q : true ≡ false = sym n ∙ w.2 in cc)) (wide-answer bytes ∙ (λ i. answer true (l i) (e i) (n i) bytes))
+    go true true false l e n = whole (leb-true 24 (length bytes) l, eqb-true (length (drop 8 bytes)) (16 * number_at 4 4 bytes) e, n) (wide-answer bytes ∙ (λ i. answer true (l i) (e i) (n i) bytes))
+
+pub status-told : (extended : Bool) (bytes : List ℕ) → Told extended bytes
+status-told false bytes = short-told bytes
+status-told true bytes = wide-told bytes
 
 -- the payload has the form of this status
-abbrev pub Says : List ℕ → Status → Type 0
-Says bytes status = HasStatusForm status bytes
+abbrev pub Says : (extended : Bool) → List ℕ → Status → Type 0
+Says extended bytes status = HasStatusForm extended status bytes
 
--- an answer that gives the status that is read
-pub status-reads : {R : Type 0} (seen : R → Status) (answer : Option R) (bytes : List ℕ) → AreBytes bytes → option_map seen answer ≡ status_of bytes → ReadsAs seen answer (Says bytes)
-status-reads seen answer bytes b e = go answer e (status-told bytes)
-  where
-    go : (answer : Option _) → option_map seen answer ≡ status_of bytes → Told bytes → ReadsAs seen answer (Says bytes)
-    go None e (broken n is) = Reads-none (Says bytes) (λ other f. n (status-only other bytes f).0)
-    go None e (whole w is) = absurd (none-some (seen_in bytes) (e ∙ is))
-    go (Some r) e (broken n is) = absurd (none-some (seen r) (sym is ∙ sym e))
-    go (Some r) e (whole w is) = Reads-found (Says bytes) (seen r) (seen_in bytes) (same_Some (seen r) (seen_in bytes) (e ∙ is)) (status-found bytes b w) (λ other f. (status-only other bytes f).1)
+module _ (extended : Bool) where
+  -- an answer that gives the status that is read
+  pub status-reads : {R : Type 0} (seen : R → Status) (answer : Option R) (bytes : List ℕ) → AreBytes bytes → option_map seen answer ≡ status_of extended bytes → ReadsAs seen answer (Says extended bytes)
+  status-reads seen answer bytes b e = go answer e (status-told extended bytes)
+    where
+      go : (answer : Option _) → option_map seen answer ≡ status_of extended bytes → Told extended bytes → ReadsAs seen answer (Says extended bytes)
+      go None e (broken n is) = Reads-none (Says extended bytes) (λ other f. n (status-only extended other bytes f).0)
+      go None e (whole w is) = absurd (none-some (seen_in extended bytes) (e ∙ is))
+      go (Some r) e (broken n is) = absurd (none-some (seen r) (sym is ∙ sym e))
+      go (Some r) e (whole w is) =
+          Reads-found (Says extended bytes) (seen r) (seen_in extended bytes) (same_Some (seen r) (seen_in extended bytes) (e ∙ is)) (status-found extended bytes b w) (λ other f. (status-only extended other bytes f).1)
 
-pub status-none : (bytes : List ℕ) → (Whole bytes → ⊥) → status_of bytes ≡ None
-status-none bytes n = go (status-told bytes)
-  where
-    go : Told bytes → status_of bytes ≡ None
-    go (broken m is) = is
-    go (whole w is) = absurd (n w)
+  pub status-none : (bytes : List ℕ) → (IsWhole extended bytes → ⊥) → status_of extended bytes ≡ None
+  status-none bytes n = go (status-told extended bytes)
+    where
+      go : Told extended bytes → status_of extended bytes ≡ None
+      go (broken m is) = is
+      go (whole w is) = absurd (n w)
 
-pub status-some : (bytes : List ℕ) → Whole bytes → status_of bytes ≡ Some (seen_in bytes)
-status-some bytes w = go (status-told bytes)
-  where
-    go : Told bytes → status_of bytes ≡ Some (seen_in bytes)
-    go (broken n is) = absurd (n w)
-    go (whole v is) = is
+  pub status-some : (bytes : List ℕ) → IsWhole extended bytes → status_of extended bytes ≡ Some (seen_in extended bytes)
+  status-some bytes w = go (status-told extended bytes)
+    where
+      go : Told extended bytes → status_of extended bytes ≡ Some (seen_in extended bytes)
+      go (broken n is) = absurd (n w)
+      go (whole v is) = is

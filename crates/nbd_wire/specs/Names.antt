@@ -86,7 +86,7 @@ handshake_flag_names = (1, codes "NBD_FLAG_FIXED_NEWSTYLE") ∷ (2, codes "NBD_F
 abbrev pub client_flag_names : List (ℕ × List ℕ)
 client_flag_names = (1, codes "NBD_FLAG_C_FIXED_NEWSTYLE") ∷ (2, codes "NBD_FLAG_C_NO_ZEROES") ∷ []
 
--- flags of an export, by bits 0 to 11 (proto.md, "Transmission flags")
+-- flags of an export, by bits 0 to 12 (proto.md, "Transmission flags")
 abbrev pub transmission_flag_names : List (ℕ × List ℕ)
 transmission_flag_names = (1, codes "HAS_FLAGS")
     ∷ (2, codes "READ_ONLY")
@@ -100,6 +100,7 @@ transmission_flag_names = (1, codes "HAS_FLAGS")
     ∷ (512, codes "SEND_RESIZE")
     ∷ (1024, codes "SEND_CACHE")
     ∷ (2048, codes "SEND_FAST_ZERO")
+    ∷ (4096, codes "BLOCK_STATUS_PAYLOAD")
     ∷ []
 
 -- flags of a request, by bits 0 to 5 (proto.md, "Command flags")

@@ -66,7 +66,7 @@ InfosAreLiteral =
     × (infos.DESCRIPTION ≡ 2)
     × (infos.BLOCK_SIZE ≡ 3)
 
--- transmission flags, by bits 0 to 8, 10 and 11 (proto.md, "Transmission flags")
+-- transmission flags, by bits 0 to 8 and 10 to 12 (proto.md, "Transmission flags")
 abbrev pub TransmissionFlagsAreLiteral : Type 0
 TransmissionFlagsAreLiteral =
     (transmission.HAS_FLAGS ≡ 1)
@@ -80,6 +80,7 @@ TransmissionFlagsAreLiteral =
     × (transmission.CAN_MULTI_CONN ≡ 256)
     × (transmission.SEND_CACHE ≡ 1024)
     × (transmission.SEND_FAST_ZERO ≡ 2048)
+    × (transmission.BLOCK_STATUS_PAYLOAD ≡ 4096)
 
 -- types of requests (proto.md, "Request types")
 abbrev pub CommandsAreLiteral : Type 0
@@ -110,6 +111,7 @@ ChunksAreLiteral =
     × (chunks.OFFSET_DATA ≡ 1)
     × (chunks.OFFSET_HOLE ≡ 2)
     × (chunks.BLOCK_STATUS ≡ 5)
+    × (chunks.BLOCK_STATUS_EXT ≡ 6)
     × (chunks.ERROR ≡ 0x8001)
     × (chunks.ERROR_OFFSET ≡ 0x8002)
     × (chunks.FIRST_ERROR ≡ 0x8000)

@@ -3,7 +3,7 @@
 //! A reader is given a chunk's type and its whole payload. It returns `Some` exactly where the
 //! payload has a form of that type, and takes no memory.
 
-ghost use Rattle.std.specs.Prelude.{◌≡◌, ◌∷◌, [], MatchOption};
+ghost use Rattle.std.specs.Prelude.{◌≡◌, ◌∷◌, [], MatchOption, true, false};
 ghost use Rattle.std.specs.Option.{option_map};
 ghost use Rattle.nbd_wire.specs.codec.Contents.{extent_of, piece_of};
 ghost use Rattle.nbd_wire.specs.protocol.Contexts.{Status};
@@ -26,6 +26,10 @@ const MESSAGE: usize = 6;
 const DESCRIPTORS: usize = 4;
 
 const DESCRIPTOR_LENGTH: usize = 8;
+/// The same of a chunk with an extended header.
+const WIDE_DESCRIPTORS: usize = 8;
+
+const WIDE_DESCRIPTOR_LENGTH: usize = 16;
 
 /// The bytes or the hole in a content chunk's payload.
 pub fn content_of(kind: u16, bytes: &[u8]) -> Option<Content<'_>>
@@ -120,9 +124,10 @@ pub fn failure_of(kind: u16, bytes: &[u8]) -> Option<Failure>
 /// The id of the context in a status chunk's payload, and its descriptors: one or more, each a length
 /// above 0 and flags, four bytes each.
 pub fn status_of(bytes: &[u8]) -> Option<(u32, &[u8])>
-    ensures form { ReadsAs {B = Status} (λ v. record { id = v.0; extents = extents_of v.1.now }) result
-        (λ status. HasStatusForm status bytes.now) }
-    ensures same { option_map (λ v. record { id = v.0; extents = extents_of v.1.now }) result ≡ status_of bytes.now }
+    ensures form { ReadsAs {B = Status} (λ v. record { id = v.0; extents = extents_of false v.1.now }) result
+        (λ status. HasStatusForm false status bytes.now) }
+    ensures same { option_map (λ v. record { id = v.0; extents = extents_of false v.1.now }) result
+        ≡ status_of false bytes.now }
 {
     if bytes.len() < DESCRIPTORS + DESCRIPTOR_LENGTH
         || (bytes.len() - DESCRIPTORS) % DESCRIPTOR_LENGTH != 0
@@ -130,39 +135,82 @@ pub fn status_of(bytes: &[u8]) -> Option<(u32, &[u8])>
         return None;
     }
     let descriptors = &bytes[DESCRIPTORS..];
-    if is_one_empty(descriptors) {
+    if is_one_empty(false, descriptors) {
         return None;
     }
     Some((u32_at(bytes, 0), descriptors))
 }
 
+/// The same in a chunk with an extended header: behind the id stands how many descriptors come, and their numbers have eight bytes.
+pub fn status_ext_of(bytes: &[u8]) -> Option<(u32, &[u8])>
+    ensures form { ReadsAs {B = Status} (λ v. record { id = v.0; extents = extents_of true v.1.now }) result
+        (λ status. HasStatusForm true status bytes.now) }
+    ensures same { option_map (λ v. record { id = v.0; extents = extents_of true v.1.now }) result
+        ≡ status_of true bytes.now }
+{
+    if bytes.len() < WIDE_DESCRIPTORS + WIDE_DESCRIPTOR_LENGTH {
+        return None;
+    }
+    let (id, count) = (u32_at(bytes, 0), u32_at(bytes, 4));
+    let descriptors = &bytes[WIDE_DESCRIPTORS..];
+    if descriptors.len() as u64 != 16 * u64::from(count) || is_one_empty(true, descriptors) {
+        return None;
+    }
+    Some((id, descriptors))
+}
+
 /// The first of the descriptors that these bytes are, and the bytes of the others.
-pub fn first_extent(descriptors: &[u8]) -> Option<(Extent, &[u8])>
-    ensures { MatchOption result (extents_of descriptors.now ≡ [])
-        (λ v. extents_of descriptors.now ≡ extent_of v.0 ∷ extents_of v.1.now) }
+pub fn first_extent(extended: bool, descriptors: &[u8]) -> Option<(Extent, &[u8])>
+    ensures { MatchOption result (extents_of extended descriptors.now ≡ [])
+        (λ v. extents_of extended descriptors.now ≡ extent_of v.0 ∷ extents_of extended v.1.now) }
+{
+    if extended {
+        first_wide(descriptors)
+    } else {
+        first_short(descriptors)
+    }
+}
+
+// The first descriptor of a chunk without an extended header.
+fn first_short(descriptors: &[u8]) -> Option<(Extent, &[u8])>
+    ensures { MatchOption result (extents_of false descriptors.now ≡ [])
+        (λ v. extents_of false descriptors.now ≡ extent_of v.0 ∷ extents_of false v.1.now) }
 {
     if descriptors.len() < DESCRIPTOR_LENGTH {
         return None;
     }
     let first = Extent {
-        length: u32_at(descriptors, 0),
-        flags: u32_at(descriptors, 4),
+        length: u64::from(u32_at(descriptors, 0)),
+        flags: u64::from(u32_at(descriptors, 4)),
     };
     Some((first, &descriptors[DESCRIPTOR_LENGTH..]))
 }
 
+// The first descriptor of a chunk with an extended header.
+fn first_wide(descriptors: &[u8]) -> Option<(Extent, &[u8])>
+    ensures { MatchOption result (extents_of true descriptors.now ≡ [])
+        (λ v. extents_of true descriptors.now ≡ extent_of v.0 ∷ extents_of true v.1.now) }
+{
+    if descriptors.len() < WIDE_DESCRIPTOR_LENGTH {
+        return None;
+    }
+    let first = Extent {
+        length: u64_at(descriptors, 0),
+        flags: u64_at(descriptors, 8),
+    };
+    Some((first, &descriptors[WIDE_DESCRIPTOR_LENGTH..]))
+}
+
 // Whether one of the descriptors is of no byte.
-fn is_one_empty(descriptors: &[u8]) -> bool
-    ensures { result ≡ has_empty (extents_of descriptors.now) }
+fn is_one_empty(extended: bool, descriptors: &[u8]) -> bool
+    ensures { result ≡ has_empty (extents_of extended descriptors.now) }
 {
     let mut rest = descriptors;
-    let mut left = rest.len() / DESCRIPTOR_LENGTH;
-    while left > 0 {
-        if u32_at(rest, 0) == 0 {
+    while let Some((extent, later)) = first_extent(extended, rest) {
+        if extent.length == 0 {
             return true;
         }
-        rest = &rest[DESCRIPTOR_LENGTH..];
-        left -= 1;
+        rest = later;
     }
     false
 }

@@ -12,6 +12,9 @@ pub const OFFSET_HOLE: u16 = 2;
 
 pub const BLOCK_STATUS: u16 = 5;
 
+/// With extended headers.
+pub const BLOCK_STATUS_EXT: u16 = 6;
+
 /// The least type with bit 15: each from here on is one of an error.
 pub const FIRST_ERROR: u16 = 1 << 15;
 

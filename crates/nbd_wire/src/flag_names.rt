@@ -29,6 +29,10 @@ pub const TRANSMISSION: &[Name] = &[
     (1 << 9, "SEND_RESIZE"),
     (transmission::SEND_CACHE as u32, "SEND_CACHE"),
     (transmission::SEND_FAST_ZERO as u32, "SEND_FAST_ZERO"),
+    (
+        transmission::BLOCK_STATUS_PAYLOAD as u32,
+        "BLOCK_STATUS_PAYLOAD",
+    ),
 ];
 
 /// Flags of a request (proto.md, "Command flags").

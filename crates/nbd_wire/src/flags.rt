@@ -14,6 +14,13 @@ pub fn has(flags: u16, mask: u16) -> bool
 pub fn has_wide(flags: u32, mask: u32) -> bool
     ensures { result ≡ has flags mask }
 {
+    has_long(u64::from(flags), u64::from(mask))
+}
+
+/// Whether a flag of a field of 64 bits is set (proto.md, "Flag fields").
+pub fn has_long(flags: u64, mask: u64) -> bool
+    ensures { result ≡ has flags mask }
+{
     flags & mask != 0
 }
 

@@ -12,6 +12,7 @@ pub mod commands;
 pub mod encoding;
 pub mod entry;
 pub mod fault;
+pub mod filters;
 pub mod flag_names;
 pub mod flags;
 pub mod handshake;
@@ -36,10 +37,11 @@ pub mod states;
 pub mod transmission;
 
 pub use bytes::Bytes;
-pub use chunk_payloads::{content_of, failure_of, first_extent, read_as, status_of};
+pub use chunk_payloads::{content_of, failure_of, first_extent, read_as, status_ext_of, status_of};
 pub use encoding::append;
 pub use entry::{Entry, Part};
 pub use fault::WireFault;
+pub use filters::{filter_of, first_id};
 pub use heads::negotiation::{
     AnswerHead, ChoiceHead, answer_head, choice_head, client_flags_head, export_head, greeting_head,
 };

@@ -54,9 +54,9 @@ pub enum Content<'a> {
 #[derive(Clone, Copy, PartialEq, Eq, Drop)]
 pub struct Extent {
     /// How many bytes it speaks of.
-    pub length: u32,
+    pub length: u64,
     /// What it says of them, masks of the module `states` where the context is `base:allocation`.
-    pub flags: u32,
+    pub flags: u64,
 }
 
 /// A piece of what a READ was answered, as `Content` that owns its bytes.

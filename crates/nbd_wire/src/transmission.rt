@@ -21,3 +21,5 @@ pub const CAN_MULTI_CONN: u16 = 1 << 8;
 pub const SEND_CACHE: u16 = 1 << 10;
 
 pub const SEND_FAST_ZERO: u16 = 1 << 11;
+
+pub const BLOCK_STATUS_PAYLOAD: u16 = 1 << 12;

@@ -1,11 +1,10 @@
 -- What the lists of tests say, where none holds: in the words of relations.
 use Rattle.nbd_laws.proofs.requests.LaidLemmas.{AreApart, AreInside}
 use Rattle.nbd_laws.specs.Allowed.{AreClientFlags, FitsLimit, IsChunk, IsContent, IsFreshFor, IsInfo, IsSimpleReply, IsStatus, MayAcknowledge, MayAnswer, MayAsk, MayEnd, MayTell}
-use Rattle.nbd_wire.specs.protocol.Statuses.{tells_all}
 use Rattle.nbd_wire.specs.protocol.Decisions.{answer}
 use Rattle.nbd_wire.specs.protocol.Negotiation.{answer_fault, answer_head_fault, client_flags_fault, greeting_fault, sets_more, export_fault, ack_fault, abort_fault, answers_option, is_followed, info_fault, success_fault, is_good_info, is_bad_payload, payload_fault, is_on_contexts, extends, earlier_to, is_good_context, is_wide, answer_last_fault}
 use Rattle.nbd_wire.specs.protocol.Tests.{fault_if}
-use Rattle.nbd_wire.specs.protocol.Transmission.{cookie_fault, extended_request_fault, request_fault, is_none_yet, chunk_fault, content_fault, done_fault, finish_fault, fits_failure, fits_read, is_apart_from, is_inside, is_no_piece, total, lacks_status, fits_status, status_if, fits_range, read_as}
+use Rattle.nbd_wire.specs.protocol.Transmission.{cookie_fault, extended_request_fault, request_fault, is_none_yet, chunk_fault, content_fault, done_fault, finish_fault, fits_failure, fits_read, is_apart_from, is_inside, is_no_piece, total, lacks_status, fits_status, status_if, fits_range, read_as, status_kind}
 use Rattle.nbd_wire.specs.declared.message.Message.TheVariants.{Chunk, ExtendedChunk, Simple}
 use Rattle.std.proofs.Common.{◌≡◌, ◌≢◌, ℕ, ◌<◌, ◌≤◌, ◌⊎◌, ◌+◌, ◌==◌, List, [], ◌∷◌, length, refl, sym, ◌∙◌, ap, subst, inl, inr, Option, Some, None, Bool, true, false, not, ◌&&◌, ◌||◌, nat_le, nat_lt, eqb-true, is_some, arith, IsTrue, if◌then◌else◌}
 use Rattle.std.proofs.lemmas.Bool.{ltb-false, eq-eqb, leb-true, leb-false, ltb-true, ne_eqb}
@@ -29,7 +28,7 @@ use Rattle.nbd_laws.proofs.judge.BoolLemmas.{not_false, or_false, or_true, and_t
 use Rattle.nbd_wire.specs.declared.profile.Profile.{Profile}
 use Rattle.nbd_wire.specs.protocol.Contexts.{Selection, Context, has_id, Status, reach}
 use Rattle.nbd_wire.specs.declared.profile.Profile.TheVariants.{Wide, Base}
-use Rattle.nbd_wire.specs.protocol.Statuses.{but_last, tells, statuses}
+use Rattle.nbd_wire.specs.protocol.Statuses.{are_settled, but_last, is_settled}
 use Rattle.nbd_wire.specs.declared.chunks.TheConstants as chunks
 use Rattle.nbd_wire.specs.declared.command_flags.TheConstants as command_flags
 use Rattle.nbd_wire.specs.declared.commands.TheConstants as commands
@@ -262,8 +261,8 @@ may_ask false now cookie offset len e f = no_some (target cookie now.entries) f
 pub ask_allow : (core : Core) (command cookie offset len : ℕ) → request_fault command offset len ≡ None → cookie_fault command (target cookie core.entries) ≡ None → MayAsk (command == commands.DISC) core cookie offset len
 ask_allow core command cookie offset len e f = may_ask (command == commands.DISC) core cookie offset len (fault_none _ BadDisconnect None e).0 (fault_none _ CookieInUse None f).0
 
-pub extended_ask_allow : (core : Core) (x : Bool) (flags command cookie offset len : ℕ) → extended_request_fault x flags command offset len ≡ None → cookie_fault command (target cookie core.entries) ≡ None → MayAsk (command == commands.DISC) core cookie offset len
-extended_ask_allow core x flags command cookie offset len e f = ask_allow core command cookie offset len (fault_none _ OutOfProfile (request_fault command offset len) e).1 f
+pub extended_ask_allow : (core : Core) (flags command cookie offset len : ℕ) → extended_request_fault flags command offset len ≡ None → cookie_fault command (target cookie core.entries) ≡ None → MayAsk (command == commands.DISC) core cookie offset len
+extended_ask_allow core flags command cookie offset len e f = ask_allow core command cookie offset len (fault_none _ OutOfProfile (request_fault command offset len) e).1 f
 
 pub no_message : (ms : List Message) → is_none_yet ms ≡ true → ms ≡ []
 no_message [] e = refl
@@ -299,30 +298,30 @@ in_range e None q x is = absurd (cc)
 in_range e (Some y) q x is = let r : y ≡ x = cc in subst (λ y. is_in e.offset e.length y ≡ true) r q
 
 -- what is told of status, where a context is in force
-pub record IsTold (contexts : List Context) (kind : ℕ) (payload : List ℕ) (status : Status) : Type 0 where
-  pub kind_is : kind ≡ chunks.BLOCK_STATUS
+pub record IsTold (extended : Bool) (contexts : List Context) (kind : ℕ) (payload : List ℕ) (status : Status) : Type 0 where
+  pub kind_is : kind ≡ status_kind extended
   pub some_in_force : contexts ≢ []
-  pub is : status_of payload ≡ Some status
+  pub is : status_of extended payload ≡ Some status
 
-pub told_if : (contexts : List Context) (kind : ℕ) (payload : List ℕ) (status : Status) → status_if false contexts kind payload ≡ Some status → IsTold contexts kind payload status
-told_if contexts kind payload status e = go (kind == chunks.BLOCK_STATUS) refl contexts refl e
+pub told_if : (extended : Bool) (contexts : List Context) (kind : ℕ) (payload : List ℕ) (status : Status) → status_if extended contexts kind payload ≡ Some status → IsTold extended contexts kind payload status
+told_if extended contexts kind payload status e = go (kind == status_kind extended) refl contexts refl e
   where
-    go : (b : Bool) → (kind == chunks.BLOCK_STATUS) ≡ b → (cs : List Context) → contexts ≡ cs → (if b && not (length cs == 0) then status_of payload else None) ≡ Some status → IsTold contexts kind payload status
+    go : (b : Bool) → (kind == status_kind extended) ≡ b → (cs : List Context) → contexts ≡ cs → (if b && not (length cs == 0) then status_of extended payload else None) ≡ Some status → IsTold extended contexts kind payload status
     go true q [] n e = absurd (cc)
-    go true q (c ∷ cs) n e = record { kind_is = eqb-true kind chunks.BLOCK_STATUS q; some_in_force = λ h. (let r : c ∷ cs ≡ [] = sym n ∙ h in (cc)); is = sym (ap (λ b. if not b then status_of payload else None) (ne_eqb (length (c ∷ cs)) 0 (λ q. omega arith))) ∙ e }
+    go true q (c ∷ cs) n e = record { kind_is = eqb-true kind (status_kind extended) q; some_in_force = λ h. (let r : c ∷ cs ≡ [] = sym n ∙ h in (cc)); is = sym (ap (λ b. if not b then status_of extended payload else None) (ne_eqb (length (c ∷ cs)) 0 (λ q. omega arith))) ∙ e }
     go false q cs n e = absurd (cc)
 
-pub status_if-some : (contexts : List Context) (kind : ℕ) (payload : List ℕ) (status : Status) → kind ≡ chunks.BLOCK_STATUS → contexts ≢ [] → status_of payload ≡ Some status → status_if false contexts kind payload ≡ Some status
-status_if-some [] kind payload status k n is = absurd (n refl)
-status_if-some (c ∷ contexts) kind payload status k n is =
-    ap (λ b. if b && not (length (c ∷ contexts) == 0) then status_of payload else None) (eq-eqb kind chunks.BLOCK_STATUS k)
-    ∙ ap (λ b. if not b then status_of payload else None) (ne_eqb (length (c ∷ contexts)) 0 (λ q. omega arith)) ∙ is
+pub status_if-some : (extended : Bool) (contexts : List Context) (kind : ℕ) (payload : List ℕ) (status : Status) → kind ≡ status_kind extended → contexts ≢ [] → status_of extended payload ≡ Some status → status_if extended contexts kind payload ≡ Some status
+status_if-some extended [] kind payload status k n is = absurd (n refl)
+status_if-some extended (c ∷ contexts) kind payload status k n is =
+    ap (λ b. if b && not (length (c ∷ contexts) == 0) then status_of extended payload else None) (eq-eqb kind (status_kind extended) k)
+    ∙ ap (λ b. if not b then status_of extended payload else None) (ne_eqb (length (c ∷ contexts)) 0 (λ q. omega arith)) ∙ is
 
 pub fits_it : (e : Operation) (status : Status) → fits_status e status ≡ true → IsStatus e status
 fits_it e status h =
     let a : ((e.command == commands.BLOCK_STATUS) ≡ true) × (_ ≡ true) = and_true (e.command == commands.BLOCK_STATUS) _ h in
     let b : (has_id e.contexts status.id ≡ true) × (_ ≡ true) = and_true (has_id e.contexts status.id) _ a.1 in
-    let c : (not (tells (statuses e) status.id) ≡ true) × (((e.length == 0) || fits_range e status.extents) ≡ true) = and_true (not (tells (statuses e) status.id)) _ b.1 in (
+    let c : (not (is_settled e status.id) ≡ true) × (((e.length == 0) || fits_range e status.extents) ≡ true) = and_true (not (is_settled e status.id)) _ b.1 in (
       eqb-true e.command commands.BLOCK_STATUS a.0,
       b.0,
       not_true _ c.0,
@@ -351,10 +350,6 @@ form_of extended profile export e f flags kind payload false z h =
     go (content_of (read_as profile kind) payload) (failure_of (read_as profile kind) payload) (status_if extended e.contexts (read_as profile kind) payload) (sym (kind_content profile kind payload)) refl
     (sym (kind_status profile extended e.contexts kind payload)) h
   where
-    told : (x : Bool) (s : Status) → status_if x e.contexts kind payload ≡ Some s → IsStatus e s → (x ≡ false) × (kind ≡ chunks.BLOCK_STATUS) × ((status : Status) × (status_of payload ≡ Some status) × IsStatus e status)
-    told true s is fit = absurd (cc)
-    told false s is fit = (let t : IsTold e.contexts kind payload s = told_if e.contexts kind payload s is in (refl, t.kind_is, (s, t.is, fit)))
-
     go : (c : Option Piece) (g : Option Failure) (s : Option Status) → content_of kind payload ≡ c → failure_of (read_as profile kind) payload ≡ g → status_if extended e.contexts kind payload ≡ s →
         content_fault export e c g s (done_fault (has flags chunks.DONE) export f) ≡ None →
         IsChunk profile extended export e flags kind payload × (done_fault (has flags chunks.DONE) export f ≡ None)
@@ -364,7 +359,8 @@ form_of extended profile export e f flags kind payload false z h =
         (inr (inr (inl (g, is_g, in_range e g.offset (not_false _ a.0)))), a.1)
     go None None (Some s) is_c is_g is_s h =
         let a : (not (fits_status e s) ≡ false) × (_ ≡ None) = fault_none _ BadContent _ h in
-        (inr (inr (inr (told extended s is_s (fits_it e s (not_false _ a.0))))), a.1)
+        let t : IsTold extended e.contexts kind payload s = told_if extended e.contexts kind payload s is_s in
+        (inr (inr (inr (t.kind_is, (s, t.is, fits_it e s (not_false _ a.0))))), a.1)
     go None None None is_c is_g is_s h = absurd (cc)
 
 pub chunk_allow : (profile : Profile) (structured : Bool) (export : Exporting) (e : Operation) (flags kind cookie : ℕ) (payload : List ℕ) → MayReply profile structured export e (Chunk flags kind cookie payload) →
@@ -383,7 +379,7 @@ extended_allow profile structured export e flags kind cookie at payload (at_head
 
 -- at the end of a reply that states no failure
 pub finish_allow : (export : Exporting) (f : Operation) → has_failed f ≡ false → done_fault true export f ≡ None →
-    IsTrue (is_proper export f) × (f.command ≡ commands.READ → total (pieces f) ≡ f.length) × (f.command ≡ commands.BLOCK_STATUS → f.length ≢ 0 → IsTrue (tells_all (statuses f) f.contexts))
+    IsTrue (is_proper export f) × (f.command ≡ commands.READ → total (pieces f) ≡ f.length) × (f.command ≡ commands.BLOCK_STATUS → f.length ≢ 0 → IsTrue (are_settled (is_settled f) f.contexts))
 finish_allow export f well e =
     let h : finish_fault export f false (pieces f) ≡ None = subst (λ b. finish_fault export f b (pieces f) ≡ None) well e in
     let a : (((f.command == commands.READ) && not (total (pieces f) == f.length)) ≡ false) × (_ ≡ None) = fault_none _ IncompleteRead _ h in

@@ -19,7 +19,7 @@ use Rattle.nbd_wire.specs.protocol.Rules.{MayReply}
 use Rattle.nbd_wire.specs.protocol.Operations.{Operation, Exporting, pieces_of}
 use Rattle.nbd_wire.specs.protocol.Pieces.{chunk_piece, piece_of, piece_size}
 use Rattle.nbd_wire.specs.protocol.Sendable.{IsSendable}
-use Rattle.nbd_wire.specs.protocol.States.{Core, has_contexts, target, with_reply}
+use Rattle.nbd_wire.specs.protocol.States.{Core, target, with_reply}
 use Rattle.nbd_wire.specs.declared.fault.WireFault.TheVariants.{BadMagic, BadReplyOffset, OutOfProfile}
 use Rattle.nbd_laws.proofs.judge.CoverLemmas.{ArePositive}
 use Rattle.nbd_laws.proofs.judge.ExactNegotiationLemmas.{Accepts}
@@ -68,7 +68,7 @@ request_accepts core flags command cookie offset len payload sn at_head at_last 
     }
 
 pub extended_request_accepts : (core : Core) (flags command cookie offset len : ℕ) (payload : List ℕ) → IsSendable (ExtendedRequest flags command cookie offset len payload) →
-    extended_request_fault (has_contexts core) flags command offset len ≡ None → cookie_fault command (target cookie core.entries) ≡ None →
+    extended_request_fault flags command offset len ≡ None → cookie_fault command (target cookie core.entries) ≡ None →
     Accepts (extended_request core (enc (ExtendedRequest flags command cookie offset len payload))) (ExtendedRequest flags command cookie offset len payload)
 unfolding IsSendable
 extended_request_accepts core flags command cookie offset len payload sn at_head at_last =
@@ -76,7 +76,7 @@ extended_request_accepts core flags command cookie offset len payload sn at_head
     record {
       at_head = record {
         long = n.long ∙ ap (λ x. 32 + x) sn.5 ∙ (λ i. 32 + extended_payload_length (sym n.flags_is i) (sym n.kind_is i) (sym n.length_is i));
-        clean = (λ i. fault_if (not (n.magic_is i == EXTENDED_REQUEST_MAGIC)) BadMagic (extended_request_fault (has_contexts core) (n.flags_is i) (n.kind_is i) (n.offset_is i) (n.length_is i))) ∙ at_head;
+        clean = (λ i. fault_if (not (n.magic_is i == EXTENDED_REQUEST_MAGIC)) BadMagic (extended_request_fault (n.flags_is i) (n.kind_is i) (n.offset_is i) (n.length_is i))) ∙ at_head;
       };
       at_last = record {
         clean = (λ i. cookie_fault (n.kind_is i) (target (n.cookie_is i) core.entries)) ∙ at_last;

@@ -9,7 +9,7 @@ use Rattle.nbd_wire.specs.declared.profile.Profile.TheVariants.{Base, Wide}
 use Rattle.nbd_wire.specs.protocol.Contexts.{Context}
 use Rattle.nbd_wire.specs.protocol.Operations.{is_error_chunk}
 use Rattle.nbd_wire.specs.protocol.Payloads.{content_of, number_at, status_of}
-use Rattle.nbd_wire.specs.protocol.Transmission.{read_as, status_if}
+use Rattle.nbd_wire.specs.protocol.Transmission.{read_as, status_if, status_kind}
 
 pub read_kind : (profile : Profile) (kind : ℕ) → (read_as profile kind ≡ kind) ⊎ (is_error_chunk kind ≡ true) × (read_as profile kind ≡ chunks.ERROR)
 read_kind Base kind = inl refl
@@ -21,7 +21,7 @@ read_kind Wide kind = go (is_error_chunk kind) (kind == chunks.ERROR_OFFSET) ref
     go false c q = inl refl
 
 -- an error's type is none of the others
-pub no_other : (kind other : ℕ) → is_error_chunk kind ≡ true → other ≤ 5 → (kind == other) ≡ false
+pub no_other : (kind other : ℕ) → is_error_chunk kind ≡ true → other ≤ 6 → (kind == other) ≡ false
 no_other kind other e l = ne_eqb kind other (λ q. (let h : 0x8000 ≤ kind = leb-true chunks.FIRST_ERROR kind e in omega (arith, h, l, q)))
 
 pub error_content : (kind : ℕ) (bytes : List ℕ) → is_error_chunk kind ≡ true → content_of kind bytes ≡ None
@@ -35,6 +35,10 @@ error_content kind bytes e =
     go x y c true h p q = absurd (cc)
     go x y c false true p q = absurd (cc)
 
+pub low_kind : (extended : Bool) → status_kind extended ≤ 6
+low_kind false = omega arith
+low_kind true = omega arith
+
 -- what one read so has of content and of status
 pub kind_content : (profile : Profile) (kind : ℕ) (bytes : List ℕ) → content_of (read_as profile kind) bytes ≡ content_of kind bytes
 kind_content profile kind bytes = elim (read_kind profile kind) [
@@ -43,15 +47,18 @@ kind_content profile kind bytes = elim (read_kind profile kind) [
 ]
 
 pub kind_status : (profile : Profile) (extended : Bool) (contexts : List Context) (kind : ℕ) (bytes : List ℕ) → status_if extended contexts (read_as profile kind) bytes ≡ status_if extended contexts kind bytes
-kind_status profile true contexts kind bytes = refl
-kind_status profile false contexts kind bytes = elim (read_kind profile kind) [
-  | inl q ↦ ap (λ k. status_if false contexts k bytes) q
-  | inr (e, q) ↦ ap (λ k. status_if false contexts k bytes) q ∙ sym (ap (λ b. if b && not (length contexts == 0) then status_of bytes else None) (no_other kind chunks.BLOCK_STATUS e (omega arith)))
+kind_status profile extended contexts kind bytes = elim (read_kind profile kind) [
+  | inl q ↦ ap (λ k. status_if extended contexts k bytes) q
+  | inr (e, q) ↦ ap (λ k. status_if extended contexts k bytes) q ∙ none chunks.ERROR refl ∙ sym (none kind e)
 ]
+  where
+    none : (kind : ℕ) → is_error_chunk kind ≡ true → status_if extended contexts kind bytes ≡ None
+    none kind e = ap (λ b. if b && not (length contexts == 0) then status_of extended bytes else None) (no_other kind (status_kind extended) e (low_kind extended))
 
-pub status_kind : (profile : Profile) → read_as profile chunks.BLOCK_STATUS ≡ chunks.BLOCK_STATUS
-status_kind Base = refl
-status_kind Wide = refl
+pub status_read : (profile : Profile) (extended : Bool) → read_as profile (status_kind extended) ≡ status_kind extended
+status_read Base extended = refl
+status_read Wide false = refl
+status_read Wide true = refl
 
 pub kind_error : (profile : Profile) (kind : ℕ) → is_error_chunk (read_as profile kind) ≡ is_error_chunk kind
 kind_error profile kind = elim (read_kind profile kind) [

@@ -68,12 +68,6 @@ in_force_stays core export (Chunk flags kind cookie payload) h = in_force-reply_
 in_force_stays core export (ExtendedChunk flags kind cookie at payload) h = in_force-reply_to (request_of_reply core (ExtendedChunk flags kind cookie at payload)) core (ExtendedChunk flags kind cookie at payload)
 in_force_stays core export m h = absurd h
 
-pub Later-in_force : {s : Side} {old now : Core} → Later s old now → (export : Exporting) → old.phase ≡ Transmission export → in_force now ≡ in_force old
-Later-in_force at_once export e = refl
-Later-in_force (behind {c = c} m ne ok l) export e =
-    let may : MayComplete c (Transmission export) m = subst (λ p. MayComplete c p m) e ok in
-    Later-in_force l export (transmission_stays c export m may ∙ e) ∙ in_force_stays c export m may
-
 pub extended-reply_to : (o : Option ℕ) (core : Core) (m : Message) → (reply_to o core m).extended ≡ core.extended
 extended-reply_to (Some k) core m = refl
 extended-reply_to None core m = refl

@@ -3,7 +3,7 @@ use Rattle.std.proofs.Common.{◌≡◌, ℕ, ◌<◌, ◌≤◌, ◌+◌, ◌^�
 use Rattle.std.proofs.lemmas.Bool.{ltb-false}
 use Rattle.nbd_wire.specs.declared.fault.WireFault.TheVariants.{OutOfProfile}
 use Rattle.nbd_wire.specs.declared.limits.TheConstants.{LONGEST_PAYLOAD}
-use Rattle.nbd_laws.proofs.judge.BoolLemmas.{fault_none, or_false}
+use Rattle.nbd_laws.proofs.judge.BoolLemmas.{fault_none}
 use Rattle.nbd_wire.specs.declared.magics.TheConstants.{EXTENDED_REQUEST_MAGIC, REQUEST_MAGIC}
 use Rattle.nbd_wire.specs.declared.message.Side.TheVariants.{Client}
 use Rattle.nbd_wire.specs.declared.message.Message.{Message}
@@ -13,7 +13,7 @@ use Rattle.nbd_wire.specs.protocol.Payloads.{number_at}
 use Rattle.nbd_wire.specs.protocol.Operations.{Exporting}
 use Rattle.nbd_wire.specs.protocol.Rules.{MayComplete, is_extended, is_request}
 use Rattle.nbd_wire.specs.protocol.Sendable.{IsSendable, carries_payload}
-use Rattle.nbd_wire.specs.protocol.States.{Transmission, Core, has_contexts}
+use Rattle.nbd_wire.specs.protocol.States.{Transmission, Core}
 use Rattle.nbd_wire.specs.protocol.Decisions.{extended_request, extended_request_of, request_by, request_of, short_request}
 use Rattle.nbd_wire.specs.protocol.Reading.{read_by, request_unless, reading_by_decision, Whole}
 use Rattle.nbd_wire.specs.protocol.Transmission.{extended_payload_length, extended_request_fault, is_too_large, request_payload_length}
@@ -49,14 +49,14 @@ not_large true true len n q e l = absurd (cc)
 not_large true false len n q e l = (let h : len ≤ LONGEST_PAYLOAD = ltb-false LONGEST_PAYLOAD len (sym q) in omega (arith, h, l))
 not_large false large len n q e l = omega (arith, l)
 
-extended_sendable : (x : Bool) (bytes : List ℕ) → AreBytes bytes → length bytes ≡ 32 + extended_payload_length (number_at 4 2 bytes) (number_at 6 2 bytes) (number_at 24 8 bytes) →
-    extended_request_fault x (number_at 4 2 bytes) (number_at 6 2 bytes) (number_at 16 8 bytes) (number_at 24 8 bytes) ≡ None → IsSendable (extended_request_of bytes)
+extended_sendable : (bytes : List ℕ) → AreBytes bytes → length bytes ≡ 32 + extended_payload_length (number_at 4 2 bytes) (number_at 6 2 bytes) (number_at 24 8 bytes) →
+    extended_request_fault (number_at 4 2 bytes) (number_at 6 2 bytes) (number_at 16 8 bytes) (number_at 24 8 bytes) ≡ None → IsSendable (extended_request_of bytes)
 unfolding IsSendable
-extended_sendable x bytes a l clean =
+extended_sendable bytes a l clean =
     let carries : Bool = carries_payload (number_at 4 2 bytes) (number_at 6 2 bytes) in
     let len : ℕ = number_at 24 8 bytes in
     let p : length (drop 32 bytes) ≡ extended_payload_length (number_at 4 2 bytes) (number_at 6 2 bytes) len = omega (arith, length-drop 32 bytes, l) in
-    let small = (or_false (carries && is_too_large len) _ (fault_none _ OutOfProfile _ clean).0).0 in (
+    let small = (fault_none _ OutOfProfile _ clean).0 in (
       number_at-lt 4 2 bytes a,
       number_at-lt 6 2 bytes a,
       number_at-lt 8 8 bytes a,
@@ -103,7 +103,7 @@ extended_sound now export bytes m is_d x a e =
       fit = record {
         encodes = extended_is bytes a (omega (arith, long)) mg.0;
         sided = refl;
-        sendable = extended_sendable (has_contexts now) bytes a long mg.1;
+        sendable = extended_sendable bytes a long mg.1;
         completes = (mg.1, w.at_last, x);
       };
       asks = refl;

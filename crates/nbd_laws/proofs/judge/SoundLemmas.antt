@@ -10,7 +10,6 @@ use Rattle.nbd_wire.specs.protocol.Operations.{Exporting}
 use Rattle.nbd_wire.specs.protocol.Rules.{MayStartIn, MayComplete, request_of_reply, is_extended, is_request}
 use Rattle.nbd_wire.specs.protocol.States.{Phase, Greet, Flags, Choosing, Naming, Aborting, Answering, Transmission, Core}
 use Rattle.nbd_wire.specs.declared.fault.WireFault.TheVariants.{OutOfTurn}
-use Rattle.nbd_wire.specs.protocol.Decisions.{request_of}
 use Rattle.nbd_wire.specs.protocol.Reading.{judge_in, by_tests, Reading, More, Whole, Bad, Judge}
 use Rattle.nbd_laws.proofs.reading.ReaderLemmas.{Kept, begun, kept, Later, at_once, Later-trans, IsSoundAt, IsSound}
 use Rattle.nbd_laws.specs.Reached.{IsReached}

@@ -11,9 +11,9 @@ use Rattle.nbd_wire.specs.protocol.Options.{is_proper_option, turn, takes_contex
 use Rattle.nbd_wire.specs.protocol.Payloads.{number_at}
 use Rattle.nbd_wire.specs.protocol.Operations.{Operation, Exporting}
 use Rattle.nbd_wire.specs.protocol.Flags.{has}
-use Rattle.nbd_wire.specs.protocol.States.{Phase, Greet, Flags, Choosing, Naming, Aborting, Answering, Transmission, Core, has_contexts, operation, target}
+use Rattle.nbd_wire.specs.protocol.States.{Phase, Greet, Flags, Choosing, Naming, Aborting, Answering, Transmission, Core, operation, target}
 use Rattle.nbd_wire.specs.declared.fault.WireFault.TheVariants.{BadMagic, OutOfProfile, UnknownCookie}
-use Rattle.nbd_wire.specs.protocol.Decisions.{Decision, abort_answer, answer, choice, client_flags, export_answer, greeting, begins, chunk_to, operation_if, operation_of, no_reply, reply_by, reply_in, extended_reply_by, extended_chunk_to, short_request, extended_request_with, request_by, simple_to}
+use Rattle.nbd_wire.specs.protocol.Decisions.{Decision, abort_answer, answer, choice, client_flags, export_answer, greeting, begins, chunk_to, operation_if, operation_of, no_reply, reply_by, reply_in, extended_reply_by, extended_chunk_to, short_request, extended_request, request_by, simple_to}
 use Rattle.nbd_wire.specs.protocol.Negotiation.{answer_head_fault, abort_fault, answer_fault, client_flags_fault, export_fault, greeting_fault}
 use Rattle.nbd_wire.specs.protocol.Reading.{decision, request_unless}
 use Rattle.nbd_wire.specs.protocol.Tests.{fault_if}
@@ -22,8 +22,8 @@ use Rattle.nbd_wire.specs.declared.magics.TheConstants.{GREETING_MAGIC, OPTION_M
 use Rattle.nbd_wire.specs.declared.fault.WireFault.TheVariants.{BadMagic}
 use Rattle.nbd_laws.proofs.reading.ReaderLemmas.{Later}
 use Rattle.nbd_laws.proofs.judge.SoundServerLemmas.{magic_of}
-use Rattle.nbd_laws.proofs.judge.PhaseLemmas.{IsAppended, Later-appended, Later-extended, Later-in_force, Later-disconnected, Later-transmission, Later-turn, target_entry}
-use Rattle.nbd_wire.specs.protocol.Contexts.{Context, Selection}
+use Rattle.nbd_laws.proofs.judge.PhaseLemmas.{IsAppended, Later-appended, Later-extended, Later-disconnected, Later-transmission, Later-turn, target_entry}
+use Rattle.nbd_wire.specs.protocol.Contexts.{Selection}
 use Rattle.nbd_wire.specs.declared.profile.Profile.{Profile}
 
 -- the same of a message's head and length
@@ -156,11 +156,11 @@ request_same c d bytes more l = record {
   payload_length_is = λ i. request_payload_length (at 6 2 28 bytes more l (omega arith) i) (at 24 4 28 bytes more l (omega arith) i);
 }
 
-extended_same : (x : Bool) (c d : Core) (bytes more : List ℕ) → 32 ≤ length bytes → IsSameHead (extended_request_with x c bytes) (extended_request_with x d (bytes ++ more))
-extended_same x c d bytes more l = record {
+extended_same : (c d : Core) (bytes more : List ℕ) → 32 ≤ length bytes → IsSameHead (extended_request c bytes) (extended_request d (bytes ++ more))
+extended_same c d bytes more l = record {
   head_length_is = refl;
   head_fault_is = λ i. fault_if (not (at 0 4 32 bytes more l (omega arith) i == EXTENDED_REQUEST_MAGIC)) BadMagic
-      (extended_request_fault x (at 4 2 32 bytes more l (omega arith) i) (at 6 2 32 bytes more l (omega arith) i) (at 16 8 32 bytes more l (omega arith) i) (at 24 8 32 bytes more l (omega arith) i));
+      (extended_request_fault (at 4 2 32 bytes more l (omega arith) i) (at 6 2 32 bytes more l (omega arith) i) (at 16 8 32 bytes more l (omega arith) i) (at 24 8 32 bytes more l (omega arith) i));
   payload_length_is = λ i. extended_payload_length (at 4 2 32 bytes more l (omega arith) i) (at 6 2 32 bytes more l (omega arith) i) (at 24 8 32 bytes more l (omega arith) i);
 }
 
@@ -178,10 +178,9 @@ in_requests old export false t d is = record {
   steady = λ now l. fixed_steady Client now 28 short_request (omega arith) (λ c bytes. refl) request_same;
 }
 in_requests old export true t d is = record {
-  F = extended_request_with (has_contexts old);
-  decides = λ now l bytes. requests_are export l t d bytes ∙ ap (λ x. Some (request_by x now bytes)) is
-      ∙ ap (λ (cs : List Context). Some (extended_request_with (not (length cs == 0)) now bytes)) (Later-in_force l export t);
-  steady = λ now l. fixed_steady Client now 32 (extended_request_with (has_contexts old)) (omega arith) (λ c bytes. refl) (extended_same (has_contexts old));
+  F = extended_request;
+  decides = λ now l bytes. requests_are export l t d bytes ∙ ap (λ x. Some (request_by x now bytes)) is;
+  steady = λ now l. fixed_steady Client now 32 extended_request (omega arith) (λ c bytes. refl) extended_same;
 }
 
 pub entry-append : (k : ℕ) (es more : List Operation) (e : Operation) → operation k es ≡ Some e → operation k (es ++ more) ≡ Some e

@@ -1,9 +1,8 @@
 -- What holds of each request of a core that completed messages lead to.
-use Rattle.std.proofs.Common.{◌||◌, ◌≡◌, ℕ, zero, suc, ◌<◌, ◌≤◌, ◌⊎◌, ◌+◌, ◌^◌, ◌==◌, List, [], ◌∷◌, ◌++◌, length, refl, sym, ◌∙◌, ap, subst, inl, inr, Option, Some, None, Bool, true, false, ◌&&◌, if◌then◌else◌, eqb-true, arith, append-nil, nat_le}
-use Rattle.nbd_wire.specs.protocol.Flags.{has}
+use Rattle.std.proofs.Common.{◌≡◌, ℕ, zero, suc, ◌<◌, ◌≤◌, ◌⊎◌, ◌+◌, ◌^◌, ◌==◌, List, [], ◌∷◌, ◌++◌, length, refl, sym, ◌∙◌, ap, subst, inl, inr, Option, Some, None, Bool, true, false, ◌&&◌, if◌then◌else◌, eqb-true, arith, append-nil, nat_le}
 use Rattle.nbd_laws.specs.Allowed.{IsChunk}
 use Rattle.nbd_wire.specs.declared.profile.Profile.{Profile}
-use Rattle.nbd_wire.specs.protocol.Transmission.{read_as}
+use Rattle.nbd_wire.specs.protocol.Transmission.{read_as, status_kind}
 use Rattle.nbd_laws.proofs.judge.KindLemmas.{kind_content}
 use Rattle.nbd_wire.specs.declared.chunks.TheConstants as chunks
 use Rattle.nbd_wire.specs.declared.commands.TheConstants as commands
@@ -15,22 +14,20 @@ use Rattle.nbd_wire.specs.declared.payloads.Piece.TheVariants.{Bytes}
 use Rattle.nbd_wire.specs.protocol.Payloads.{number_at, content_of, failure_of}
 use Rattle.nbd_wire.specs.protocol.Operations.{Operation, Exporting, pieces, pieces_of}
 use Rattle.nbd_wire.specs.protocol.Pieces.{chunk_piece, piece_of}
-use Rattle.nbd_wire.specs.protocol.Rules.{MayComplete, MayReply, complete, core_with_request, reply_to, grants_extended, request_of_reply, written}
-use Rattle.nbd_wire.specs.protocol.Sendable.{IsSendable, carries_payload}
+use Rattle.nbd_wire.specs.protocol.Rules.{MayComplete, MayReply, complete, core_with_request, reply_to, grants_extended, request_of_reply}
+use Rattle.nbd_wire.specs.protocol.Sendable.{IsSendable}
 use Rattle.nbd_wire.specs.protocol.States.{Phase, Transmission, Core, target, operation, with_reply_at, with_reply}
 use Rattle.nbd_laws.specs.Reached.{IsReached, at_start, after_message}
 use Rattle.nbd_laws.proofs.requests.LaidLemmas.{AreApart, AreInside, apart_snoc, inside_snoc, pieces-snoc}
 use Rattle.nbd_laws.proofs.judge.BoolLemmas.{and_true, or_false}
 use Rattle.nbd_laws.proofs.judge.AllowLemmas.{chunk_allow, extended_allow, simple_allow}
 use Rattle.nbd_laws.proofs.judge.PhaseLemmas.{extended-reply_to, extended-requested}
-use Rattle.nbd_wire.specs.declared.command_flags.TheConstants as command_flags
 
 -- of a request where extended headers are in force, or not
 pub record IsTidy (extended : Bool) (e : Operation) : Type 0 where
   pub inside : AreInside e.offset e.length (pieces e)
   pub apart : AreApart (pieces e)
   pub short : extended ≡ false → e.length < 2 ^ 32
-  pub carries : length e.payload ≡ (if e.command == commands.WRITE then e.length else 0)
 
 abbrev pub AreTidy : (extended : Bool) → List Operation → Type 0
 AreTidy x [] = Unit {0}
@@ -39,7 +36,7 @@ AreTidy x (e ∷ es) = IsTidy x e × AreTidy x es
 -- extended headers stay in force
 tidy_still : (a b : Bool) (es : List Operation) → (a ≡ false → b ≡ false) → AreTidy b es → AreTidy a es
 tidy_still a b [] f t = tt
-tidy_still a b (e ∷ es) f t = (record { inside = t.0.inside; apart = t.0.apart; short = λ q. t.0.short (f q); carries = t.0.carries }, tidy_still a b es f t.1)
+tidy_still a b (e ∷ es) f t = (record { inside = t.0.inside; apart = t.0.apart; short = λ q. t.0.short (f q) }, tidy_still a b es f t.1)
 
 pub tidy_entry : {x : Bool} (k : ℕ) (es : List Operation) (e : Operation) → AreTidy x es → operation k es ≡ Some e → IsTidy x e
 tidy_entry k [] e t h = absurd (cc)
@@ -76,9 +73,10 @@ no_content kind bytes f e = elim (failure_kind kind bytes f e) [
   | inr q ↦ subst (λ k. content_of k bytes ≡ None) (sym q) refl
 ]
 
-pub status_content : (kind : ℕ) (bytes : List ℕ) → kind ≡ chunks.BLOCK_STATUS → content_of kind bytes ≡ None
+pub status_content : (extended : Bool) (kind : ℕ) (bytes : List ℕ) → kind ≡ status_kind extended → content_of kind bytes ≡ None
 unfolding content_of
-status_content kind bytes q = subst (λ k. content_of k bytes ≡ None) (sym q) refl
+status_content false kind bytes q = subst (λ k. content_of k bytes ≡ None) (sym q) refl
+status_content true kind bytes q = subst (λ k. content_of k bytes ≡ None) (sym q) refl
 
 pub none_content : (bytes : List ℕ) → content_of chunks.NONE bytes ≡ None
 unfolding content_of
@@ -94,7 +92,6 @@ one_more e m t h = record {
   inside = subst (AreInside e.offset e.length) (sym (pieces-snoc e.offset e.replies m)) h.inside;
   apart = subst AreApart (sym (pieces-snoc e.offset e.replies m)) h.apart;
   short = t.short;
-  carries = t.carries;
 }
 
 nothing_more : {x : Bool} (e : Operation) (more : List Piece) → IsTidy x e → more ≡ [] → IsOneMore e more
@@ -129,7 +126,7 @@ tidy_chunk profile extended export e flags kind bytes m p t h = one_more e m t (
         subst (IsOneMore e) s (record { inside = inside_snoc e.offset e.length (pieces e) piece t.inside fit.1 fit.2; apart = apart_snoc (pieces e) piece t.apart fit.3 }))
     | inr o ↦ elim o [
       | inl (f, is, x) ↦ nothing_more e _ t (p ∙ ap chunk_piece (sym (kind_content profile kind bytes) ∙ no_content (read_as profile kind) bytes f is))
-      | inr (y, k, x) ↦ nothing_more e _ t (p ∙ ap chunk_piece (status_content kind bytes k))
+      | inr (k, x) ↦ nothing_more e _ t (p ∙ ap chunk_piece (status_content _ kind bytes k))
     ]
   ]
 ])
@@ -156,13 +153,6 @@ tidy_requested : {x : Bool} (b : Bool) (core : Core) (e : Operation) → AreTidy
 tidy_requested true core e t h = t
 tidy_requested false core e t h = tidy_snoc core.entries e t h
 
-carried_by : (flags command len : ℕ) (bytes : List ℕ) → length bytes ≡ (if carries_payload flags command then len else 0) → length (written command bytes) ≡ (if command == commands.WRITE then len else 0)
-carried_by flags command len bytes h = go (command == commands.WRITE) refl
-  where
-    go : (w : Bool) → (command == commands.WRITE) ≡ w → length (if w then bytes else []) ≡ (if w then len else 0)
-    go true q = h ∙ ap (λ b. if b || has flags command_flags.PAYLOAD_LEN then len else 0) q
-    go false q = refl
-
 -- what may complete, by whether extended headers are in force
 tidied : (core : Core) (phase : Phase) (m : Message) → AreTidy core.extended core.entries → IsSendable m → MayComplete core phase m → AreTidy core.extended (complete core m).entries
 unfolding MayComplete complete IsSendable
@@ -171,9 +161,9 @@ tidied core phase (ClientFlags flags) t sn ok = t
 tidied core phase (Choice id bytes) t sn ok = t
 tidied core phase (Answer option kind bytes) t sn ok = t
 tidied core phase (Exported size flags padded) t sn ok = t
-tidied core phase (Request flags command cookie offset len bytes) t sn ok = tidy_requested (command == commands.DISC) core _ t (record { inside = tt; apart = tt; short = λ q. sn.4; carries = sn.5 })
+tidied core phase (Request flags command cookie offset len bytes) t sn ok = tidy_requested (command == commands.DISC) core _ t (record { inside = tt; apart = tt; short = λ q. sn.4 })
 tidied core (Transmission export) (ExtendedRequest flags command cookie offset len bytes) t sn ok =
-    tidy_requested (command == commands.DISC) core _ t (record { inside = tt; apart = tt; short = λ q. absurd (let z : true ≡ false = sym ok.2 ∙ q in (cc)); carries = carried_by flags command len bytes sn.5 })
+    tidy_requested (command == commands.DISC) core _ t (record { inside = tt; apart = tt; short = λ q. absurd (let z : true ≡ false = sym ok.2 ∙ q in (cc)) })
 tidied core (Transmission export) (Simple error cookie bytes) t sn (k, e, at, is, h) =
     tidy_replied core (Simple error cookie bytes) k e (target cookie core.entries) at t is (tidy_reply core.profile core.structured export e (Simple error cookie bytes) (tidy_entry k core.entries e t is) h)
 tidied core (Transmission export) (Chunk flags kind cookie bytes) t sn (k, e, at, is, h) =

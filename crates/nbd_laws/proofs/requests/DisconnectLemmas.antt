@@ -1,6 +1,6 @@
 -- Nothing of the client comes after a DISC.
 use Rattle.std.proofs.Common.{◌≡◌, ℕ, ◌==◌, List, [], ◌∷◌, ◌++◌, refl, sym, ◌∙◌, subst, Option, Some, None, Bool, true, false}
-use Rattle.nbd_laws.proofs.judge.AllowLemmas.{ask_allow}
+use Rattle.nbd_laws.proofs.judge.AllowLemmas.{ask_allow, extended_ask_allow}
 use Rattle.nbd_laws.specs.Allowed.{MayAsk}
 use Rattle.nbd_wire.specs.declared.commands.TheConstants as commands
 use Rattle.nbd_wire.specs.declared.message.Side.TheVariants.{Client}
@@ -8,22 +8,29 @@ use Rattle.nbd_wire.specs.declared.message.Message.{Message}
 use Rattle.nbd_wire.specs.declared.message.Message.TheVariants.{Request, Simple, Chunk, ExtendedRequest, ExtendedChunk}
 use Rattle.nbd_wire.specs.protocol.Marks.{Item, Byte, Starts, Completes, Serves}
 use Rattle.nbd_wire.specs.protocol.Operations.{Operation, Exporting}
-use Rattle.nbd_wire.specs.protocol.Rules.{MayComplete, MayStartIn, Obeys, after, request_of_reply, complete, ends_at, reply_to, core_with_request}
+use Rattle.nbd_wire.specs.protocol.Rules.{IsRunOf, MayComplete, MayStartIn, Obeys, after, request_of_reply, complete, ends_at, reply_to, core_with_request}
 use Rattle.nbd_wire.specs.protocol.States.{Core, Phase, State, Transmission, start_of}
 use Rattle.nbd_laws.proofs.runs.PrefixLemmas.{InTransmission, asks, gives, phase-complete, replies, transmission_row, asks_more, gives_more}
 use Rattle.nbd_laws.proofs.runs.PartLemmas.{obeys_back, obeys_prefix}
-use Rattle.nbd_laws.specs.Service.{DisconnectsAreEmpty, NothingAfterDisconnect}
+use Rattle.nbd_laws.specs.Service.{DisconnectsAreEmpty, IsDisconnect, NothingAfterDisconnect}
+use Rattle.nbd_laws.specs.Service.IsDisconnect.{extended, short}
+use Rattle.nbd_wire.specs.declared.profile.Profile.{Profile}
 
--- a request completes in transmission alone
-record IsAsked (core : Core) (phase : Phase) (command cookie offset len : ℕ) : Type 0 where
+-- a DISC completes in transmission alone
+record IsAsked (core : Core) (phase : Phase) (cookie offset len : ℕ) : Type 0 where
   export : Exporting
   phase_is : phase ≡ Transmission export
-  asks_it : MayAsk (command == commands.DISC) core cookie offset len
+  asks_it : MayAsk true core cookie offset len
 
-request_row : (core : Core) (phase : Phase) (flags command cookie offset len : ℕ) (p : List ℕ) → MayComplete core phase (Request flags command cookie offset len p) → IsAsked core phase command cookie offset len
+short_row : (core : Core) (phase : Phase) (flags cookie offset len : ℕ) (p : List ℕ) → MayComplete core phase (Request flags commands.DISC cookie offset len p) → IsAsked core phase cookie offset len
 unfolding MayComplete
-request_row core (Transmission export) flags command cookie offset len p ok = record { export = export; phase_is = refl; asks_it = ask_allow core command cookie offset len ok.0 ok.1 }
-request_row core phase flags command cookie offset len p ok = absurd ok
+short_row core (Transmission export) flags cookie offset len p ok = record { export = export; phase_is = refl; asks_it = ask_allow core commands.DISC cookie offset len ok.0 ok.1 }
+short_row core phase flags cookie offset len p ok = absurd ok
+
+extended_row : (core : Core) (phase : Phase) (flags cookie offset len : ℕ) (p : List ℕ) → MayComplete core phase (ExtendedRequest flags commands.DISC cookie offset len p) → IsAsked core phase cookie offset len
+unfolding MayComplete
+extended_row core (Transmission export) flags cookie offset len p ok = record { export = export; phase_is = refl; asks_it = extended_ask_allow core flags commands.DISC cookie offset len ok.0 ok.1 }
+extended_row core phase flags cookie offset len p ok = absurd ok
 
 gone-requested : (b : Bool) (core : Core) (e : Operation) → core.disconnected ≡ true → (core_with_request b core e).disconnected ≡ true
 gone-requested true core e h = refl
@@ -60,16 +67,23 @@ stays_gone (Completes s m ∷ items) state ob g =
     })
 stays_gone (Serves k ∷ items) state ob g = stays_gone items (after state (Serves k)) ob.1 g
 
-pub disconnects_are_empty : DisconnectsAreEmpty
-disconnects_are_empty profile prefix back flags cookie offset len p run =
-    let state : State = ends_at (start_of profile) prefix in
-    (request_row state.core state.core.phase flags commands.DISC cookie offset len p
-    (obeys_back (start_of profile) prefix (Completes Client (Request flags commands.DISC cookie offset len p) ∷ back) run.obeys).0.0).asks_it
+may_complete : (profile : Profile) (prefix back : List Item) (disc : Message) → IsRunOf profile (prefix ++ Completes Client disc ∷ back) →
+    MayComplete (ends_at (start_of profile) prefix).core (ends_at (start_of profile) prefix).core.phase disc
+may_complete profile prefix back disc run = (obeys_back (start_of profile) prefix (Completes Client disc ∷ back) run.obeys).0.0
 
-gone_behind : (core : Core) (flags cookie offset len : ℕ) (p : List ℕ) → MayComplete core core.phase (Request flags commands.DISC cookie offset len p) → IsGone (complete core (Request flags commands.DISC cookie offset len p))
+pub disconnects_are_empty : DisconnectsAreEmpty
+disconnects_are_empty profile prefix back _ _ _ (short flags cookie offset len p) run =
+    (short_row (ends_at (start_of profile) prefix).core _ flags cookie offset len p (may_complete profile prefix back (Request flags commands.DISC cookie offset len p) run)).asks_it
+disconnects_are_empty profile prefix back _ _ _ (extended flags cookie offset len p) run =
+    (extended_row (ends_at (start_of profile) prefix).core _ flags cookie offset len p (may_complete profile prefix back (ExtendedRequest flags commands.DISC cookie offset len p) run)).asks_it
+
+gone_behind : (core : Core) (disc : Message) (offset len : ℕ) → IsDisconnect disc offset len → MayComplete core core.phase disc → IsGone (complete core disc)
 unfolding complete
-gone_behind core flags cookie offset len p ok =
-    let r : IsAsked core core.phase commands.DISC cookie offset len = request_row core core.phase flags commands.DISC cookie offset len p ok in
+gone_behind core _ _ _ (short flags cookie offset len p) ok =
+    let r : IsAsked core core.phase cookie offset len = short_row core core.phase flags cookie offset len p ok in
+    record { export = r.export; phase_is = r.phase_is; gone = refl }
+gone_behind core _ _ _ (extended flags cookie offset len p) ok =
+    let r : IsAsked core core.phase cookie offset len = extended_row core core.phase flags cookie offset len p ok in
     record { export = r.export; phase_is = r.phase_is; gone = refl }
 
 not_gone : (core : Core) (m : Message) → IsGone core → MayStartIn core.phase core Client m → ⊥
@@ -80,11 +94,10 @@ not_gone core m g h =
     absurd (cc)
 
 pub nothing_after_disconnect : NothingAfterDisconnect
-nothing_after_disconnect profile prefix middle back flags cookie offset len p m run =
-    let disc : Message = Request flags commands.DISC cookie offset len p in
+nothing_after_disconnect profile prefix middle back disc offset len m is run =
     let state : State = ends_at (start_of profile) prefix in
     let ob : Obeys state (Completes Client disc ∷ (middle ++ Starts Client m ∷ back)) = obeys_back (start_of profile) prefix (Completes Client disc ∷ (middle ++ Starts Client m ∷ back)) run.obeys in
     let next : State = after state (Completes Client disc) in
     let rest : Obeys (ends_at next middle) (Starts Client m ∷ back) = obeys_back next middle (Starts Client m ∷ back) ob.1 in
-    let g : IsGone (ends_at next middle).core = stays_gone middle next (obeys_prefix next middle (Starts Client m ∷ back) ob.1) (gone_behind state.core flags cookie offset len p ob.0.0) in
+    let g : IsGone (ends_at next middle).core = stays_gone middle next (obeys_prefix next middle (Starts Client m ∷ back) ob.1) (gone_behind state.core disc offset len is ob.0.0) in
     not_gone (ends_at next middle).core m g rest.0.2

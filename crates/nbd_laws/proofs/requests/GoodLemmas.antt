@@ -5,7 +5,7 @@ use Rattle.nbd_laws.proofs.judge.AllowLemmas.{chunk_allow, extended_allow, finis
 use Rattle.nbd_laws.specs.Allowed.{IsChunk}
 use Rattle.nbd_laws.proofs.judge.KindLemmas.{kind_content}
 use Rattle.nbd_wire.specs.declared.profile.Profile.{Profile}
-use Rattle.nbd_wire.specs.protocol.Transmission.{read_as}
+use Rattle.nbd_wire.specs.protocol.Transmission.{read_as, status_kind}
 use Rattle.nbd_wire.specs.protocol.Transmission.{done_fault, simple_length}
 use Rattle.nbd_wire.specs.declared.chunks.TheConstants as chunks
 use Rattle.nbd_wire.specs.declared.command_flags.TheConstants as command_flags
@@ -16,9 +16,9 @@ use Rattle.nbd_wire.specs.declared.payloads.Failure.{Failure}
 use Rattle.nbd_wire.specs.declared.payloads.Piece.{Piece}
 use Rattle.nbd_wire.specs.declared.payloads.Piece.TheVariants.{Bytes}
 use Rattle.nbd_wire.specs.declared.sizes.Sizes.{Sizes}
-use Rattle.nbd_wire.specs.protocol.Contexts.{Context}
+use Rattle.nbd_wire.specs.protocol.Contexts.{Context, length_by}
 use Rattle.nbd_wire.specs.protocol.Payloads.{content_of, failure_of, number_at}
-use Rattle.nbd_wire.specs.protocol.Rules.{MayReply, written}
+use Rattle.nbd_wire.specs.protocol.Rules.{MayReply, filter_in, written}
 use Rattle.nbd_wire.specs.protocol.Operations.{Covers, Operation, Exporting, Outcome, Success, Pending, any, ends_reply, has_failed, has_range, is_failing, is_finished, is_proper, outcome, pieces, pieces_of}
 use Rattle.nbd_wire.specs.protocol.Pieces.{byte_at, chunk_piece, holds, is_in, piece_of, piece_offset, piece_size, simple_piece}
 use Rattle.nbd_wire.specs.protocol.Flags.{has}
@@ -110,9 +110,10 @@ unfolding content_of
 none_content kind bytes q = subst (λ k. content_of k bytes ≡ None) (sym q) refl
 
 -- nor has a status
-pub status_content : (kind : ℕ) (bytes : List ℕ) → kind ≡ chunks.BLOCK_STATUS → content_of kind bytes ≡ None
+pub status_content : (extended : Bool) (kind : ℕ) (bytes : List ℕ) → kind ≡ status_kind extended → content_of kind bytes ≡ None
 unfolding content_of
-status_content kind bytes q = subst (λ k. content_of k bytes ≡ None) (sym q) refl
+status_content false kind bytes q = subst (λ k. content_of k bytes ≡ None) (sym q) refl
+status_content true kind bytes q = subst (λ k. content_of k bytes ≡ None) (sym q) refl
 
 -- the pieces with those of one more reply
 pub pieces-with_reply : (e : Operation) (m : Message) → pieces (with_reply e m) ≡ pieces e ++ piece_of e.offset m
@@ -168,7 +169,7 @@ kept_chunk profile extended export e flags kind payload m a g h = elim h [
         }))
     | inr o ↦ elim o [
       | inl (f, is, x) ↦ same (added_none e kind payload m a (sym (kind_content profile kind payload) ∙ no_content (read_as profile kind) payload f is))
-      | inr (y, k, x) ↦ same (added_none e kind payload m a (status_content kind payload k))
+      | inr (k, x) ↦ same (added_none e kind payload m a (status_content _ kind payload k))
     ]
   ]
 ]
@@ -279,7 +280,7 @@ good_simple profile structured export e error cookie payload g may =
     subst (λ rs. IsGood export (record e { replies = rs ++ Simple error cookie payload ∷ [] })) (sym h.0) good
 
 pub good_new : (export : Exporting) (flags command cookie offset len : ℕ) (payload : List ℕ) (contexts : List Context) (sizes : Option Sizes) → IsSendable (Request flags command cookie offset len payload) →
-    IsGood export (record { extended = false; flags = flags; command = command; cookie = cookie; offset = offset; length = len; payload = payload; contexts = contexts; sizes = sizes; replies = [] })
+    IsGood export (record { extended = false; flags = flags; command = command; cookie = cookie; offset = offset; length = len; payload = payload; contexts = contexts; filter = None; sizes = sizes; replies = [] })
 unfolding IsSendable
 good_new export flags command cookie offset len payload contexts sizes sn = record {
   carried = λ c. sn.5 ∙ ap (λ b. if b then len else 0) (eq-eqb command commands.WRITE c);
@@ -291,12 +292,20 @@ good_new export flags command cookie offset len payload contexts sizes sn = reco
   covered = λ s. absurd (cc);
 }
 
-pub good_asked : (export : Exporting) (flags command cookie offset len : ℕ) (payload : List ℕ) (contexts : List Context) (sizes : Option Sizes) → IsSendable (ExtendedRequest flags command cookie offset len payload) →
-    IsGood export (record { extended = true; flags = flags; command = command; cookie = cookie; offset = offset; length = len; payload = written command payload; contexts = contexts; sizes = sizes; replies = [] })
+-- a WRITE has no filter
+no_filter : (has_contexts : Bool) (flags command : ℕ) (payload : List ℕ) → command ≡ commands.WRITE → filter_in has_contexts flags command payload ≡ None
+no_filter has_contexts flags command payload c = ap (λ k. filter_in has_contexts flags k payload) c ∙ none has_contexts
+  where
+    none : (b : Bool) → filter_in b flags commands.WRITE payload ≡ None
+    none true = refl
+    none false = refl
+
+pub good_asked : (export : Exporting) (flags command cookie offset len : ℕ) (payload : List ℕ) (contexts : List Context) (has_contexts : Bool) (sizes : Option Sizes) → IsSendable (ExtendedRequest flags command cookie offset len payload) →
+    IsGood export (record { extended = true; flags = flags; command = command; cookie = cookie; offset = offset; length = length_by (filter_in has_contexts flags command payload) len; payload = written command payload; contexts = contexts; filter = filter_in has_contexts flags command payload; sizes = sizes; replies = [] })
 unfolding IsSendable
-good_asked export flags command cookie offset len payload contexts sizes sn = record {
+good_asked export flags command cookie offset len payload contexts has_contexts sizes sn = record {
   carried = λ c. (let w : (command == commands.WRITE) ≡ true = eq-eqb command commands.WRITE c in
-      ap (λ b. length (if b then payload else [])) w ∙ sn.5 ∙ ap (λ b. if b || has flags command_flags.PAYLOAD_LEN then len else 0) w);
+      ap (λ b. length (if b then payload else [])) w ∙ sn.5 ∙ ap (λ b. if b || has flags command_flags.PAYLOAD_LEN then len else 0) w ∙ ap (λ f. length_by f len) (sym (no_filter has_contexts flags command payload c)));
   inside = tt;
   apart = tt;
   reads = λ n. refl;

@@ -13,7 +13,7 @@ use Rattle.nbd_wire.specs.protocol.Reports.{operations_of, report}
 use Rattle.nbd_wire.specs.protocol.Marks.{Item, Byte, Starts, Completes, Serves, service_order}
 use Rattle.nbd_wire.specs.protocol.Operations.{Operation, Exporting, any, ends_reply, is_finished}
 use Rattle.nbd_wire.specs.protocol.Rules.{MayComplete, MayStartIn, Obeys, after, request_of_reply, complete, cookie_of, ends_at, inside_at, makes_due, reply_to, core_with_request, target_of}
-use Rattle.nbd_wire.specs.protocol.States.{Core, Phase, State, Greet, Flags, Choosing, Naming, Aborting, Answering, Ended, Transmission, has_contexts, with_reply_at, operation, is_awaiting, start, start_of, target, target_from, with_reply, export_in}
+use Rattle.nbd_wire.specs.protocol.States.{Core, Phase, State, Greet, Flags, Choosing, Naming, Aborting, Answering, Ended, Transmission, with_reply_at, operation, is_awaiting, start, start_of, target, target_from, with_reply, export_in}
 use Rattle.nbd_laws.proofs.runs.PartLemmas.{obeys_back, obeys_prefix, served_in}
 use Rattle.nbd_laws.proofs.runs.ProfileLemmas.{at_base, phase_at_base}
 use Rattle.nbd_laws.specs.Service.{AnswersRequest, CookiesAreDistinct, EachReplyAnswersOne, EmptyIsExplained, ServedOnceAfterCompletion}
@@ -109,7 +109,7 @@ distinct_complete core phase (Choice id p) ok d = d
 distinct_complete core phase (Answer option kind p) ok d = d
 distinct_complete core phase (Exported size flags padded) ok d = d
 distinct_complete core (Transmission export) (Request flags command cookie offset len p) ok d = distinct_requested (command == commands.DISC) core _ offset len (ask_allow core command cookie offset len ok.0 ok.1) d
-distinct_complete core (Transmission export) (ExtendedRequest flags command cookie offset len p) ok d = distinct_requested (command == commands.DISC) core _ offset len (extended_ask_allow core (has_contexts core) flags command cookie offset len ok.0 ok.1) d
+distinct_complete core (Transmission export) (ExtendedRequest flags command cookie offset len p) ok d = distinct_requested (command == commands.DISC) core _ offset len (extended_ask_allow core flags command cookie offset len ok.0 ok.1) d
 distinct_complete core phase (Request flags command cookie offset len p) ok d = absurd ok
 distinct_complete core phase (ExtendedRequest flags command cookie offset len p) ok d = absurd ok
 distinct_complete core phase (Simple error cookie p) ok d = distinct_reply_to (request_of_reply core (Simple error cookie p)) core (Simple error cookie p) d

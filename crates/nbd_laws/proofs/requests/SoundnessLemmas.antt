@@ -10,7 +10,7 @@ use Rattle.nbd_wire.specs.declared.options.TheConstants as options
 use Rattle.nbd_wire.specs.declared.transmission.TheConstants as transmission
 use Rattle.nbd_wire.specs.declared.message.Side.TheVariants.{Client, Server}
 use Rattle.nbd_wire.specs.declared.message.Message.{Message}
-use Rattle.nbd_wire.specs.declared.message.Message.TheVariants.{Greeting, ClientFlags, Choice, Answer, Exported, Simple, Chunk, ExtendedRequest, ExtendedChunk}
+use Rattle.nbd_wire.specs.declared.message.Message.TheVariants.{Greeting, ClientFlags, Choice, Answer, Exported, Simple, Chunk, ExtendedChunk}
 use Rattle.nbd_wire.specs.declared.payloads.Info.{Info}
 use Rattle.nbd_wire.specs.declared.payloads.Info.TheVariants.{Export, BlockSize, Other}
 use Rattle.nbd_wire.specs.protocol.Marks.{Item, Byte, Starts, Completes, Serves}
@@ -25,7 +25,7 @@ use Rattle.nbd_wire.specs.protocol.Operations as requests
 use Rattle.nbd_wire.specs.protocol.Flags as requests_flags
 use Rattle.nbd_wire.specs.protocol.Rules.{MayComplete, request_of_reply, complete, ends_at, reply_to, core_with_request}
 use Rattle.nbd_wire.specs.protocol.Sendable.{IsSendable}
-use Rattle.nbd_wire.specs.protocol.States.{Core, Phase, Greet, Flags, Choosing, Naming, Aborting, Answering, Ended, Transmission, with_reply_at, operation, start, target, with_reply, export_in, in_force}
+use Rattle.nbd_wire.specs.protocol.States.{Core, Phase, Greet, Flags, Choosing, Naming, Aborting, Answering, Ended, Transmission, with_reply_at, operation, start, target, with_reply, export_in, has_contexts, in_force}
 use Rattle.nbd_laws.specs.Soundness.{IsAfter, IsSoundAsked, IsSoundReport, ReportsAreSound}
 use Rattle.nbd_laws.proofs.runs.PrefixLemmas.{InTransmission, asks, gives, phase-complete, replies, transmission_row, asks_more, gives_more}
 use Rattle.nbd_wire.specs.declared.command_flags.TheConstants as command_flags
@@ -68,7 +68,7 @@ good_requested false core export e g h = good_snoc export core.entries e g h
 good_transmitted : (core : Core) (export : Exporting) (m : Message) → InTransmission core export m → IsSendable m → AreGood export core.entries → AreGood export (complete core m).entries
 unfolding complete
 good_transmitted core export m (asks flags command cookie offset len p h) sn g = good_requested (command == commands.DISC) core export _ g (good_new export flags command cookie offset len p (in_force core) (sizes_for core.structured command (sizes_kept core.sizing)) sn)
-good_transmitted core export m (asks_more flags command cookie offset len p h) sn g = good_requested (command == commands.DISC) core export _ g (good_asked export flags command cookie offset len p (in_force core) (sizes_for core.structured command (sizes_kept core.sizing)) sn)
+good_transmitted core export m (asks_more flags command cookie offset len p h) sn g = good_requested (command == commands.DISC) core export _ g (good_asked export flags command cookie offset len p (in_force core) (has_contexts core) (sizes_for core.structured command (sizes_kept core.sizing)) sn)
 good_transmitted core export m (replies error cookie p (k, e, found, is, h)) sn g =
     good_reply_to core export cookie (Simple error cookie p) (target cookie core.entries) g k e found is (good_simple core.profile core.structured export e error cookie p (good_entry export k core.entries e g is) h)
 good_transmitted core export m (gives flags kind cookie p (k, e, found, is, h)) sn g =
@@ -208,7 +208,7 @@ pub proper_range : (export : Exporting) (e : Operation) → IsTrue (is_proper ex
 unfolding is_proper
 proper_range export e h r =
     let a = both_true _ (not (e.command == commands.FLUSH) || ((e.offset == 0) && (e.length == 0))) h in
-    let b = both_true _ (requests_flags.has_only e.flags (requests.allowed_flags e.extended export.flags e.command)) a.0 in
+    let b = both_true _ (requests_flags.has_only e.flags (requests.allowed_flags (requests.may_carry export.flags e) export.flags e.command)) a.0 in
     let c = both_true _ (not (requests.is_change e.command) || not (has export.flags transmission.READ_ONLY)) b.0 in
     let d = both_true _ (requests.is_offered export.flags e.command) c.0 in
     let f = both_true (requests.is_known e) (not (has_range e.command) || nat_le (e.offset + e.length) export.size) d.0 in

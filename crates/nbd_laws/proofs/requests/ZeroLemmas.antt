@@ -10,7 +10,7 @@ use Rattle.nbd_wire.specs.declared.message.Message.{Message}
 use Rattle.nbd_wire.specs.declared.payloads.Piece.{Piece}
 use Rattle.nbd_wire.specs.declared.payloads.Piece.TheVariants.{Hole}
 use Rattle.nbd_wire.specs.protocol.Contexts.{Extent, Status}
-use Rattle.nbd_wire.specs.protocol.Operations.{Exporting, Operation, allowed_flags, is_proper, mask_if}
+use Rattle.nbd_wire.specs.protocol.Operations.{Exporting, Operation, allowed_flags, is_proper, mask_if, may_carry}
 use Rattle.nbd_wire.specs.protocol.Flags.{has, has_only}
 use Rattle.nbd_wire.specs.protocol.Pieces.{byte_at, holds, piece_byte, piece_offset, piece_size}
 use Rattle.nbd_wire.specs.protocol.Statuses.{is_allocation, status_in, statuses_of, zeroes, zeroes_in, zeroes_told}
@@ -130,14 +130,14 @@ pub no_df : (export : Exporting) (e : Operation) → e.command ≡ commands.BLOC
 unfolding is_proper has has_only
 no_df export e k p d =
     let a = both_true _ (not (e.command == commands.FLUSH) || ((e.offset == 0) && (e.length == 0))) p in
-    let b = both_true _ (has_only e.flags (allowed_flags e.extended export.flags e.command)) a.0 in
-    let only : bit_and e.flags (allowed_flags e.extended export.flags e.command) ≡ e.flags = eqb-true _ _ b.1 in
+    let b = both_true _ (has_only e.flags (allowed_flags (may_carry export.flags e) export.flags e.command)) a.0 in
+    let only : bit_and e.flags (allowed_flags (may_carry export.flags e) export.flags e.command) ≡ e.flags = eqb-true _ _ b.1 in
     let none : bit_and e.flags command_flags.DF ≡ 0 =
-    ap (λ f. bit_and f command_flags.DF) (sym only) ∙ and_assoc command_flags.DF e.flags (allowed_flags e.extended export.flags e.command)
-    ∙ ap (λ c. bit_and e.flags (bit_and (allowed_flags e.extended export.flags c) command_flags.DF)) k ∙ ap (bit_and e.flags) (free e.extended (has export.flags transmission.SEND_FUA)) ∙ and_zero_r e.flags in
+    ap (λ f. bit_and f command_flags.DF) (sym only) ∙ and_assoc command_flags.DF e.flags (allowed_flags (may_carry export.flags e) export.flags e.command)
+    ∙ ap (λ c. bit_and e.flags (bit_and (allowed_flags (may_carry export.flags e) export.flags c) command_flags.DF)) k ∙ ap (bit_and e.flags) (free (may_carry export.flags e) (has export.flags transmission.SEND_FUA)) ∙ and_zero_r e.flags in
     let w : true ≡ false = sym d ∙ ap not (eq-eqb (bit_and e.flags command_flags.DF) 0 none) in absurd (cc)
   where
-    free : (x b : Bool) → bit_and (mask_if (x && false) command_flags.PAYLOAD_LEN + mask_if b command_flags.FUA + 0 + 0 + 0 + command_flags.REQ_ONE) command_flags.DF ≡ 0
+    free : (x b : Bool) → bit_and (mask_if x command_flags.PAYLOAD_LEN + mask_if b command_flags.FUA + 0 + 0 + 0 + command_flags.REQ_ONE) command_flags.DF ≡ 0
     free true true = refl
     free true false = refl
     free false true = refl

@@ -54,11 +54,11 @@ use Rattle.nbd_wire.specs.declared.profile.Profile.{Profile}
 use Rattle.nbd_wire.specs.declared.profile.Profile.TheVariants.{Base, Wide}
 use Rattle.nbd_wire.specs.protocol.Marks.{Item, Byte, Starts, Completes, Serves, completed_messages}
 use Rattle.nbd_wire.specs.protocol.Operations.{Exporting, Operation, is_error_chunk}
-use Rattle.nbd_wire.specs.protocol.Transmission.{chunk_fault, chunk_head_fault, extended_head_fault, offset_fault, read_as}
+use Rattle.nbd_wire.specs.protocol.Transmission.{chunk_fault, chunk_head_fault, extended_head_fault, offset_fault, read_as, status_kind}
 use Rattle.nbd_wire.specs.declared.chunks.TheConstants as chunks
 use Rattle.nbd_laws.specs.Allowed.{IsChunk}
 use Rattle.nbd_laws.proofs.judge.AllowLemmas.{chunk_allow, extended_allow}
-use Rattle.nbd_laws.proofs.judge.KindLemmas.{error_content, no_other, read_kind}
+use Rattle.nbd_laws.proofs.judge.KindLemmas.{error_content, no_other, read_kind, low_kind}
 use Rattle.nbd_laws.proofs.requests.GoodLemmas.{failure_kind}
 use Rattle.nbd_wire.specs.declared.answers.TheConstants as answers
 use Rattle.nbd_wire.specs.declared.sizes.Sizes.{Sizes}
@@ -130,13 +130,13 @@ known_kind extended export e flags kind payload h = elim (read_kind Wide kind) [
       | inl (piece, is, fit) ↦ absurd (let z : Some piece ≡ None = sym is ∙ error_content kind payload x in (cc))
       | inr o ↦ elim o [
         | inl (f, is, y) ↦ elim (failure_kind kind payload f is) [ inl k ↦ q ∙ sym k | inr k ↦ subst (λ k. read_as Wide k ≡ k) (sym k) refl ]
-        | inr (z, k, y) ↦ absurd (other x chunks.BLOCK_STATUS (omega arith) k)
+        | inr (k, y) ↦ absurd (other x (status_kind extended) (low_kind extended) k)
       ]
     ]
   ]
 ]
   where
-    other : is_error_chunk kind ≡ true → (n : ℕ) → n ≤ 5 → kind ≡ n → ⊥
+    other : is_error_chunk kind ≡ true → (n : ℕ) → n ≤ 6 → kind ≡ n → ⊥
     other x n l k = (let z : true ≡ false = sym (eq-eqb kind n k) ∙ no_other kind n x l in (cc))
 
 chunk_wide : (profile : Profile) (structured : Bool) (export : Exporting) (e : Operation) (flags kind cookie : ℕ) (payload : List ℕ) → MayReply profile structured export e (Chunk flags kind cookie payload) →

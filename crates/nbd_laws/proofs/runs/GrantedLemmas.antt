@@ -1,14 +1,17 @@
 -- Extended headers are in force behind an ACK to their option.
-use Rattle.std.proofs.Common.{◌≡◌, ℕ, ◌==◌, ◌||◌, List, [], ◌∷◌, refl, sym, ◌∙◌, ap, Option, Some, None, Bool, true, false}
+use Rattle.std.proofs.Common.{◌≡◌, ℕ, ◌==◌, ◌||◌, List, [], ◌∷◌, refl, sym, ◌∙◌, ap, subst, Option, Some, None, Bool, true, false}
 use Rattle.std.proofs.Math.Bool.{or-false}
 use Rattle.nbd_wire.specs.declared.commands.TheConstants as commands
 use Rattle.nbd_wire.specs.declared.message.Message.{Message}
 use Rattle.nbd_wire.specs.declared.message.Message.TheVariants.{Greeting, ClientFlags, Choice, Answer, Exported, Request, Simple, Chunk, ExtendedRequest, ExtendedChunk}
 use Rattle.nbd_wire.specs.protocol.Marks.{Item, Byte, Starts, Completes, Serves, completed_messages}
-use Rattle.nbd_wire.specs.protocol.Operations.{Operation}
-use Rattle.nbd_wire.specs.protocol.Rules.{after, complete, core_with_request, ends_at, reply_to, request_of_reply}
-use Rattle.nbd_wire.specs.protocol.States.{Core, State, start_of}
-use Rattle.nbd_laws.specs.Granting.{HeadersAreGranted, any_grant, is_grant}
+use Rattle.nbd_wire.specs.declared.message.Side.{Side}
+use Rattle.nbd_wire.specs.declared.message.Side.TheVariants.{Client, Server}
+use Rattle.nbd_wire.specs.protocol.Operations.{Exporting, Operation}
+use Rattle.nbd_wire.specs.protocol.Rules.{MayStartIn, after, complete, core_with_request, ends_at, is_extended, reply_to, request_of_reply}
+use Rattle.nbd_wire.specs.protocol.States.{Core, State, Transmission, start_of}
+use Rattle.nbd_laws.specs.Granting.{HeadersAreGranted, HeadsAreInForce, any_grant, is_grant}
+use Rattle.nbd_laws.proofs.runs.PartLemmas.{obeys_back}
 
 requested : (b : Bool) (core : Core) (e : Operation) → (core_with_request b core e).extended ≡ (core.extended || false)
 requested true core e = sym (or-false core.extended)
@@ -45,3 +48,14 @@ led state (Serves e ∷ items) = led (after state (Serves e)) items
 
 pub headers_are_granted : HeadersAreGranted
 headers_are_granted profile items = led (start_of profile) items
+
+starts_in : (core : Core) (export : Exporting) (s : Side) (m : Message) → MayStartIn (Transmission export) core s m → is_extended m ≡ core.extended
+unfolding MayStartIn
+starts_in core export Client m h = h.2
+starts_in core export Server m h = h.1
+
+pub heads_are_in_force : HeadsAreInForce
+heads_are_in_force profile prefix back s m export phase run =
+    let state : State = ends_at (start_of profile) prefix in
+    let here : MayStartIn state.core.phase state.core s m = (obeys_back (start_of profile) prefix (Starts s m ∷ back) run.obeys).0.2 in
+    starts_in state.core export s m (subst (λ p. MayStartIn p state.core s m) phase here) ∙ headers_are_granted profile prefix

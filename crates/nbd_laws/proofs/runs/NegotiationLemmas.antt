@@ -298,25 +298,46 @@ module _ (profile : Profile) (asked : ℕ) (asked_with : List ℕ) (info : Optio
         let v : false ≡ true = sym (ap (λ o. not (asks_nothing o)) none) ∙ w in cc)
   ]
 
+  takes_none : asked ≡ options.EXTENDED_HEADERS → IsTrue (takes_contexts asked asked_with) → ⊥
+  takes_none is takes = elim (or_true (asked == options.LIST_META_CONTEXT) _ takes) [
+    | inl l ↦ (let q : asked ≡ options.LIST_META_CONTEXT = eqb-true asked options.LIST_META_CONTEXT l in omega (arith, is, q))
+    | inr s ↦ (let q : asked ≡ options.SET_META_CONTEXT = eqb-true asked options.SET_META_CONTEXT (and_true (asked == options.SET_META_CONTEXT) _ s).0 in omega (arith, is, q))
+  ]
+
+  -- what answers an option on contexts
+  abbrev IsTold : Type 0
+  IsTold = (kind ≡ answers.ACK) × (p ≡ [])
+      ⊎ (kind ≡ answers.META_CONTEXT)
+      × ((context : Context) × (context_of p ≡ Some context) × (asked ≡ options.SET_META_CONTEXT → (queries_of asked_with ≢ Some 0) × (has_id told context.id ≡ false)))
+
+  is_told : (selection : Selection) → (asked ≡ options.SET_META_CONTEXT → selection.contexts ≡ told) → MayTell selection asked asked_with kind p → IsTold
+  is_told selection same ok = elim ok.2 [
+    | inl a ↦ inl a
+    | inr a ↦ inr (
+      a.0,
+      (
+        a.2.0,
+        a.2.1,
+        λ set. (asks_some set a.1, ap (λ (cs : List Context). has_id cs a.2.0.id) (sym (same set)) ∙ a.2.2 set),
+      ),
+    )
+  ]
+
   tells : (selection : Selection) → (asked ≡ options.SET_META_CONTEXT → selection.contexts ≡ told) → profile ≡ Wide → MayTell selection asked asked_with kind p → IsOne
   tells selection same wide ok = inr (
     ok.1,
     inr (inr (inr (
       wide,
-      (
-        ok.0,
-        elim ok.2 [
-          | inl a ↦ inl a
-          | inr a ↦ inr (
-            a.0,
-            (
-              a.2.0,
-              a.2.1,
-              λ set. (asks_some set a.1, ap (λ (cs : List Context). has_id cs a.2.0.id) (sym (same set)) ∙ a.2.2 set),
-            ),
-          )
-        ],
-      ),
+      elim ok.0 [
+        | inl l ↦ inl (inl l, is_told selection same ok)
+        | inr o ↦ elim o [
+          | inl s ↦ inl (inr s, is_told selection same ok)
+          | inr x ↦ elim ok.2 [
+            | inl a ↦ inr (x, a.0, a.1)
+            | inr a ↦ absurd (takes_none x a.1)
+          ]
+        ]
+      ],
     ))),
   )
 

@@ -19,7 +19,7 @@ use Rattle.nbd_wire.specs.protocol.Rules.{AnswersOne, MayStartIn, MayComplete, c
 use Rattle.nbd_wire.specs.protocol.Options.{turn}
 use Rattle.nbd_wire.specs.protocol.Sendable.{IsSendable, carries_payload}
 use Rattle.nbd_wire.specs.protocol.Sides.{side}
-use Rattle.nbd_wire.specs.protocol.States.{Core, Phase, Greet, Flags, Choosing, Naming, Aborting, Answering, Ended, Transmission, has_contexts, is_awaiting, target, target_from, operation}
+use Rattle.nbd_wire.specs.protocol.States.{Core, Phase, Greet, Flags, Choosing, Naming, Aborting, Answering, Ended, Transmission, is_awaiting, target, target_from, operation}
 use Rattle.nbd_laws.specs.Prefixes.{NoProperPrefix}
 use Rattle.nbd_laws.proofs.runs.FollowLemmas.{IsBegun}
 use Rattle.nbd_laws.proofs.reading.ReaderLemmas.{Later, at_once, behind}
@@ -312,7 +312,7 @@ unfolding MayComplete
 transmission_row core export (Request flags command cookie offset len p) ok = asks flags command cookie offset len p (ask_allow core command cookie offset len ok.0 ok.1)
 transmission_row core export (Simple error cookie p) ok = replies error cookie p ok
 transmission_row core export (Chunk flags kind cookie p) ok = gives flags kind cookie p ok
-transmission_row core export (ExtendedRequest flags command cookie offset len p) ok = asks_more flags command cookie offset len p (extended_ask_allow core (has_contexts core) flags command cookie offset len ok.0 ok.1)
+transmission_row core export (ExtendedRequest flags command cookie offset len p) ok = asks_more flags command cookie offset len p (extended_ask_allow core flags command cookie offset len ok.0 ok.1)
 transmission_row core export (ExtendedChunk flags kind cookie at p) ok = gives_more flags kind cookie at p ok
 transmission_row core export m ok = absurd ok
 

@@ -2,7 +2,7 @@
 use Rattle.std.proofs.Common.{◌≡◌, ℕ, ◌==◌, ◌&&◌, length, refl, Option, Some, None, Bool, true, false, IsTrue, eqb-true}
 use Rattle.nbd_wire.specs.declared.chunks.TheConstants as chunks
 use Rattle.nbd_wire.specs.declared.message.Message.{Message}
-use Rattle.nbd_wire.specs.declared.message.Message.TheVariants.{Simple, Chunk, ExtendedRequest, ExtendedChunk}
+use Rattle.nbd_wire.specs.declared.message.Message.TheVariants.{Simple, Chunk, ExtendedChunk}
 use Rattle.nbd_wire.specs.protocol.Transmission.{simple_length, chunk_fault, read_as, chunk_head_fault, simple_fault, simple_last_fault}
 use Rattle.nbd_wire.specs.protocol.Rules.{MayReply}
 use Rattle.nbd_wire.specs.declared.profile.Profile.{Profile}

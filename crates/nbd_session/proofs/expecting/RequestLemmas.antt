@@ -7,7 +7,7 @@ use Rattle.nbd_wire.specs.declared.message.Message.{Message}
 use Rattle.nbd_wire.specs.declared.message.Message.TheVariants as messages
 use Rattle.nbd_wire.specs.protocol.Encoding.{AreBytes}
 use Rattle.nbd_wire.specs.protocol.Payloads.{number_at}
-use Rattle.nbd_wire.specs.protocol.States.{Core, has_contexts, target}
+use Rattle.nbd_wire.specs.protocol.States.{Core, target}
 use Rattle.nbd_wire.specs.protocol.Decisions.{Decision, request, request_by}
 use Rattle.nbd_wire.specs.protocol.Tests.{fault_if}
 use Rattle.nbd_wire.specs.protocol.Transmission.{cookie_fault}
@@ -19,14 +19,14 @@ use Rattle.nbd_session.specs.internal.Leading.{request_fields, request_head_leng
 use Rattle.nbd_session.proofs.expecting.HeadLemmas.{after_head, fields_stay, none_read, some_read}
 
 -- what is refused of a head with these fields, by whether it begins with its number
-abbrev head_fault : (contexts magic : Bool) → RequestHead → Option WireFault
-head_fault contexts magic h = fault_if (not magic) BadMagic (fault_if (is_beyond contexts h) OutOfProfile (fault_if (is_bad_disconnect h) BadDisconnect None))
+abbrev head_fault : (magic : Bool) → RequestHead → Option WireFault
+head_fault magic h = fault_if (not magic) BadMagic (fault_if (is_beyond h) OutOfProfile (fault_if (is_bad_disconnect h) BadDisconnect None))
 
 -- what is decided of a request, by its fields
 abbrev by_fields : (x : Bool) → Core → (magic : Bool) → RequestHead → Message → Decision
 by_fields x now magic h message = record {
   head_length = request_head_length x;
-  head_fault = head_fault (has_contexts now) magic h;
+  head_fault = head_fault magic h;
   payload_length = request_length x h.flags h.command h.length;
   last_fault = cookie_fault h.command (target h.cookie now.entries);
   message = message;
@@ -43,25 +43,25 @@ module _ (x : Bool) (now : Core) (extended : now.extended ≡ x) where
   pub request_head_is : (bytes : List ℕ) → (request now bytes).head_length ≡ request_head_length x
   request_head_is bytes = ap (λ (d : Decision). d.head_length) (request_decided bytes)
 
-  fault_is : (bytes : List ℕ) → (request now bytes).head_fault ≡ head_fault (has_contexts now) (number_at 0 4 bytes == request_magic x) (request_fields x bytes)
+  fault_is : (bytes : List ℕ) → (request now bytes).head_fault ≡ head_fault (number_at 0 4 bytes == request_magic x) (request_fields x bytes)
   fault_is bytes = ap (λ (d : Decision). d.head_fault) (request_decided bytes)
 
   module _ (head : List ℕ) where
     pub no_request : None ≡ request_head_of x head → (request now head).head_fault ≡ Some BadMagic
     no_request e =
         let f = none_read (number_at 0 4 head == request_magic x) (request_fields x head) e in
-        fault_is head ∙ ap (λ b. head_fault (has_contexts now) b (request_fields x head)) f
+        fault_is head ∙ ap (λ b. head_fault b (request_fields x head)) f
 
     module _ (h : RequestHead) (e : Some h ≡ request_head_of x head) where
-      fault_here : (request now head).head_fault ≡ head_fault (has_contexts now) true h
+      fault_here : (request now head).head_fault ≡ head_fault true h
       fault_here =
           let r = some_read (number_at 0 4 head == request_magic x) (request_fields x head) h e in
-          fault_is head ∙ (λ i. head_fault (has_contexts now) (r.0 i) (sym r.1 i))
+          fault_is head ∙ (λ i. head_fault (r.0 i) (sym r.1 i))
 
-      pub beyond_request : is_beyond (has_contexts now) h ≡ true → (request now head).head_fault ≡ Some OutOfProfile
+      pub beyond_request : is_beyond h ≡ true → (request now head).head_fault ≡ Some OutOfProfile
       beyond_request b = fault_here ∙ ap (λ t. fault_if t OutOfProfile (fault_if (is_bad_disconnect h) BadDisconnect None)) b
 
-      pub bad_request : is_beyond (has_contexts now) h ≡ false → is_bad_disconnect h ≡ true → (request now head).head_fault ≡ Some BadDisconnect
+      pub bad_request : is_beyond h ≡ false → is_bad_disconnect h ≡ true → (request now head).head_fault ≡ Some BadDisconnect
       bad_request b d = fault_here ∙ (λ i. fault_if (b i) OutOfProfile (fault_if (d i) BadDisconnect None))
 
 -- the same fields, with more bytes after the head
@@ -88,7 +88,7 @@ same_message true now head payload b len =
     (λ i. messages.ExtendedRequest (at 4 2 (omega arith) i) (at 6 2 (omega arith) i) (at 8 8 (omega arith) i) (at 16 8 (omega arith) i) (at 24 8 (omega arith) i) (after_head 32 head payload len i))
 
 pub good_request : (x : Bool) (now : Core) → now.extended ≡ x → (head payload : List ℕ) (h : RequestHead) → AreBytes head → length head ≡ request_head_length x → Some h ≡ request_head_of x head →
-    is_beyond (has_contexts now) h ≡ false → is_bad_disconnect h ≡ false → request now (head ++ payload) ≡ expected_decision now (Request h) (length head) payload
+    is_beyond h ≡ false → is_bad_disconnect h ≡ false → request now (head ++ payload) ≡ expected_decision now (Request h) (length head) payload
 good_request x now extended head payload h b len e within good =
     let r = some_read (number_at 0 4 head == request_magic x) (request_fields x head) h e in
     let same : request_fields x (head ++ payload) ≡ h = same_fields x head payload len ∙ sym r.1 in

@@ -16,11 +16,11 @@ use Rattle.std.specs.Prelude.{option_to_list}
 use Rattle.nbd_wire.specs.protocol.Contexts.{Context, Status}
 use Rattle.nbd_state.specs.Heads.{chunk_with}
 use Rattle.nbd_state.proofs.HeadLemmas.{chunk_fails, chunk_gives}
-use Rattle.nbd_wire.specs.protocol.Statuses.{status_in, statuses}
+use Rattle.nbd_wire.specs.protocol.Statuses.{is_settled, status_in}
 use Rattle.nbd_session.specs.internal.Asking.{done_by, elsewhere_fault, finish_by, is_status, lacks_by}
 use Rattle.nbd_session.specs.internal.Expecting.{chunk_fault_by}
 use Rattle.nbd_wire.specs.protocol.Tests.{fault_if}
-use Rattle.nbd_wire.specs.protocol.Transmission.{chunk_fault, content_fault, done_fault, finish_fault, fits_failure, fits_read, fits_status, offset_fault, read_as, status_if, total}
+use Rattle.nbd_wire.specs.protocol.Transmission.{chunk_fault, content_fault, done_fault, finish_fault, fits_failure, fits_read, fits_status, offset_fault, read_as, status_if, status_kind, total}
 use Rattle.nbd_state.proofs.ReplyLemmas.{any-snoc, or-false, proper-same}
 use Rattle.nbd_laws.proofs.judge.BoolLemmas.{and_true}
 use Rattle.nbd_laws.proofs.judge.KindLemmas.{kind_content, kind_error, kind_status, no_other}
@@ -41,7 +41,7 @@ total-append (p ∷ ps) qs = ap (λ n. piece_size p + n) (total-append ps qs) �
 
 -- what a request lacks
 abbrev pub lacks : Operation → Bool
-lacks e = lacks_by e.command e.length (statuses e) e.contexts
+lacks e = lacks_by e.command e.length (is_settled e) e.contexts
 
 finish-by : (export : Exporting) (e : Operation) (failed : Bool) (ps : List Piece) → finish_fault export e failed ps ≡ finish_by e.command e.length (is_proper export e) failed (total ps) (lacks e)
 finish-by export e true ps = refl
@@ -104,17 +104,15 @@ error_kind kind (inl q) = subst (λ k. is_error_chunk k ≡ true) (sym q) refl
 error_kind kind (inr q) = subst (λ k. is_error_chunk k ≡ true) (sym q) refl
 
 other_status_if : (at : Option ℕ) (contexts : List Context) (kind : ℕ) (payload : List ℕ) → is_status at kind ≡ false → status_if (is_some at) contexts kind payload ≡ None
-other_status_if None contexts kind payload n = ap (λ b. if b && not (length contexts == 0) then status_of payload else None) n
-other_status_if (Some offset) contexts kind payload n = refl
+other_status_if at contexts kind payload n = ap (λ b. if b && not (length contexts == 0) then status_of (is_some at) payload else None) n
 
 -- a chunk that is none of a status gives none
 pub other_status : (at : Option ℕ) (flags kind cookie : ℕ) (payload : List ℕ) → is_status at kind ≡ false → status_in (chunk_with at flags kind cookie payload) ≡ []
-other_status None flags kind cookie payload n = ap (λ b. if b then option_to_list (status_of payload) else []) n
-other_status (Some offset) flags kind cookie payload n = refl
+other_status None flags kind cookie payload n = ap (λ b. if b then option_to_list (status_of false payload) else []) n
+other_status (Some offset) flags kind cookie payload n = ap (λ b. if b then option_to_list (status_of true payload) else []) n
 
-pub status_only : (at : Option ℕ) (kind : ℕ) → is_status at kind ≡ true → (at ≡ None) × (kind ≡ chunks.BLOCK_STATUS)
-status_only None kind e = (refl, eqb-true kind chunks.BLOCK_STATUS e)
-status_only (Some offset) kind e = absurd (cc)
+pub status_only : (at : Option ℕ) (kind : ℕ) → is_status at kind ≡ true → kind ≡ status_kind (is_some at)
+status_only at kind e = eqb-true kind (status_kind (is_some at)) e
 
 module _ (at : Option ℕ) (profile : Profile) (export : Exporting) (e : Operation) (flags kind cookie : ℕ) (payload : List ℕ) where
   abbrev with_it : Operation
@@ -165,6 +163,11 @@ module _ (at : Option ℕ) (profile : Profile) (export : Exporting) (e : Operati
       ∙ ap (λ o. content_fault export e None o status done_next) failure
       ∙ ap (λ o. content_fault export e None None o done_next) (kind_status profile (is_some at) e.contexts kind payload ∙ other_status_if at e.contexts kind payload b)
 
+-- a status is no error
+no_error : (extended : Bool) → is_error_chunk (status_kind extended) ≡ false
+no_error false = refl
+no_error true = refl
+
 -- what the offset of an extended header shows to be wrong comes behind what else is
 module _ (at : Option ℕ) (profile : Profile) (export : Exporting) (e : Operation) (flags kind cookie : ℕ) (payload : List ℕ) where
   abbrev payload_fault : Option WireFault
@@ -187,44 +190,62 @@ module _ (at : Option ℕ) (profile : Profile) (export : Exporting) (e : Operati
       go (Some offset) q = ap (λ f. offset_fault f e offset) q
 
 -- a status chunk
-module _ (export : Exporting) (e : Operation) (flags cookie : ℕ) (payload : List ℕ) where
+pub status_is : (at : Option ℕ) (x : Bool) → is_some at ≡ x → (flags cookie : ℕ) (payload : List ℕ) → status_in (chunk_with at flags (status_kind x) cookie payload) ≡ option_to_list (status_of x payload)
+status_is None x is flags cookie payload = subst (λ x. status_in (chunk_with None flags (status_kind x) cookie payload) ≡ option_to_list (status_of x payload)) is refl
+status_is (Some offset) x is flags cookie payload = subst (λ x. status_in (chunk_with (Some offset) flags (status_kind x) cookie payload) ≡ option_to_list (status_of x payload)) is refl
+
+module _ (wide : Bool) (at : Option ℕ) (export : Exporting) (e : Operation) (flags cookie : ℕ) (payload : List ℕ) where
   abbrev with_status : Operation
-  with_status = with_reply e (Chunk flags chunks.BLOCK_STATUS cookie payload)
+  with_status = with_reply e (chunk_with at flags (status_kind wide) cookie payload)
 
   abbrev status_next : Option WireFault
   status_next = done_fault (has flags chunks.DONE) export with_status
 
-  no_failure : failure_of chunks.BLOCK_STATUS payload ≡ None
-  no_failure = go (failure_of chunks.BLOCK_STATUS payload) refl
+  abbrev judged : Option WireFault
+  judged = chunk_fault wide false export e with_status flags (status_kind wide) payload
+
+  no_failure : failure_of (status_kind wide) payload ≡ None
+  no_failure = go (failure_of (status_kind wide) payload) refl
     where
-      go : (o : Option Failure) → failure_of chunks.BLOCK_STATUS payload ≡ o → failure_of chunks.BLOCK_STATUS payload ≡ None
+      low : (x : Bool) → status_kind x ≤ 6
+      low true = omega arith
+      low false = omega arith
+
+      go : (o : Option Failure) → failure_of (status_kind wide) payload ≡ o → failure_of (status_kind wide) payload ≡ None
       go None q = q
-      go (Some failure) q = elim (failure_kind chunks.BLOCK_STATUS payload failure q) [ inl r ↦ absurd (cc) | inr r ↦ absurd (cc) ]
+      go (Some failure) q = elim (failure_kind (status_kind wide) payload failure q) [
+        | inl r ↦ absurd (let l = low wide in omega (arith, r, l))
+        | inr r ↦ absurd (let l = low wide in omega (arith, r, l))
+      ]
 
-  by_status : (o : Option Status) → status_if false e.contexts chunks.BLOCK_STATUS payload ≡ o →
-      chunk_fault false false export e with_status flags chunks.BLOCK_STATUS payload ≡ content_fault export e None None o status_next
-  by_status o q = (λ i. content_fault export e (status_content chunks.BLOCK_STATUS payload refl i) (no_failure i) (q i) status_next)
+  -- what it says, where contexts are in force
+  status_here : (x : Bool) → status_if x e.contexts (status_kind x) payload ≡ (if not (length e.contexts == 0) then status_of x payload else None)
+  status_here false = refl
+  status_here true = refl
 
-  pub unknown_status : (length e.contexts == 0) ≡ true → chunk_fault false false export e with_status flags chunks.BLOCK_STATUS payload ≡ Some BadChunk
-  unknown_status n = by_status None (ap (λ b. if not b then status_of payload else None) n)
+  by_status : (o : Option Status) → status_if wide e.contexts (status_kind wide) payload ≡ o → judged ≡ content_fault export e None None o status_next
+  by_status o q = (λ i. content_fault export e (status_content wide (status_kind wide) payload refl i) (no_failure i) (q i) status_next)
 
-  pub malformed_status : status_of payload ≡ None → chunk_fault false false export e with_status flags chunks.BLOCK_STATUS payload ≡ Some BadChunk
-  malformed_status n = by_status None (go (length e.contexts == 0))
+  pub unknown_status : (length e.contexts == 0) ≡ true → judged ≡ Some BadChunk
+  unknown_status n = by_status None (status_here wide ∙ ap (λ b. if not b then status_of wide payload else None) n)
+
+  pub malformed_status : status_of wide payload ≡ None → judged ≡ Some BadChunk
+  malformed_status n = by_status None (status_here wide ∙ go (length e.contexts == 0))
     where
-      go : (b : Bool) → (if not b then status_of payload else None) ≡ None
+      go : (b : Bool) → (if not b then status_of wide payload else None) ≡ None
       go true = refl
       go false = n
 
-  module _ (status : Status) (some_in_force : (length e.contexts == 0) ≡ false) (is : status_of payload ≡ Some status) where
-    by_this : chunk_fault false false export e with_status flags chunks.BLOCK_STATUS payload ≡ fault_if (not (fits_status e status)) BadContent status_next
-    by_this = by_status (Some status) (ap (λ b. if not b then status_of payload else None) some_in_force ∙ is)
+  module _ (status : Status) (some_in_force : (length e.contexts == 0) ≡ false) (is : status_of wide payload ≡ Some status) where
+    by_this : judged ≡ fault_if (not (fits_status e status)) BadContent status_next
+    by_this = by_status (Some status) (status_here wide ∙ ap (λ b. if not b then status_of wide payload else None) some_in_force ∙ is)
 
-    pub wrong_status : fits_status e status ≡ false → chunk_fault false false export e with_status flags chunks.BLOCK_STATUS payload ≡ Some BadContent
+    pub wrong_status : fits_status e status ≡ false → judged ≡ Some BadContent
     wrong_status w = by_this ∙ ap (λ b. fault_if (not b) BadContent status_next) w
 
-    pub right_status : fits_status e status ≡ true → chunk_fault false false export e with_status flags chunks.BLOCK_STATUS payload
+    pub right_status : fits_status e status ≡ true → judged
         ≡ done_by (has flags chunks.DONE) (finish_by e.command e.length (is_proper export e) (has_failed e) (total (pieces e)) (lacks with_status))
     right_status w =
         by_this ∙ ap (λ b. fault_if (not b) BadContent status_next) w
-        ∙ done-more None export e flags chunks.BLOCK_STATUS cookie payload None (status_content chunks.BLOCK_STATUS payload refl) refl (has flags chunks.DONE)
+        ∙ done-more at export e flags (status_kind wide) cookie payload None (status_content wide (status_kind wide) payload refl) (no_error wide) (has flags chunks.DONE)
         ∙ ap (λ n. done_by (has flags chunks.DONE) (finish_by e.command e.length (is_proper export e) (has_failed e) n (lacks with_status))) (omega arith)

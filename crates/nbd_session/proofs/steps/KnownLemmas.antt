@@ -10,13 +10,13 @@ use Rattle.nbd_wire.specs.declared.message.Side.TheVariants.{Client, Server}
 use Rattle.nbd_wire.specs.declared.fault.WireFault.TheVariants.{BadMagic, OutOfProfile, UnknownCookie}
 use Rattle.nbd_wire.specs.protocol.Operations.{Exporting, Operation}
 use Rattle.nbd_wire.specs.protocol.Payloads.{number_at}
-use Rattle.nbd_wire.specs.protocol.States.{Core, Transmission, in_force, operation, target}
+use Rattle.nbd_wire.specs.protocol.States.{Core, Transmission, operation, target}
 use Rattle.nbd_laws.specs.Awaited.{awaited_length_by, awaited_length}
-use Rattle.nbd_wire.specs.protocol.Decisions.{Decision, begins, chunk_last_fault, chunk_of, extended_chunk_of, extended_last_fault, extended_reply_by, extended_request_with, operation_if, operation_of, reply, reply_by, reply_in, request, request_by, simple_of}
+use Rattle.nbd_wire.specs.protocol.Decisions.{Decision, begins, chunk_last_fault, chunk_of, extended_chunk_of, extended_last_fault, extended_reply_by, operation_if, operation_of, reply, reply_by, reply_in, request, request_by, simple_of}
 use Rattle.nbd_wire.specs.protocol.Reading.{by_tests, decision, request_unless, IsFilled, More, Rest, old_of}
 use Rattle.nbd_wire.specs.protocol.Transmission.{chunk_head_fault, cookie_fault, extended_head_fault, is_too_large, simple_fault, simple_last_fault, simple_payload_length}
 use Rattle.nbd_laws.proofs.judge.AwaitedLemmas.{decision_of}
-use Rattle.nbd_laws.proofs.judge.PhaseLemmas.{IsAppended, Later-appended, Later-disconnected, Later-extended, Later-in_force, Later-transmission, Later-turn, target-append}
+use Rattle.nbd_laws.proofs.judge.PhaseLemmas.{IsAppended, Later-appended, Later-disconnected, Later-extended, Later-transmission, Later-turn, target-append}
 use Rattle.nbd_laws.proofs.judge.SoundLemmas.{kept_later, turn_of_reading}
 use Rattle.nbd_laws.proofs.judge.SteadyLemmas.{IsBegun, IsDeciding, IsExtendedOrNot, as_chunk, as_extended, as_neither, as_other, as_simple, bytes_are_begun, deciding, entry-append, extended_or_not, is_chunk_reply, is_extended_reply, is_no_extended, is_no_reply, is_simple_reply, long_reply, short_reply}
 use Rattle.nbd_laws.proofs.reading.ReaderLemmas.{Held, Later, Later-trans, at_once, none_held, old-empty, old-filled, some_held}
@@ -137,8 +137,8 @@ module _ (core : Core) (bytes payload : List ℕ) (h : ℕ) (x : Expected) (e : 
   placed_request next = subst (IsPlaced next) (sym is_request.1) tt
 
   -- a request looks at what is outstanding at its last byte alone
-  request_stays : (next : Core) → next.extended ≡ core.extended → in_force next ≡ in_force core → request next bytes ≡ expected_decision next x h payload
-  request_stays next extended contexts =
+  request_stays : (next : Core) → next.extended ≡ core.extended → request next bytes ≡ expected_decision next x h payload
+  request_stays next extended =
       let f : ◌≡◌ {A = ℕ × ℕ} (number_at 6 2 bytes, number_at 8 8 bytes) (is_request.0.command, is_request.0.cookie) = fields_are in
       ap (λ b. request_by b next bytes) extended
       ∙ go core.extended
@@ -153,7 +153,7 @@ module _ (core : Core) (bytes payload : List ℕ) (h : ℕ) (x : Expected) (e : 
         message = (request_by x core bytes).message;
       }
       go false = refl
-      go true = ap (λ (cs : List Context). extended_request_with (not (length cs == 0)) next bytes) contexts
+      go true = refl
 
 module _ (export : Exporting) (old core next : Core) (bytes : List ℕ) (a : IsAppended core next) where
   abbrev cookie : ℕ
@@ -269,13 +269,13 @@ module _ (old core next : Core) (export : Exporting) (before : core.phase ≡ Tr
           ∙ ap Some (reply_stays export old core next b a (ap (λ (d : Decision). d.head_fault) e) ∙ e
           ∙ (λ i. record { head_length = length head; head_fault = None; payload_length = payload_length_of x; last_fault = last i; message = message_of x payload }))
 
-  expected_request : next.disconnected ≡ core.disconnected → next.extended ≡ core.extended → in_force next ≡ in_force core → IsPlaced next x → IsExpected (decision core.phase old core Client) core head x → IsExpected (decision next.phase old next Client) next head x
-  expected_request disconnected extended contexts placed known = record { filled = known.filled; placed = placed; is = is }
+  expected_request : next.disconnected ≡ core.disconnected → next.extended ≡ core.extended → IsPlaced next x → IsExpected (decision core.phase old core Client) core head x → IsExpected (decision next.phase old next Client) next head x
+  expected_request disconnected extended placed known = record { filled = known.filled; placed = placed; is = is }
     where
       by : (b : Bool) (payload : List ℕ) → request_unless b core (head ++ payload) ≡ Some (expected_decision core x (length head) payload) → request_unless b next (head ++ payload) ≡ Some (expected_decision next x (length head) payload)
       by true payload e = absurd (cc)
       by false payload e =
-          ap Some (request_stays core (head ++ payload) payload (length head) x (same_Some _ _ e) next extended contexts)
+          ap Some (request_stays core (head ++ payload) payload (length head) x (same_Some _ _ e) next extended)
 
       is : (payload : List ℕ) → decision next.phase old next Client (head ++ payload) ≡ Some (expected_decision next x (length head) payload)
       is payload =
@@ -287,7 +287,7 @@ by_side : (s : Side) (old core next : Core) (export : Exporting) (head : List �
     IsExpected (decision core.phase old core s) core head x → IsExpected (decision next.phase old next s) next head x
 by_side Server old core next export head x l before after known = expected_reply old core next export before after head x (Later-appended l export before) known
 by_side Client old core next export head x l before after known =
-    expected_request old core next export before after head x (Later-disconnected l) (Later-extended l export before) (Later-in_force l export before) (go core.disconnected (sym (ap (λ p. decision p old core Client (head ++ [])) before) ∙ known.is [])) known
+    expected_request old core next export before after head x (Later-disconnected l) (Later-extended l export before) (go core.disconnected (sym (ap (λ p. decision p old core Client (head ++ [])) before) ∙ known.is [])) known
   where
     go : (b : Bool) → request_unless b core (head ++ []) ≡ Some (expected_decision core x (length head) []) → IsPlaced next x
     go true e = absurd (cc)

@@ -1,27 +1,26 @@
 -- The program's values as the definitions have them.
 use Rattle.std.specs.Prelude.{ℕ, List, length, Bool, true, false, not, ◌&&◌, ◌||◌, Option, None, Some, ◌==◌, is_some}
-use Rattle.nbd_wire.specs.declared.chunks.TheConstants as chunks
 use Rattle.nbd_wire.specs.declared.commands.TheConstants as commands
 use Rattle.nbd_wire.specs.declared.fault.WireFault.{WireFault}
 use Rattle.nbd_wire.specs.declared.fault.WireFault.TheVariants.{BadReplyOffset, IncompleteRead, IncompleteStatus, SuccessOfImproper}
 use Rattle.nbd_wire.specs.declared.heads.transmission.RequestHead.{RequestHead}
-use Rattle.nbd_wire.specs.protocol.Contexts.{Context, Status}
+use Rattle.nbd_wire.specs.protocol.Contexts.{Context}
 use Rattle.nbd_wire.specs.protocol.Sendable.{carries_payload}
 use Rattle.nbd_wire.specs.protocol.States.{Core, in_force}
-use Rattle.nbd_wire.specs.protocol.Statuses.{tells_all}
+use Rattle.nbd_wire.specs.protocol.Statuses.{are_settled}
 use Rattle.nbd_state.specs.declared.asked.Asked.{Asked}
 use Rattle.nbd_wire.specs.protocol.Tests.{fault_if}
-use Rattle.nbd_wire.specs.protocol.Transmission.{is_too_large}
+use Rattle.nbd_wire.specs.protocol.Transmission.{is_too_large, status_kind}
 
 -- a simple reply with this error may not answer it
 abbrev pub is_simple_forbidden : Core → Asked → (error : ℕ) → Bool
 is_simple_forbidden core asked error = is_some asked.known_at || (((asked.command == commands.READ) && core.structured)
     || (((asked.command == commands.BLOCK_STATUS) && not (length (in_force core) == 0)) && (error == 0)))
 
--- a BLOCK_STATUS of this length, if it is one, lacks the status of one of the contexts
-abbrev pub lacks_by : (command len : ℕ) → List Status → List Context → Bool
-lacks_by command len statuses contexts =
-    (command == commands.BLOCK_STATUS) && (not (len == 0) && not (tells_all statuses contexts))
+-- a BLOCK_STATUS of this length, if it is one, leaves one of the contexts unsettled
+abbrev pub lacks_by : (command len : ℕ) (settled : ℕ → Bool) → List Context → Bool
+lacks_by command len settled contexts =
+    (command == commands.BLOCK_STATUS) && (not (len == 0) && not (are_settled settled contexts))
 
 -- at the end of a reply to a request of this command and length that gave so many bytes
 abbrev pub finish_by : (command len : ℕ) (proper failed : Bool) (given : ℕ) (lacks : Bool) → Option WireFault
@@ -34,10 +33,9 @@ abbrev pub done_by : Bool → Option WireFault → Option WireFault
 done_by true fault = fault
 done_by false fault = None
 
--- with an extended header: a payload that is too large, or a BLOCK_STATUS where a metadata context is in force
-abbrev pub is_beyond : (contexts : Bool) → RequestHead → Bool
-is_beyond contexts h = h.extended && ((carries_payload h.flags h.command && is_too_large h.length)
-    || (contexts && (h.command == commands.BLOCK_STATUS)))
+-- with an extended header: a payload that is too large
+abbrev pub is_beyond : RequestHead → Bool
+is_beyond h = h.extended && (carries_payload h.flags h.command && is_too_large h.length)
 
 -- a DISC with an offset or a length
 abbrev pub is_bad_disconnect : RequestHead → Bool
@@ -45,8 +43,7 @@ is_bad_disconnect h = (h.command == commands.DISC) && not ((h.offset == 0) && (h
 
 -- a chunk with such a header and of this type is one of a status
 abbrev pub is_status : (at : Option ℕ) → (kind : ℕ) → Bool
-is_status None kind = kind == chunks.BLOCK_STATUS
-is_status (Some offset) kind = false
+is_status at kind = kind == status_kind (is_some at)
 
 -- an extended header has another offset than its request
 abbrev pub elsewhere_fault : (at : Option ℕ) → (offset : ℕ) → Option WireFault

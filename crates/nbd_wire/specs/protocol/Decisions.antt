@@ -13,7 +13,7 @@ use Rattle.nbd_wire.specs.protocol.Contexts.{Selection}
 use Rattle.nbd_wire.specs.protocol.Negotiation.{abort_fault, answer_fault, answer_head_fault, answer_last_fault, client_flags_fault, export_fault, greeting_fault, padding_fault}
 use Rattle.nbd_wire.specs.protocol.Operations.{Exporting, Operation}
 use Rattle.nbd_wire.specs.protocol.Payloads.{number_at}
-use Rattle.nbd_wire.specs.protocol.States.{Core, has_contexts, target, operation, with_reply}
+use Rattle.nbd_wire.specs.protocol.States.{Core, target, operation, with_reply}
 use Rattle.nbd_wire.specs.protocol.Tests.{◌when◌else◌}
 use Rattle.nbd_wire.specs.protocol.Transmission.{chunk_fault, chunk_head_fault, cookie_fault, extended_head_fault, extended_payload_length, extended_request_fault, offset_fault, read_as, request_fault, request_payload_length, simple_fault, simple_last_fault, simple_payload_length}
 
@@ -132,21 +132,17 @@ abbrev pub extended_request_of : List ℕ → Message
 extended_request_of bytes = ExtendedRequest (number_at 4 2 bytes) (number_at 6 2 bytes) (number_at 8 8 bytes)
     (number_at 16 8 bytes) (number_at 24 8 bytes) (drop 32 bytes)
 
--- the same, and what is decided of it, by whether a metadata context is in force
-abbrev pub extended_request_with : (contexts : Bool) → Core → List ℕ → Decision
-extended_request_with contexts now bytes = record {
+-- the same, and what is decided of it
+abbrev pub extended_request : Core → List ℕ → Decision
+extended_request now bytes = record {
   head_length = 32;
   head_fault = magic_fault (number_at 0 4 bytes == EXTENDED_REQUEST_MAGIC)
-      (extended_request_fault contexts (number_at 4 2 bytes) (number_at 6 2 bytes) (number_at 16 8 bytes)
+      (extended_request_fault (number_at 4 2 bytes) (number_at 6 2 bytes) (number_at 16 8 bytes)
       (number_at 24 8 bytes));
   payload_length = extended_payload_length (number_at 4 2 bytes) (number_at 6 2 bytes) (number_at 24 8 bytes);
   last_fault = cookie_fault (number_at 6 2 bytes) (target (number_at 8 8 bytes) now.entries);
   message = extended_request_of bytes;
 }
-
--- where the session stands
-abbrev pub extended_request : Core → List ℕ → Decision
-extended_request now bytes = extended_request_with (has_contexts now) now bytes
 
 -- a request, by whether extended headers are in force
 abbrev pub request_by : (extended : Bool) → Core → List ℕ → Decision

@@ -1,5 +1,5 @@
 -- The forms of payloads, from what they state to their bytes. Numbers are big-endian.
-use Rattle.std.specs.Prelude.{◌≡◌, ◌≢◌, ℕ, ◌<◌, ◌*◌, ◌^◌, List, [], ◌∷◌, ◌++◌, Option, Some, None, All, length}
+use Rattle.std.specs.Prelude.{◌≡◌, ◌≢◌, ℕ, ◌<◌, ◌*◌, ◌^◌, List, [], ◌∷◌, ◌++◌, Option, Some, None, All, length, Bool, true, false}
 use Rattle.byteorder.specs.Endian.{big_bytes}
 use Rattle.nbd_wire.specs.declared.chunks.TheConstants.{OFFSET_DATA, OFFSET_HOLE, ERROR, ERROR_OFFSET}
 use Rattle.nbd_wire.specs.declared.infos.TheConstants.{EXPORT, BLOCK_SIZE}
@@ -8,7 +8,7 @@ use Rattle.nbd_wire.specs.declared.payloads.Info.TheVariants.{Export, BlockSize,
 use Rattle.nbd_wire.specs.declared.payloads.Piece.{Piece}
 use Rattle.nbd_wire.specs.declared.payloads.Piece.TheVariants.{Bytes, Hole}
 use Rattle.nbd_wire.specs.declared.payloads.Failure.{Failure}
-use Rattle.nbd_wire.specs.protocol.Contexts.{Context, Extent, Status}
+use Rattle.nbd_wire.specs.protocol.Contexts.{Context, Extent, Filter, Status}
 
 -- INFO: a type and what belongs to it; other types than EXPORT and BLOCK_SIZE may go on as they like (proto.md, "Option
 -- reply types")
@@ -72,14 +72,34 @@ HasFailureForm kind failure bytes =
     × ((message : List ℕ) × (rest : List ℕ) × (length message < 2 ^ 16) × GoesOn kind failure.offset rest
     × (bytes ≡ big_bytes 4 failure.error ++ big_bytes 2 (length message) ++ message ++ rest))
 
--- descriptors, one after the other: a length and flags each
-abbrev pub with_extents : List Extent → List ℕ
-with_extents [] = []
-with_extents (x ∷ extents) = big_bytes 4 x.length ++ big_bytes 4 x.flags ++ with_extents extents
+-- ids, one after the other
+abbrev pub with_ids : List ℕ → List ℕ
+with_ids [] = []
+with_ids (id ∷ ids) = big_bytes 4 id ++ with_ids ids
 
--- BLOCK_STATUS: an id, and one or more descriptors, each of at least one byte (proto.md, "Structured reply types")
-unfoldable pub HasStatusForm : Status → List ℕ → Type 0
-HasStatusForm status bytes =
-    (status.id < 2 ^ 32) × (status.extents ≢ [])
-    × All (λ (x : Extent). (0 < x.length) × (x.length < 2 ^ 32) × (x.flags < 2 ^ 32)) status.extents
-    × (bytes ≡ big_bytes 4 status.id ++ with_extents status.extents)
+-- the payload of a BLOCK_STATUS with PAYLOAD_LEN: a length, and ids to the end (this project's choice, read from libnbd
+-- and qemu)
+unfoldable pub HasFilterForm : Filter → List ℕ → Type 0
+HasFilterForm filter bytes =
+    (filter.length < 2 ^ 64) × All (λ (id : ℕ). id < 2 ^ 32) filter.ids
+    × (bytes ≡ big_bytes 8 filter.length ++ with_ids filter.ids)
+
+-- descriptors, one after the other: a length and flags of so many bytes each
+abbrev pub with_extents : (width : ℕ) → List Extent → List ℕ
+with_extents width [] = []
+with_extents width (x ∷ extents) = big_bytes width x.length ++ big_bytes width x.flags ++ with_extents width extents
+
+-- each speaks of at least one byte, and its numbers have so many bytes
+abbrev pub AreExtents : (width : ℕ) → List Extent → Type 0
+AreExtents width extents = All
+    (λ (x : Extent). (0 < x.length) × (x.length < 256 ^ width) × (x.flags < 256 ^ width)) extents
+
+-- BLOCK_STATUS: an id, and one or more descriptors, each of at least one byte (proto.md, "Structured reply types");
+-- BLOCK_STATUS_EXT: an id, the count of the descriptors, and these (this project's choice)
+unfoldable pub HasStatusForm : (extended : Bool) → Status → List ℕ → Type 0
+HasStatusForm false status bytes =
+    (status.id < 2 ^ 32) × (status.extents ≢ []) × AreExtents 4 status.extents
+    × (bytes ≡ big_bytes 4 status.id ++ with_extents 4 status.extents)
+HasStatusForm true status bytes =
+    (status.id < 2 ^ 32) × (status.extents ≢ []) × AreExtents 8 status.extents × (length status.extents < 2 ^ 32)
+    × (bytes ≡ big_bytes 4 status.id ++ big_bytes 4 (length status.extents) ++ with_extents 8 status.extents)

@@ -10,7 +10,7 @@ use Rattle.nbd_wire.specs.declared.command_flags.TheConstants as command_flags
 use Rattle.nbd_wire.specs.declared.commands.TheConstants as commands
 use Rattle.nbd_wire.specs.declared.transmission.TheConstants as transmission
 use Rattle.nbd_wire.specs.declared.sizes.Sizes.{Sizes}
-use Rattle.nbd_wire.specs.protocol.Contexts.{Context}
+use Rattle.nbd_wire.specs.protocol.Contexts.{Context, Filter, are_once, has_id}
 use Rattle.nbd_wire.specs.protocol.Sizes.{breaks_sizes}
 use Rattle.nbd_wire.specs.protocol.Flags.{has, has_only}
 use Rattle.nbd_wire.specs.protocol.Pieces.{piece_of, is_in, byte_at}
@@ -21,7 +21,8 @@ pub record Exporting : Type 0 where
   pub flags : ℕ
 
 -- a numbered request: whether it has an extended header, its fields, the metadata contexts that were in force for it,
--- the block sizes that the client had to keep, if any, and the messages that completed in answer to it, in order
+-- its filter, if it has one, the block sizes that the client had to keep, if any, and the messages that completed in
+-- answer to it, in order. Its length is that of its range: its filter's, or else that in its head
 pub record Operation : Type 0 where
   pub extended : Bool
   pub flags : ℕ
@@ -31,6 +32,7 @@ pub record Operation : Type 0 where
   pub length : ℕ
   pub payload : List ℕ
   pub contexts : List Context
+  pub filter : Option Filter
   pub sizes : Option Sizes
   pub replies : List Message
 
@@ -127,11 +129,23 @@ is_offered export command =
 abbrev pub mask_if : Bool → ℕ → ℕ
 mask_if b mask = if b then mask else 0
 
--- the flags that a request of this type may carry (proto.md, "Command flags"); PAYLOAD_LEN is one of a WRITE with an
--- extended header (this project's choice)
-abbrev pub allowed_flags : (extended : Bool) (export command : ℕ) → ℕ
-allowed_flags extended export command =
-    mask_if (extended && (command == commands.WRITE)) command_flags.PAYLOAD_LEN
+-- a filter that a client may send: the server offers BLOCK_STATUS_PAYLOAD, each id is that of a context in force, and
+-- none comes twice among them (proto.md, "Transmission flags", has the flag's number; the rest is this project's
+-- choice, read from libnbd and qemu, and so is that there may be no id, which qemu refuses)
+abbrev pub takes_filter : (export : ℕ) → List Context → Option Filter → Bool
+takes_filter export contexts (Some filter) =
+    has export transmission.BLOCK_STATUS_PAYLOAD && are_once (has_id contexts) filter.ids
+takes_filter export contexts None = false
+
+-- PAYLOAD_LEN is a flag of a WRITE with an extended header, and of a request with a filter that a client may send (this
+-- project's choice)
+abbrev pub may_carry : (export : ℕ) → Operation → Bool
+may_carry export e = (e.extended && (e.command == commands.WRITE)) || takes_filter export e.contexts e.filter
+
+-- the flags that a request of this type may have (proto.md, "Command flags"), by whether PAYLOAD_LEN is one
+abbrev pub allowed_flags : (carries : Bool) (export command : ℕ) → ℕ
+allowed_flags carries export command =
+    mask_if carries command_flags.PAYLOAD_LEN
     + mask_if (has export transmission.SEND_FUA) command_flags.FUA
     + mask_if (command == commands.WRITE_ZEROES) command_flags.NO_HOLE
     + mask_if ((command == commands.READ) && has export transmission.SEND_DF) command_flags.DF
@@ -147,7 +161,7 @@ is_proper export e =
     && (not (has_range e.command) || nat_le (e.offset + e.length) export.size)
     && is_offered export.flags e.command
     && (not (is_change e.command) || not (has export.flags transmission.READ_ONLY))
-    && has_only e.flags (allowed_flags e.extended export.flags e.command)
+    && has_only e.flags (allowed_flags (may_carry export.flags e) export.flags e.command)
     && (not (e.command == commands.FLUSH) || ((e.offset == 0) && (e.length == 0)))
 
 -- a request of a known type with a range that breaks the block sizes (proto.md, "Size constraints"; that no other

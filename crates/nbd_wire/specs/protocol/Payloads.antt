@@ -1,12 +1,12 @@
 -- What the payloads of options, of option replies and of chunks state. Numbers are big-endian.
-use Rattle.std.specs.Prelude.{ℕ, zero, suc, List, [], Option, Some, None, length, ◌∷◌, ◌==◌, ◌&&◌, ◌||◌, ◌+◌, ◌*◌, ◌/◌, ◌%◌, not, nat_le, if◌then◌else◌, take, drop, Bool}
+use Rattle.std.specs.Prelude.{ℕ, zero, suc, List, [], Option, Some, None, length, ◌∷◌, ◌==◌, ◌&&◌, ◌||◌, ◌+◌, ◌*◌, ◌/◌, ◌%◌, not, nat_le, if◌then◌else◌, take, drop, Bool, true, false}
 use Rattle.std.specs.List.{list_any}
 use Rattle.nbd_wire.specs.declared.payloads.Info.{Info}
 use Rattle.nbd_wire.specs.declared.payloads.Info.TheVariants.{Export, BlockSize, Other}
 use Rattle.nbd_wire.specs.declared.payloads.Piece.{Piece}
 use Rattle.nbd_wire.specs.declared.payloads.Piece.TheVariants.{Bytes, Hole}
 use Rattle.nbd_wire.specs.declared.payloads.Failure.{Failure}
-use Rattle.nbd_wire.specs.protocol.Contexts.{Context, Extent, Status}
+use Rattle.nbd_wire.specs.protocol.Contexts.{Context, Extent, Filter, Status}
 use Rattle.byteorder.specs.Endian.{big_number}
 use Rattle.nbd_wire.specs.declared.chunks.TheConstants as chunks
 use Rattle.nbd_wire.specs.declared.infos.TheConstants as infos
@@ -89,24 +89,49 @@ failure_of kind bytes =
     (record { error = error; offset = Some (number_at (6 + text) 8 bytes) })
     else None
 
--- so many descriptors, each a length and flags
-abbrev pub extents_in : ℕ → List ℕ → List Extent
-extents_in zero bytes = []
-extents_in (suc n) bytes =
-    record { length = number_at 0 4 bytes; flags = number_at 4 4 bytes } ∷ extents_in n (drop 8 bytes)
+-- so many ids, of four bytes each
+abbrev pub ids_in : (count : ℕ) → List ℕ → List ℕ
+ids_in zero bytes = []
+ids_in (suc n) bytes = number_at 0 4 bytes ∷ ids_in n (drop 4 bytes)
 
--- the descriptors that these bytes are, eight bytes each
-abbrev pub extents_of : List ℕ → List Extent
-extents_of bytes = extents_in (length bytes / 8) bytes
+-- the ids that these bytes are
+abbrev pub ids_of : List ℕ → List ℕ
+ids_of bytes = ids_in (length bytes / 4) bytes
+
+-- the payload of a BLOCK_STATUS with PAYLOAD_LEN: a length, and ids to the end (this project's choice, read from libnbd
+-- and qemu)
+unfoldable pub filter_of : List ℕ → Option Filter
+filter_of bytes =
+    let rest : List ℕ = drop 8 bytes in
+    if not (nat_le 8 (length bytes)) || not (length rest % 4 == 0) then None
+    else Some (record { length = number_at 0 8 bytes; ids = ids_of rest })
+
+-- so many descriptors, each a length and flags of so many bytes
+abbrev pub extents_in : (width count : ℕ) → List ℕ → List Extent
+extents_in width zero bytes = []
+extents_in width (suc n) bytes =
+    record { length = number_at 0 width bytes; flags = number_at width width bytes }
+    ∷ extents_in width n (drop (width + width) bytes)
+
+-- the descriptors that these bytes are, of eight bytes each, or of sixteen in a chunk with an extended header
+abbrev pub extents_of : (extended : Bool) → List ℕ → List Extent
+extents_of false bytes = extents_in 4 (length bytes / 8) bytes
+extents_of true bytes = extents_in 8 (length bytes / 16) bytes
 
 -- one of the extents speaks of no byte
 abbrev pub has_empty : List Extent → Bool
 has_empty extents = list_any (λ (x : Extent). x.length == 0) extents
 
 -- a BLOCK_STATUS chunk: an id, and one or more descriptors to the end, of which none is empty (proto.md, "Structured
--- reply types")
-unfoldable pub status_of : List ℕ → Option Status
-status_of bytes =
+-- reply types"); a BLOCK_STATUS_EXT chunk: an id, how many descriptors come, and these (this project's choice: proto.md
+-- has the type's number alone)
+unfoldable pub status_of : (extended : Bool) → List ℕ → Option Status
+status_of false bytes =
     let rest : List ℕ = drop 4 bytes in
-    if not (nat_le 12 (length bytes)) || not (length rest % 8 == 0) || has_empty (extents_of rest) then None
-    else Some (record { id = number_at 0 4 bytes; extents = extents_of rest })
+    if not (nat_le 12 (length bytes)) || not (length rest % 8 == 0) || has_empty (extents_of false rest) then None
+    else Some (record { id = number_at 0 4 bytes; extents = extents_of false rest })
+status_of true bytes =
+    let rest : List ℕ = drop 8 bytes in
+    if not (nat_le 24 (length bytes)) || not (length rest == 16 * number_at 4 4 bytes)
+    || has_empty (extents_of true rest) then None
+    else Some (record { id = number_at 0 4 bytes; extents = extents_of true rest })

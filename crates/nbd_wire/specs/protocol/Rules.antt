@@ -5,6 +5,7 @@ use Rattle.nbd_wire.specs.declared.message.Side.TheVariants.{Client, Server}
 use Rattle.nbd_wire.specs.declared.message.Message.{Message}
 use Rattle.nbd_wire.specs.declared.message.Message.TheVariants.{Greeting, ClientFlags, Choice, Answer, Exported, Request, Simple, Chunk, ExtendedRequest, ExtendedChunk}
 use Rattle.nbd_wire.specs.declared.answers.TheConstants as answers
+use Rattle.nbd_wire.specs.declared.command_flags.TheConstants as command_flags
 use Rattle.nbd_wire.specs.declared.commands.TheConstants as commands
 use Rattle.nbd_wire.specs.declared.handshake.TheConstants as handshake
 use Rattle.nbd_wire.specs.declared.options.TheConstants as options
@@ -16,6 +17,8 @@ use Rattle.nbd_wire.specs.protocol.Options.{agrees, is_proper_option, takes_cont
 use Rattle.nbd_wire.specs.protocol.Negotiation.{abort_fault, answer_fault, answer_head_fault, answer_last_fault, client_flags_fault, export_fault, greeting_fault}
 use Rattle.nbd_wire.specs.protocol.Transmission.{simple_length, chunk_fault, chunk_head_fault, cookie_fault, read_as, request_fault, simple_fault, simple_last_fault, extended_request_fault}
 use Rattle.nbd_wire.specs.declared.chunks.TheConstants as chunks
+use Rattle.nbd_wire.specs.protocol.Contexts.{Filter, length_by}
+use Rattle.nbd_wire.specs.protocol.Payloads.{filter_of}
 use Rattle.nbd_wire.specs.protocol.Operations.{Operation, Exporting, ends_reply, proper_on, is_chunked}
 use Rattle.nbd_wire.specs.protocol.Pieces.{byte_at, piece_of, piece_offset, piece_size}
 use Rattle.nbd_wire.specs.protocol.Flags.{has}
@@ -108,7 +111,7 @@ MayComplete core (Transmission export) (Simple error cookie payload) =
 MayComplete core (Transmission export) (Chunk flags kind cookie payload) =
     AnswersOne core export cookie (Chunk flags kind cookie payload)
 MayComplete core (Transmission export) (ExtendedRequest flags command cookie offset len payload) =
-    (extended_request_fault (has_contexts core) flags command offset len ≡ None)
+    (extended_request_fault flags command offset len ≡ None)
     × (cookie_fault command (target cookie core.entries) ≡ None) × (core.extended ≡ true)
 MayComplete core (Transmission export) (ExtendedChunk flags kind cookie offset payload) =
     AnswersOne core export cookie (ExtendedChunk flags kind cookie offset payload)
@@ -161,24 +164,33 @@ grants_structured option kind =
 abbrev pub grants_extended : (option kind : ℕ) → Bool
 grants_extended option kind = (option == options.EXTENDED_HEADERS) && (kind == answers.ACK)
 
--- a request with these fields, as it is asked where the session stands
-abbrev pub operation_asked : (extended : Bool) → Core → (flags command cookie offset len : ℕ) → List ℕ → Operation
-operation_asked extended core flags command cookie offset len payload = record {
+-- a request with these fields, and with this filter if it has one, as it is asked where the session stands
+abbrev pub operation_asked : (extended : Bool) → Core → (flags command cookie offset len : ℕ) → List ℕ → Option Filter
+    → Operation
+operation_asked extended core flags command cookie offset len payload filter = record {
   extended = extended;
   flags = flags;
   command = command;
   cookie = cookie;
   offset = offset;
-  length = len;
+  length = length_by filter len;
   payload = payload;
   contexts = in_force core;
+  filter = filter;
   sizes = sizes_for core.structured command (sizes_kept core.sizing);
   replies = [];
 }
 
--- the payload that a WRITE writes; that of any other request is not looked at
+-- the payload that a WRITE writes; that of any other request is not written
 abbrev pub written : (command : ℕ) → List ℕ → List ℕ
 written command payload = if command == commands.WRITE then payload else []
+
+-- the filter of a request with an extended header, by whether a context is in force: a BLOCK_STATUS then has one where
+-- it has PAYLOAD_LEN and its payload has the form (this project's choice, read from libnbd and qemu)
+abbrev pub filter_in : (has_contexts : Bool) → (flags command : ℕ) → List ℕ → Option Filter
+filter_in has_contexts flags command payload =
+    if has_contexts && ((command == commands.BLOCK_STATUS) && has flags command_flags.PAYLOAD_LEN)
+    then filter_of payload else None
 
 -- what a completed message leads to
 unfoldable pub complete : Core → Message → Core
@@ -205,12 +217,13 @@ complete core (Answer option kind payload) =
 complete core (Exported size flags padded) = record core { phase = next_phase core.phase (Exported size flags padded) }
 complete core (Request flags command cookie offset len payload) =
     core_with_request (command == commands.DISC) core
-    (operation_asked false core flags command cookie offset len payload)
+    (operation_asked false core flags command cookie offset len payload None)
 complete core (Simple error cookie payload) = core_with_reply core (Simple error cookie payload)
 complete core (Chunk flags kind cookie payload) = core_with_reply core (Chunk flags kind cookie payload)
 complete core (ExtendedRequest flags command cookie offset len payload) =
     core_with_request (command == commands.DISC) core
-    (operation_asked true core flags command cookie offset len (written command payload))
+    (operation_asked true core flags command cookie offset len (written command payload)
+    (filter_in (has_contexts core) flags command payload))
 complete core (ExtendedChunk flags kind cookie offset payload) =
     core_with_reply core (ExtendedChunk flags kind cookie offset payload)
 

@@ -1,10 +1,10 @@
 -- What the reply to a BLOCK_STATUS says of its range (proto.md, "Structured reply types").
-use Rattle.std.specs.Prelude.{ℕ, List, [], ◌∷◌, ◌++◌, ◌+◌, ◌-◌, ◌==◌, ◌&&◌, Bool, true, not, min, codes, bytes_eq, if◌then◌else◌, option_to_list, take}
+use Rattle.std.specs.Prelude.{ℕ, List, [], ◌∷◌, ◌++◌, ◌+◌, ◌-◌, ◌==◌, ◌&&◌, ◌||◌, Bool, true, false, not, min, codes, bytes_eq, if◌then◌else◌, option_to_list, take}
 use Rattle.std.specs.List.{list_any}
 use Rattle.nbd_wire.specs.declared.message.Message.{Message}
-use Rattle.nbd_wire.specs.declared.message.Message.TheVariants.{Chunk}
+use Rattle.nbd_wire.specs.declared.message.Message.TheVariants.{Chunk, ExtendedChunk}
 use Rattle.nbd_wire.specs.declared.chunks.TheConstants as chunks
-use Rattle.nbd_wire.specs.protocol.Contexts.{Context, Extent, Status}
+use Rattle.nbd_wire.specs.protocol.Contexts.{Context, Extent, Status, is_left_out}
 use Rattle.nbd_wire.specs.protocol.Payloads.{status_of}
 use Rattle.nbd_wire.specs.declared.commands.TheConstants as commands
 use Rattle.nbd_wire.specs.declared.payloads.Piece.{Piece}
@@ -16,7 +16,9 @@ use Rattle.nbd_wire.specs.protocol.Operations.{Exporting, Operation, is_proper}
 -- the status in a message, where it is a status chunk
 abbrev pub status_in : Message → List Status
 status_in (Chunk flags kind cookie payload) =
-    if kind == chunks.BLOCK_STATUS then option_to_list (status_of payload) else []
+    if kind == chunks.BLOCK_STATUS then option_to_list (status_of false payload) else []
+status_in (ExtendedChunk flags kind cookie offset payload) =
+    if kind == chunks.BLOCK_STATUS_EXT then option_to_list (status_of true payload) else []
 status_in _ = []
 
 -- the statuses in these messages, one after the other
@@ -38,10 +40,14 @@ but_last [] = []
 but_last (x ∷ []) = []
 but_last (x ∷ y ∷ extents) = x ∷ but_last (y ∷ extents)
 
--- each of the contexts has its status
-abbrev pub tells_all : List Status → List Context → Bool
-tells_all statuses [] = true
-tells_all statuses (c ∷ contexts) = tells statuses c.id && tells_all statuses contexts
+-- nothing more is due of the context with this id: it has its status, or the request does not ask it
+abbrev pub is_settled : Operation → (id : ℕ) → Bool
+is_settled e id = tells (statuses e) id || is_left_out e.filter id
+
+-- each of the contexts is settled
+abbrev pub are_settled : (settled : ℕ → Bool) → List Context → Bool
+are_settled settled [] = true
+are_settled settled (c ∷ contexts) = settled c.id && are_settled settled contexts
 
 -- the name of the context whose statuses tell what reads as zeroes (proto.md, "Metadata querying")
 abbrev pub allocation_name : List ℕ

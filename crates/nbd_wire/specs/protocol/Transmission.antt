@@ -17,7 +17,7 @@ use Rattle.nbd_wire.specs.protocol.Sendable.{carries_payload}
 use Rattle.nbd_wire.specs.declared.limits.TheConstants.{LONGEST_PAYLOAD}
 use Rattle.nbd_wire.specs.protocol.Pieces.{is_in, piece_offset, piece_size}
 use Rattle.nbd_wire.specs.protocol.Contexts.{Context, Extent, Status, has_id, reach}
-use Rattle.nbd_wire.specs.protocol.Statuses.{but_last, statuses, tells, tells_all}
+use Rattle.nbd_wire.specs.protocol.Statuses.{are_settled, but_last, is_settled}
 use Rattle.nbd_wire.specs.protocol.Tests.{◌when◌else◌}
 
 -- a request, at its head
@@ -43,12 +43,11 @@ cookie_fault command outstanding =
 abbrev pub is_too_large : (len : ℕ) → Bool
 is_too_large len = nat_lt LONGEST_PAYLOAD len
 
--- a request with an extended header, at its head; `has_contexts` is whether a metadata context is in force
-abbrev pub extended_request_fault : (has_contexts : Bool) (flags command offset len : ℕ) → Option WireFault
-extended_request_fault has_contexts flags command offset len =
-    -- a payload that is too large, or a BLOCK_STATUS where a context is in force (this project's choice)
-    OutOfProfile when (carries_payload flags command && is_too_large len)
-    || (has_contexts && (command == commands.BLOCK_STATUS)) else
+-- a request with an extended header, at its head
+abbrev pub extended_request_fault : (flags command offset len : ℕ) → Option WireFault
+extended_request_fault flags command offset len =
+    -- a payload that is too large (this project's choice)
+    OutOfProfile when carries_payload flags command && is_too_large len else
     -- a DISC with an offset or a length ("Request types")
     request_fault command offset len
 
@@ -155,14 +154,14 @@ fits_range e extents =
     not (nat_le e.length (reach (but_last extents)))
     && (not (has e.flags command_flags.REQ_ONE) || ((length extents == 1) && nat_le (reach extents) e.length))
 
--- the status may join those of the request: it answers a BLOCK_STATUS, is of a context in force that no earlier one is
--- of, and of a range that is not empty its extents fit ("Structured reply types"; that no status comes twice in a reply
--- that fails, and what holds of length 0, are this project's choices)
+-- the status may join those of the request: it answers a BLOCK_STATUS, is of a context in force that the request asks
+-- and no earlier one is of, and of a range that is not empty its extents fit ("Structured reply types"; that no status
+-- comes twice in a reply that fails, what a filter asks, and what holds of length 0, are this project's choices)
 abbrev pub fits_status : Operation → Status → Bool
 fits_status e status =
     (e.command == commands.BLOCK_STATUS)
     && (has_id e.contexts status.id
-    && (not (tells (statuses e) status.id)
+    && (not (is_settled e status.id)
     && ((e.length == 0) || fits_range e status.extents)))
 
 -- the type as which a chunk is read: in the profile Wide a type of an error that is not known is one without an offset
@@ -171,12 +170,16 @@ abbrev pub read_as : Profile → (kind : ℕ) → ℕ
 read_as Base kind = kind
 read_as Wide kind = if is_error_chunk kind && not (kind == chunks.ERROR_OFFSET) then chunks.ERROR else kind
 
--- what a chunk says of status, where these contexts are in force; with an extended header nothing (this project's
--- choice)
+-- the type of a status chunk: with an extended header another one ("Structured reply types", which has its number; that
+-- it takes the place of the other is this project's choice)
+abbrev pub status_kind : (extended : Bool) → ℕ
+status_kind false = chunks.BLOCK_STATUS
+status_kind true = chunks.BLOCK_STATUS_EXT
+
+-- what a chunk says of status, where these contexts are in force
 abbrev pub status_if : (extended : Bool) → List Context → (kind : ℕ) → List ℕ → Option Status
-status_if true contexts kind payload = None
-status_if false contexts kind payload =
-    if (kind == chunks.BLOCK_STATUS) && not (length contexts == 0) then status_of payload else None
+status_if extended contexts kind payload =
+    if (kind == status_kind extended) && not (length contexts == 0) then status_of extended payload else None
 
 -- content that does not fit its request ("Structured reply types", "Command flags"); `next` is what the end of its
 -- reply says, here and below
@@ -209,10 +212,11 @@ abbrev pub total : List Piece → ℕ
 total [] = 0
 total (piece ∷ pieces) = piece_size piece + total pieces
 
--- a BLOCK_STATUS of a range that is not empty lacks the status of a context in force
+-- a BLOCK_STATUS of a range that is not empty lacks the status of a context in force that it asks (what a filter asks
+-- is this project's choice)
 abbrev pub lacks_status : Operation → Bool
 lacks_status e =
-    (e.command == commands.BLOCK_STATUS) && (not (e.length == 0) && not (tells_all (statuses e) e.contexts))
+    (e.command == commands.BLOCK_STATUS) && (not (e.length == 0) && not (are_settled (is_settled e) e.contexts))
 
 -- at the end of a reply that gave these pieces; one that states a failure may end as it is
 abbrev pub finish_fault : Exporting → Operation → (failed : Bool) → List Piece → Option WireFault

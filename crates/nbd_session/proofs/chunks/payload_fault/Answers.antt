@@ -1,33 +1,40 @@
-use Rattle.std.proofs.Common.{◌≡◌, ◌∙◌, ◌+◌, ◌==◌, ◌||◌, not, length, refl, sym, ap, is_some, None, false}
+use Rattle.std.proofs.Common.{◌≡◌, ◌∙◌, ◌+◌, ◌==◌, ◌||◌, not, length, refl, sym, ap, is_some, None, Bool, true, false}
 use Rattle.nbd_wire.specs.declared.payloads.Piece.{Piece}
 use Rattle.nbd_wire.specs.declared.chunks.TheConstants as chunks
 use Rattle.nbd_wire.specs.declared.message.Message.{Message}
-use Rattle.nbd_wire.specs.declared.message.Message.TheVariants.{Chunk}
 use Rattle.nbd_wire.specs.codec.Contents.{piece_of}
 use Rattle.nbd_wire.specs.protocol.Flags.{has}
 use Rattle.nbd_wire.specs.protocol.Payloads.{failure_of}
 use Rattle.nbd_wire.specs.protocol.Operations.{has_failed, is_proper, pieces}
 use Rattle.nbd_wire.specs.protocol.States.{with_reply}
-use Rattle.nbd_wire.specs.protocol.Statuses.{statuses}
+use Rattle.nbd_wire.specs.protocol.Statuses.{is_settled}
 use Rattle.nbd_wire.specs.declared.fault.WireFault.TheVariants.{BadChunk, BadContent}
 use Rattle.nbd_session.specs.internal.Asking.{done_by, finish_by}
 use Rattle.nbd_wire.specs.protocol.Tests.{fault_if}
-use Rattle.nbd_wire.specs.protocol.Transmission.{chunk_fault, fits_read, fits_failure, read_as, total}
+use Rattle.nbd_wire.specs.protocol.Transmission.{chunk_fault, fits_read, fits_failure, read_as, status_kind, total}
 use Rattle.nbd_state.specs.Heads.{chunk_of, chunk_with}
 use Rattle.nbd_state.proofs.HeadLemmas.{chunk_ends}
 use Rattle.nbd_state.proofs.RecordingLemmas.{told_without}
-use Rattle.nbd_laws.proofs.judge.KindLemmas.{status_kind}
+use Rattle.nbd_laws.proofs.judge.KindLemmas.{status_read}
 use Rattle.nbd_session.proofs.judge.ChunkFaultLemmas.{bad-chunk, none-chunk, content-chunk, failure-chunk, lacks, other_status, status_only}
 use Rattle.nbd_session.proofs.chunks.payload_fault.Goals as goal
+
+none_kind : (extended : Bool) → (status_kind extended == chunks.NONE) ≡ false
+none_kind false = refl
+none_kind true = refl
 
 pub returns-then-is_status : goal.returns-then-is_status
 returns-then-is_status c = λ core export e s contexts h u.
     let head = c.args.head.now in
     let payload = c.args.payload.now in
+    let x = is_some head.at in
     let o = status_only head.at head.kind (sym c.is_status.ensures ∙ c.if-is_status.true) in
-    c.status_fault.ensures core export e head.cookie s contexts h u
-    ∙ ap (λ k. chunk_fault false false export e (with_reply e (Chunk head.flags chunks.BLOCK_STATUS head.cookie payload)) head.flags k payload) (sym (status_kind core.profile))
-    ∙ (λ i. chunk_fault (is_some (sym o.0 i)) (sym o.1 i == chunks.NONE) export e (with_reply e (chunk_with (sym o.0 i) head.flags (sym o.1 i) head.cookie payload)) head.flags (read_as core.profile (sym o.1 i)) payload)
+    let not_none : (status_kind x == chunks.NONE) ≡ false = none_kind x in
+    c.status_fault.ensures core export e head.at head.cookie s contexts h u (sym c.is_some.ensures)
+    ∙ ap (λ y. chunk_fault y false export e (with_reply e (chunk_with head.at head.flags (status_kind y) head.cookie payload)) head.flags (status_kind y) payload) c.is_some.ensures
+    ∙ ap (λ k. chunk_fault x false export e (with_reply e (chunk_with head.at head.flags (status_kind x) head.cookie payload)) head.flags k payload) (sym (status_read core.profile x))
+    ∙ ap (λ b. chunk_fault x b export e (with_reply e (chunk_with head.at head.flags (status_kind x) head.cookie payload)) head.flags (read_as core.profile (status_kind x)) payload) (sym not_none)
+    ∙ ap (λ k. chunk_fault x (k == chunks.NONE) export e (with_reply e (chunk_with head.at head.flags k head.cookie payload)) head.flags (read_as core.profile k) payload) (sym o)
 
 pub returns-then-kind-eq-NONE : goal.returns-then-kind-eq-NONE
 returns-then-kind-eq-NONE c = λ core export e s contexts h u.
@@ -35,7 +42,7 @@ returns-then-kind-eq-NONE c = λ core export e s contexts h u.
     let payload = c.args.payload.now in
     let m : Message = chunk_of head payload in
     let w = with_reply e m in
-    c.none_fault.ensures core export e (statuses w) s contexts h
+    c.none_fault.ensures core export e (is_settled w) s contexts h
     (told_without export e m _ (has head.flags chunks.DONE) h u (chunk_ends head.flags head.kind head.cookie payload head.at) (other_status head.at head.flags head.kind head.cookie payload (sym c.is_status.ensures ∙ c.if-is_status.false)))
     ∙ ap (λ d. fault_if (not (length payload == 0) || not d) BadChunk (done_by d (finish_by e.command e.length (is_proper export e) (has_failed e) (total (pieces e)) (lacks w)))) c.has-done.ensures
     ∙ sym (none-chunk head.at core.profile export e head.flags head.kind head.cookie payload c.if-kind-eq-NONE.true)
@@ -47,7 +54,7 @@ returns-in-Some c = λ core export e s contexts h u.
     let piece : Piece = piece_of c.in-Some.content in
     let m : Message = chunk_of head payload in
     let w = with_reply e m in
-    c.content_fault.ensures core export e piece (statuses w) s contexts h
+    c.content_fault.ensures core export e piece (is_settled w) s contexts h
     (told_without export e m _ (has head.flags chunks.DONE) h u (chunk_ends head.flags head.kind head.cookie payload head.at) (other_status head.at head.flags head.kind head.cookie payload (sym c.is_status.ensures ∙ c.if-is_status.false)))
     (sym c.content_span.ensures)
     ∙ ap (λ d. fault_if (not (fits_read export e piece)) BadContent (done_by d (finish_by e.command e.length (is_proper export e) (has_failed e) (total (pieces e) + c.content_span.result.size) (lacks w)))) c.has-done.ensures

@@ -10,18 +10,18 @@ returns-in_default-clause-refused c = λ now s.
 pub returns-then-is_beyond-clause-refused : goal.returns-then-is_beyond-clause-refused
 returns-then-is_beyond-clause-refused c = λ now s.
     beyond_request c.args.state.now.extended now (sym s.extended_is) c.args.head.now c.in-Some.head (sym c.in-Some.is ∙ c.read_head.ensures)
-    (sym (c.is_beyond.ensures now s) ∙ c.if-is_beyond.true)
+    (sym c.is_beyond.ensures ∙ c.if-is_beyond.true)
 
 pub returns-then-is_bad_disconnect-clause-refused : goal.returns-then-is_bad_disconnect-clause-refused
 returns-then-is_bad_disconnect-clause-refused c = λ now s.
     bad_request c.args.state.now.extended now (sym s.extended_is) c.args.head.now c.in-Some.head (sym c.in-Some.is ∙ c.read_head.ensures)
-    (sym (c.is_beyond.ensures now s) ∙ c.if-is_beyond.false) (sym c.is_bad_disconnect.ensures ∙ c.if-is_bad_disconnect.true)
+    (sym c.is_beyond.ensures ∙ c.if-is_beyond.false) (sym c.is_bad_disconnect.ensures ∙ c.if-is_bad_disconnect.true)
 
 pub returns-clause-expected : goal.returns-clause-expected
 returns-clause-expected c = λ now payload s.
     let b = AreBytes-from_places c.args.head.now (λ i. omega (arith, c.type_inv.head i)) in
     good_request c.args.state.now.extended now (sym s.extended_is) c.args.head.now payload c.in-Some.head b c.requires (sym c.in-Some.is ∙ c.read_head.ensures)
-    (sym (c.is_beyond.ensures now s) ∙ c.if-is_beyond.false) (sym c.is_bad_disconnect.ensures ∙ c.if-is_bad_disconnect.false)
+    (sym c.is_beyond.ensures ∙ c.if-is_beyond.false) (sym c.is_bad_disconnect.ensures ∙ c.if-is_bad_disconnect.false)
 
 pub returns-clause-refused : goal.returns-clause-refused
 returns-clause-refused c = search rules

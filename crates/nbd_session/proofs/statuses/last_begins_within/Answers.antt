@@ -1,4 +1,4 @@
-use Rattle.std.proofs.Common.{◌≡◌, ◌∷◌, ◌∙◌, ◌-◌, ◌<◌, ◌≤◌, ap, arith, length, refl, subst, sym}
+use Rattle.std.proofs.Common.{◌≡◌, ◌∷◌, ap, arith, length, refl, sym}
 use Rattle.nbd_wire.specs.codec.Contents.{extent_of}
 use Rattle.nbd_wire.specs.protocol.Payloads.{extents_of}
 use Rattle.nbd_session.proofs.judge.ExtentLemmas.{Within, within_last, within_next, within_passed}
@@ -7,21 +7,20 @@ use Rattle.nbd_session.proofs.statuses.last_begins_within.Goals as goal
 pub loop-next-init : goal.loop-next-init
 loop-next-init c = ap (Within c.args.size) c.in-Some.ensures
 
-pub returns-then-length-left : goal.returns-then-length-left
-returns-then-length-left c =
-    sym (within_passed c.args.size c.loop-next.left (extents_of c.args.descriptors.now) (extent_of c.loop-next.extent) (extent_of c.in-Some-first_extent.next) _ (extents_of c.loop-next.rest.now) (extents_of c.in-Some-first_extent.later.now)
-    refl c.in-Some-first_extent.ensures (subst (λ n. c.loop-next.left ≤ n) c.from-length.ensures c.if-length-left.true) c.loop-next.invariant)
+pub returns-then-extent-left : goal.returns-then-extent-left
+returns-then-extent-left c =
+    sym (within_passed c.args.size c.loop-next.left (extents_of c.args.extended c.args.descriptors.now) (extent_of c.loop-next.extent) (extent_of c.in-Some-first_extent.next) _ (extents_of c.args.extended c.loop-next.rest.now) (extents_of c.args.extended c.in-Some-first_extent.later.now)
+    refl c.in-Some-first_extent.ensures c.if-extent-left.true c.loop-next.invariant)
 
 pub loop-next-smaller : goal.loop-next-smaller
 loop-next-smaller c =
-    let one : length (extents_of c.loop-next.rest.now) ≡ length (extent_of c.in-Some-first_extent.next ∷ extents_of c.in-Some-first_extent.later.now) = ap length c.in-Some-first_extent.ensures in omega (arith, one)
+    let one : length (extents_of c.args.extended c.loop-next.rest.now) ≡ length (extent_of c.in-Some-first_extent.next ∷ extents_of c.args.extended c.in-Some-first_extent.later.now) = ap length c.in-Some-first_extent.ensures in omega (arith, one)
 
 pub loop-next-preserved : goal.loop-next-preserved
 loop-next-preserved c =
-    within_next c.args.size c.loop-next.left (extents_of c.args.descriptors.now) (extent_of c.loop-next.extent) (extent_of c.in-Some-first_extent.next) _ (extents_of c.loop-next.rest.now) (extents_of c.in-Some-first_extent.later.now)
-    refl c.in-Some-first_extent.ensures (subst (λ n. n < c.loop-next.left) c.from-length.ensures (omega (arith, c.if-length-left.false))) c.loop-next.invariant
-    ∙ ap (λ n. Within (c.loop-next.left - n) (extent_of c.in-Some-first_extent.next ∷ extents_of c.in-Some-first_extent.later.now)) (sym c.from-length.ensures)
+    within_next c.args.size c.loop-next.left (extents_of c.args.extended c.args.descriptors.now) (extent_of c.loop-next.extent) (extent_of c.in-Some-first_extent.next) _ (extents_of c.args.extended c.loop-next.rest.now) (extents_of c.args.extended c.in-Some-first_extent.later.now)
+    refl c.in-Some-first_extent.ensures (omega (arith, c.if-extent-left.false)) c.loop-next.invariant
 
 pub returns : goal.returns
 returns c =
-    sym (within_last c.args.size c.loop-next.left (extents_of c.args.descriptors.now) (extent_of c.loop-next.extent) _ (extents_of c.loop-next.rest.now) refl c.in_default-first_extent.ensures c.loop-next.invariant)
+    sym (within_last c.args.size c.loop-next.left (extents_of c.args.extended c.args.descriptors.now) (extent_of c.loop-next.extent) _ (extents_of c.args.extended c.loop-next.rest.now) refl c.in_default-first_extent.ensures c.loop-next.invariant)

@@ -1,52 +1,53 @@
 use Rattle.std.proofs.Common.{◌==◌, ◌∙◌, ap, arith, length, refl, sym}
 use Rattle.nbd_wire.specs.declared.chunks.TheConstants as chunks
-use Rattle.nbd_wire.specs.declared.message.Message.TheVariants.{Chunk}
+use Rattle.nbd_wire.specs.protocol.Transmission.{status_kind}
+use Rattle.nbd_state.specs.Heads.{chunk_with}
+use Rattle.nbd_state.proofs.HeadLemmas.{chunk_ends}
 use Rattle.std.specs.Prelude.{option_to_list}
 use Rattle.nbd_wire.specs.protocol.Contexts.{Status}
 use Rattle.nbd_wire.specs.protocol.Flags.{has}
 use Rattle.nbd_wire.specs.protocol.Operations.{Operation, ends_reply, has_failed, is_proper, pieces}
 use Rattle.nbd_wire.specs.protocol.Payloads.{extents_of}
 use Rattle.nbd_wire.specs.protocol.States.{with_reply}
-use Rattle.nbd_wire.specs.protocol.Statuses.{statuses}
+use Rattle.nbd_wire.specs.protocol.Statuses.{is_settled}
 use Rattle.nbd_wire.specs.protocol.Transmission.{total}
 use Rattle.nbd_laws.proofs.judge.BoolLemmas.{not_false, not_true}
 use Rattle.nbd_session.specs.internal.Asking.{done_by, finish_by}
 use Rattle.nbd_state.proofs.RecordingLemmas.{told_with}
-use Rattle.nbd_session.proofs.judge.ChunkFaultLemmas.{lacks, malformed_status, right_status, unknown_status, wrong_status}
+use Rattle.nbd_session.proofs.judge.ChunkFaultLemmas.{lacks, malformed_status, right_status, status_is, unknown_status, wrong_status}
 use Rattle.nbd_session.proofs.statuses.status_fault.Goals as goal
 
 pub returns-then-not-has_contexts : goal.returns-then-not-has_contexts
-returns-then-not-has_contexts c = λ core export e cookie s q shown u.
-    sym (unknown_status export e c.args.flags cookie c.args.payload.now (ap (λ cs. length cs == 0) q ∙ not_false _ (sym (c.has_contexts.ensures core s) ∙ c.if-not-has_contexts.true)))
+returns-then-not-has_contexts c = λ core export e at cookie s q shown u is.
+    sym (unknown_status c.args.extended at export e c.args.flags cookie c.args.payload.now (ap (λ cs. length cs == 0) q ∙ not_false _ (sym (c.has_contexts.ensures core s) ∙ c.if-not-has_contexts.true)))
 
 pub returns-in_default : goal.returns-in_default
-returns-in_default c = λ core export e cookie s q shown u.
-    sym (malformed_status export e c.args.flags cookie c.args.payload.now (sym c.in_default.ensures.same))
+returns-in_default c = λ core export e at cookie s q shown u is.
+    sym (malformed_status c.args.extended at export e c.args.flags cookie c.args.payload.now (sym c.in_default.ensures))
 
 pub returns-then-not-fits_status : goal.returns-then-not-fits_status
-returns-then-not-fits_status c = λ core export e cookie s q shown u.
-    let status : Status = record { id = c.in-Some.id; extents = extents_of c.in-Some.descriptors.now } in
-    sym (wrong_status export e c.args.flags cookie c.args.payload.now status (ap (λ cs. length cs == 0) q ∙ not_true _ (sym (c.has_contexts.ensures core s) ∙ c.if-not-has_contexts.false)) (sym c.in-Some.ensures.same)
+returns-then-not-fits_status c = λ core export e at cookie s q shown u is.
+    let status : Status = record { id = c.in-Some.id; extents = extents_of c.args.extended c.in-Some.descriptors.now } in
+    sym (wrong_status c.args.extended at export e c.args.flags cookie c.args.payload.now status (ap (λ cs. length cs == 0) q ∙ not_true _ (sym (c.has_contexts.ensures core s) ∙ c.if-not-has_contexts.false)) (sym c.in-Some.ensures)
     (sym (c.fits_status.ensures core export e s q shown u) ∙ c.if-not-fits_status.true))
 
 pub returns-then-has : goal.returns-then-has
-unfolding ends_reply
-returns-then-has c = λ core export e cookie s q shown u.
+returns-then-has c = λ core export e at cookie s q shown u is.
     let payload = c.args.payload.now in
-    let status : Status = record { id = c.in-Some.id; extents = extents_of c.in-Some.descriptors.now } in
-    let w : Operation = with_reply e (Chunk c.args.flags chunks.BLOCK_STATUS cookie payload) in
-    c.finish_fault.ensures core export e (statuses w) s q shown
-    (told_with export e (Chunk c.args.flags chunks.BLOCK_STATUS cookie payload) c.args.exchange.now (has c.args.flags chunks.DONE) shown u refl status (ap option_to_list (sym c.in-Some.ensures.same)))
+    let status : Status = record { id = c.in-Some.id; extents = extents_of c.args.extended c.in-Some.descriptors.now } in
+    let w : Operation = with_reply e (chunk_with at c.args.flags (status_kind c.args.extended) cookie payload) in
+    c.finish_fault.ensures core export e (is_settled w) s q shown
+    (told_with export e (chunk_with at c.args.flags (status_kind c.args.extended) cookie payload) c.args.exchange.now (has c.args.flags chunks.DONE) shown u (chunk_ends c.args.flags (status_kind c.args.extended) cookie payload at) status (status_is at c.args.extended is c.args.flags cookie payload ∙ ap option_to_list (sym c.in-Some.ensures)))
     ∙ ap (λ n. finish_by e.command e.length (is_proper export e) (has_failed e) n (lacks w)) (omega arith)
     ∙ ap (λ d. done_by d (finish_by e.command e.length (is_proper export e) (has_failed e) (total (pieces e)) (lacks w))) (sym (sym c.has.ensures ∙ c.if-has.true))
-    ∙ sym (right_status export e c.args.flags cookie payload status (ap (λ cs. length cs == 0) q ∙ not_true _ (sym (c.has_contexts.ensures core s) ∙ c.if-not-has_contexts.false)) (sym c.in-Some.ensures.same)
+    ∙ sym (right_status c.args.extended at export e c.args.flags cookie payload status (ap (λ cs. length cs == 0) q ∙ not_true _ (sym (c.has_contexts.ensures core s) ∙ c.if-not-has_contexts.false)) (sym c.in-Some.ensures)
     (sym (c.fits_status.ensures core export e s q shown u) ∙ c.if-not-fits_status.false))
 
 pub returns-else-has : goal.returns-else-has
-returns-else-has c = λ core export e cookie s q shown u.
+returns-else-has c = λ core export e at cookie s q shown u is.
     let payload = c.args.payload.now in
-    let status : Status = record { id = c.in-Some.id; extents = extents_of c.in-Some.descriptors.now } in
-    let w : Operation = with_reply e (Chunk c.args.flags chunks.BLOCK_STATUS cookie payload) in
+    let status : Status = record { id = c.in-Some.id; extents = extents_of c.args.extended c.in-Some.descriptors.now } in
+    let w : Operation = with_reply e (chunk_with at c.args.flags (status_kind c.args.extended) cookie payload) in
     ap (λ d. done_by d (finish_by e.command e.length (is_proper export e) (has_failed e) (total (pieces e)) (lacks w))) (sym (sym c.has.ensures ∙ c.if-has.false))
-    ∙ sym (right_status export e c.args.flags cookie payload status (ap (λ cs. length cs == 0) q ∙ not_true _ (sym (c.has_contexts.ensures core s) ∙ c.if-not-has_contexts.false)) (sym c.in-Some.ensures.same)
+    ∙ sym (right_status c.args.extended at export e c.args.flags cookie payload status (ap (λ cs. length cs == 0) q ∙ not_true _ (sym (c.has_contexts.ensures core s) ∙ c.if-not-has_contexts.false)) (sym c.in-Some.ensures)
     (sym (c.fits_status.ensures core export e s q shown u) ∙ c.if-not-fits_status.false))

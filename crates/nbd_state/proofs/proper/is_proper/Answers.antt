@@ -5,12 +5,12 @@ use Rattle.nbd_state.proofs.proper.is_proper.Goals as goal
 
 pub returns-then-request-ne-FLUSH : goal.returns-then-request-ne-FLUSH
 unfolding is_proper
-returns-then-request-ne-FLUSH c = λ payload contexts sizes replies h.
-    let known : c.is_known.result ≡ is_known (operation_of_head c.args.request.now payload contexts sizes replies) = c.is_known.ensures (operation_of_head c.args.request.now payload contexts sizes replies) refl h in
+returns-then-request-ne-FLUSH c = λ payload contexts filter sizes replies asks.
+    let known : c.is_known.result ≡ is_known (operation_of_head c.args.request.now payload contexts filter sizes replies) = c.is_known.ensures (operation_of_head c.args.request.now payload contexts filter sizes replies) refl asks.has_contexts_is in
     search rules
 
 pub returns-else-has_only : goal.returns-else-has_only
 unfolding is_proper
-returns-else-has_only c = λ payload contexts sizes replies h.
-    let known : c.is_known.result ≡ is_known (operation_of_head c.args.request.now payload contexts sizes replies) = c.is_known.ensures (operation_of_head c.args.request.now payload contexts sizes replies) refl h in
+returns-else-has_only c = λ payload contexts filter sizes replies asks.
+    let known : c.is_known.result ≡ is_known (operation_of_head c.args.request.now payload contexts filter sizes replies) = c.is_known.ensures (operation_of_head c.args.request.now payload contexts filter sizes replies) refl asks.has_contexts_is in
     search rules

@@ -9,7 +9,7 @@ use Rattle.nbd_state.proofs.statuses.zeroes_in.Goals as goal
 pub loop-extent-init : goal.loop-extent-init
 loop-extent-init c = (
   omega arith,
-  λ fits. (λ i. c.new-pieces.ensures.items i ++ zeroes_in (start i) c.args.length (extents_of c.args.descriptors.now)),
+  λ fits. (λ i. c.new-pieces.ensures.items i ++ zeroes_in (start i) c.args.length (extents_of c.args.extended c.args.descriptors.now)),
 )
   where
     start : c.args.offset + (c.args.length - c.args.length) ≡ c.args.offset
@@ -20,7 +20,7 @@ overflow_sub-length c = c.loop-extent.invariant.0
 
 pub loop-extent-smaller : goal.loop-extent-smaller
 loop-extent-smaller c =
-    let one : length (extents_of c.loop-extent.rest.now) ≡ length (extent_of c.in-Some.extent ∷ extents_of c.in-Some.later.now) = ap length c.in-Some.ensures in omega (arith, one)
+    let one : length (extents_of c.args.extended c.loop-extent.rest.now) ≡ length (extent_of c.in-Some.extent ∷ extents_of c.args.extended c.in-Some.later.now) = ap length c.in-Some.ensures in omega (arith, one)
 
 pub loop-extent-preserved : goal.loop-extent-preserved
 loop-extent-preserved c = (
@@ -28,10 +28,10 @@ loop-extent-preserved c = (
   λ fits.
       let l = c.loop-extent.invariant.0 in
       let x = extent_of c.in-Some.extent in
-      let xs = extents_of c.in-Some.later.now in
+      let xs = extents_of c.args.extended c.in-Some.later.now in
       let left = c.loop-extent.left in
       let whole = c.args.length in
-      let size : c.min-size.result ≡ min c.in-Some.extent.length left = c.min-size.ensures ∙ ap (λ n. min n left) c.from.ensures in
+      let size : c.min-size.result ≡ min c.in-Some.extent.length left = c.min-size.ensures in
       let at : c.saturating_add-at.result ≡ c.args.offset + (whole - left) = omega (arith, c.saturating_add-at.ensures, fits, l) in
       let found = c.loop-extent.pieces.items in
       (λ i. (c.in_ok-push_zero.ensures ∙ (λ j. found ++ zero_part (at j) (size j) c.in-Some.extent.flags)) i

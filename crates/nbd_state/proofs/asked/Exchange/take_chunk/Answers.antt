@@ -1,13 +1,20 @@
-use Rattle.std.proofs.Common.{◌≡◌, ◌∙◌, ap, false, is_some, refl, sym, true}
+use Rattle.std.proofs.Common.{◌≡◌, ◌∙◌, ◌∷◌, [], ap, Bool, false, is_some, refl, sym, true}
+use Rattle.nbd_wire.specs.protocol.Contexts.{Status}
 use Rattle.nbd_wire.specs.protocol.Payloads.{extents_of}
 use Rattle.nbd_wire.specs.protocol.Pieces.{chunk_piece}
 use Rattle.nbd_wire.specs.protocol.Operations.{is_error_chunk}
+use Rattle.nbd_wire.specs.protocol.Transmission.{status_kind}
 use Rattle.nbd_laws.proofs.requests.GoodLemmas.{status_content}
 use Rattle.nbd_state.specs.internal.Completing.{is_allocation_told}
 use Rattle.nbd_state.specs.Heads.{chunk_of}
 use Rattle.nbd_state.proofs.HeadLemmas.{chunk_ends, chunk_fails, chunk_gives}
 use Rattle.nbd_state.proofs.RecordingLemmas.{weaken}
 use Rattle.nbd_state.proofs.asked.Exchange.take_chunk.Goals as goal
+
+-- a status is no error
+no_error : (extended : Bool) → is_error_chunk (status_kind extended) ≡ false
+no_error false = refl
+no_error true = refl
 
 pub returns-clause-shown : goal.returns-clause-shown
 returns-clause-shown c = weaken c.take.result (λ x shown export e s u fits z.
@@ -23,9 +30,9 @@ returns-then-is_some-clause-shown c = weaken c.take_status.result (λ x shown ex
     let bytes = c.args.payload.now in
     let told = c.in-Some.ensures in
     let some : is_some c.args.self.now.asked.known_at ≡ true = sym c.is_some.ensures ∙ c.if-is_some.true in
-    shown export e (chunk_of h bytes) (record { id = c.in-Some.id; extents = extents_of c.in-Some.descriptors.now }) s u some (chunk_ends h.flags h.kind h.cookie bytes h.at ∙ sym c.has-ends.ensures)
-    (chunk_fails h.flags h.kind h.cookie bytes h.at ∙ ap is_error_chunk told.0)
-    (chunk_gives h.flags h.kind h.cookie bytes e.offset h.at ∙ ap chunk_piece (status_content h.kind bytes told.0)) told.1 refl)
+    shown export e (chunk_of h bytes) (record { id = c.in-Some.id; extents = extents_of (is_some c.args.head.now.at) c.in-Some.descriptors.now }) s u some (chunk_ends h.flags h.kind h.cookie bytes h.at ∙ sym c.has-ends.ensures)
+    (chunk_fails h.flags h.kind h.cookie bytes h.at ∙ ap is_error_chunk told.0 ∙ no_error (is_some h.at))
+    (chunk_gives h.flags h.kind h.cookie bytes e.offset h.at ∙ ap chunk_piece (status_content (is_some h.at) h.kind bytes told.0)) told.1 refl)
     c.take_status.ensures.shown
 
 pub returns-in-Some-clause-shown : goal.returns-in-Some-clause-shown
@@ -33,9 +40,10 @@ returns-in-Some-clause-shown c = weaken c.take_first_status.result (λ x shown e
     let h = c.args.head.now in
     let bytes = c.args.payload.now in
     let told = c.in-Some.ensures in
+    let status_with : Bool → Status = λ x. record { id = c.in-Some.id; extents = extents_of x c.in-Some.descriptors.now } in
     let none : is_some c.args.self.now.asked.known_at ≡ false = sym c.is_some.ensures ∙ c.if-is_some.false in
-    shown export e (chunk_of h bytes) s u fits none (chunk_ends h.flags h.kind h.cookie bytes h.at ∙ sym c.has-ends.ensures) (chunk_fails h.flags h.kind h.cookie bytes h.at ∙ ap is_error_chunk told.0)
-    (chunk_gives h.flags h.kind h.cookie bytes e.offset h.at ∙ ap chunk_piece (status_content h.kind bytes told.0)) told.1 (z ∙ ap (is_allocation_told e.contexts) told.1))
+    shown export e (chunk_of h bytes) s u fits none (chunk_ends h.flags h.kind h.cookie bytes h.at ∙ sym c.has-ends.ensures) (chunk_fails h.flags h.kind h.cookie bytes h.at ∙ ap is_error_chunk told.0 ∙ no_error (is_some h.at))
+    (chunk_gives h.flags h.kind h.cookie bytes e.offset h.at ∙ ap chunk_piece (status_content (is_some h.at) h.kind bytes told.0)) (told.1 ∙ ap (λ x. (status_with x) ∷ []) (sym c.is_some-in-Some.ensures)) (z ∙ ap (is_allocation_told e.contexts) told.1))
     c.take_first_status.ensures.shown
 
 pub returns-clause-noted : goal.returns-clause-noted
@@ -51,7 +59,7 @@ returns-then-is_some-clause-noted c = weaken c.take_status.result (λ x noted ex
     let h = c.args.head.now in
     let bytes = c.args.payload.now in
     noted export e (chunk_of h bytes) s u (chunk_ends h.flags h.kind h.cookie bytes h.at ∙ sym c.has-ends.ensures)
-    (chunk_gives h.flags h.kind h.cookie bytes e.offset h.at ∙ ap chunk_piece (status_content h.kind bytes c.in-Some.ensures.0)))
+    (chunk_gives h.flags h.kind h.cookie bytes e.offset h.at ∙ ap chunk_piece (status_content (is_some h.at) h.kind bytes c.in-Some.ensures.0)))
     c.take_status.ensures.noted
 
 pub returns-in-Some-clause-noted : goal.returns-in-Some-clause-noted
@@ -59,5 +67,5 @@ returns-in-Some-clause-noted c = weaken c.take_first_status.result (λ x noted e
     let h = c.args.head.now in
     let bytes = c.args.payload.now in
     noted export e (chunk_of h bytes) s u (sym c.is_some.ensures ∙ c.if-is_some.false) (chunk_ends h.flags h.kind h.cookie bytes h.at ∙ sym c.has-ends.ensures)
-    (chunk_gives h.flags h.kind h.cookie bytes e.offset h.at ∙ ap chunk_piece (status_content h.kind bytes c.in-Some.ensures.0)))
+    (chunk_gives h.flags h.kind h.cookie bytes e.offset h.at ∙ ap chunk_piece (status_content (is_some h.at) h.kind bytes c.in-Some.ensures.0)))
     c.take_first_status.ensures.noted

@@ -1,6 +1,5 @@
 use Rattle.std.proofs.Common.{◌++◌, ◌∙◌, ap, append-nil, false, if◌then◌else◌, ◌==◌, refl, sym, true}
-use Rattle.std.specs.BTreeSet.{contains}
-use Rattle.std.specs.Ordering.{nat_cmp}
+use Rattle.nbd_state.specs.Filters.{is_settled_by}
 use Rattle.nbd_state.proofs.RecordingLemmas.{exchange_shows_reply, pieces_kept, some_reply_yet, told_more}
 use Rattle.nbd_state.proofs.ReplyLemmas.{or-false}
 use Rattle.nbd_wire.specs.protocol.Rules.{noted}
@@ -15,8 +14,8 @@ returns-clause-shown c = λ export e m status s u some n f p is id.
     (record { flags = refl; command = refl; cookie = refl; offset = refl; length = refl; payload = refl; proper = refl; outside = refl })
     c.first-self.ensures (sym (or-false c.args.self.now.failed)) c.outcome_after-self.ensures
     (pieces_kept export e m pieces pieces s.pieces_are (λ q. absurd (some_reply_yet e.replies _ s.replied some q)) (sym (append-nil pieces) ∙ ap (λ l. pieces ++ l) (sym p)))
-    (told_more export e m c.args.self.now c.args.ends s u n _ status is
-    (λ goes_on q. c.in_ok-tell.ensures.told goes_on q ∙ ap (λ k. if k == q then true else contains nat_cmp c.args.self.now.told q) (sym id)))
+    (told_more export e m c.args.self.now c.args.ends s u n c.tell.new.self status is
+    (λ goes_on q. c.in_ok-tell.ensures.told goes_on q ∙ ap (λ k. if k == q then true else is_settled_by c.args.self.now.told q) (sym id)))
     (λ g. (c.ended-self.ensures ∙ open_still c.args.self.now.asked.ended_at c.args.ends c.args.counts.now (s.is_open u).0 g, (s.is_open u).1))
 
 pub returns-clause-noted : goal.returns-clause-noted

@@ -1,4 +1,4 @@
-use Rattle.std.proofs.Common.{◌==◌, ap, false, refl, subst}
+use Rattle.std.proofs.Common.{◌==◌, None, ap, false, refl, subst}
 use Rattle.nbd_wire.specs.declared.commands.TheConstants as commands
 use Rattle.nbd_laws.specs.Allowed.{MayAsk}
 use Rattle.nbd_wire.specs.declared.message.Message.TheVariants.{Chunk, ExtendedChunk, ExtendedRequest, Request, Simple}
@@ -85,7 +85,7 @@ returns-in-Request-clause-shown c = on c.request.result (λ f core r s sn ok.
     let may : MayComplete core core.phase (Request c.in-Request.flags c.in-Request.command c.in-Request.cookie c.in-Request.offset c.in-Request.length c.in-Request.payload) = subst (λ m. MayComplete core core.phase m) c.in-Request.is ok in
     let a = asked_in core core.phase c.in-Request.flags c.in-Request.command c.in-Request.cookie c.in-Request.offset c.in-Request.length c.in-Request.payload may in
     shows_same core c.args.message.now (Request c.in-Request.flags c.in-Request.command c.in-Request.cookie c.in-Request.offset c.in-Request.length c.in-Request.payload) c.in-Request.is
-    (subst (λ l. Shows c.request.new.self (core_with_request (c.in-Request.command == commands.DISC) core (operation_asked false core c.in-Request.flags c.in-Request.command c.in-Request.cookie c.in-Request.offset l c.in-Request.payload))) c.from.ensures
+    (subst (λ l. Shows c.request.new.self (core_with_request (c.in-Request.command == commands.DISC) core (operation_asked false core c.in-Request.flags c.in-Request.command c.in-Request.cookie c.in-Request.offset l c.in-Request.payload None))) c.from.ensures
     (f core a.0 s a.1 (λ d. subst (λ b. MayAsk b core c.in-Request.cookie c.in-Request.offset c.in-Request.length) d a.2))))
     c.request.ensures.shown
 

@@ -1,8 +1,8 @@
-use Rattle.std.proofs.Common.{◌≡◌, ◌∷◌, ◌∙◌, arith, sym}
+use Rattle.std.proofs.Common.{false, ◌≡◌, ◌∷◌, ◌∙◌, arith, sym}
 use Rattle.nbd_wire.specs.protocol.Payloads.{extents_of, number_at}
 use Rattle.nbd_wire.proofs.ListedReadLemmas.{cut_behind}
 use Rattle.nbd_wire.proofs.StatusLemmas.{extents-first, extents-none}
-use Rattle.nbd_wire.proofs.chunk_payloads.first_extent.Goals as goal
+use Rattle.nbd_wire.proofs.chunk_payloads.first_short.Goals as goal
 
 pub returns-then-descriptors-lt-DESCRIPTOR_LENGTH : goal.returns-then-descriptors-lt-DESCRIPTOR_LENGTH
 returns-then-descriptors-lt-DESCRIPTOR_LENGTH c = extents-none c.args.descriptors.now (omega (arith, c.if-descriptors-lt-DESCRIPTOR_LENGTH.true))
@@ -10,7 +10,7 @@ returns-then-descriptors-lt-DESCRIPTOR_LENGTH c = extents-none c.args.descriptor
 pub returns : goal.returns
 returns c =
     let bytes = c.args.descriptors.now in
-    let size : c.u32_at.result ≡ number_at 0 4 bytes = c.u32_at.ensures in
-    let flags : c.u32_at-2.result ≡ number_at 4 4 bytes = c.u32_at-2.ensures in
+    let size : c.from.result ≡ number_at 0 4 bytes = c.from.ensures ∙ c.u32_at.ensures in
+    let flags : c.from-2.result ≡ number_at 4 4 bytes = c.from-2.ensures ∙ c.u32_at-2.ensures in
     extents-first bytes (omega (arith, c.if-descriptors-lt-DESCRIPTOR_LENGTH.false))
-    ∙ (λ i. record { length = sym size i; flags = sym flags i } ∷ extents_of (sym (cut_behind 8 bytes) i))
+    ∙ (λ i. record { length = sym size i; flags = sym flags i } ∷ extents_of false (sym (cut_behind 8 bytes) i))

@@ -1,0 +1,43 @@
+use Rattle.std.proofs.Common.{◌≡◌, ◌∷◌, ◌==◌, ◌&&◌, ◌||◌, ◌∙◌, ap, arith, length, not, sym}
+use Rattle.std.specs.BTreeSet.{contains}
+use Rattle.std.specs.Ordering.{nat_cmp}
+use Rattle.nbd_wire.specs.protocol.Contexts.{are_once, has_id, is_among}
+use Rattle.nbd_wire.specs.protocol.Payloads.{ids_of}
+use Rattle.nbd_state.proofs.FilterLemmas.{and_all, and_twice, neither, now_among, once_same, once_step, or_none}
+use Rattle.nbd_state.proofs.selection.Selection.take_ids.Goals as goal
+
+pub loop-id-init : goal.loop-id-init
+loop-id-init c = λ selection s empty. (
+  once_same _ (has_id selection.contexts) (ids_of c.args.ids.now) (λ i. ap (λ b. has_id selection.contexts i && not b) (empty i) ∙ and_all (has_id selection.contexts i)),
+  λ q. ap (λ b. b || (has_id selection.contexts q && is_among (ids_of c.args.ids.now) q)) (empty q),
+)
+
+pub loop-id-smaller : goal.loop-id-smaller
+loop-id-smaller c = let one : length (ids_of c.loop-id.rest.now) ≡ length (c.in-Some.id ∷ ids_of c.in-Some.later.now) = ap length c.in-Some.ensures in omega (arith, one)
+
+pub loop-id-preserved : goal.loop-id-preserved
+loop-id-preserved c = λ selection s empty.
+    let h = c.loop-id.invariant selection s empty in
+    let taken = c.in_ok-once.ensures selection s in
+    let in_force = has_id selection.contexts in
+    let old = c.loop-id.asked in
+    let once = c.loop-id.once in
+    let id = c.in-Some.id in
+    let later = ids_of c.in-Some.later.now in (
+      ap (λ b. (once && b) && are_once (λ i. in_force i && not (contains nat_cmp c.take_id.new.asked i)) later) taken.0
+          ∙ once_step in_force (λ i. in_force i && not (contains nat_cmp old i)) (λ i. in_force i && not (contains nat_cmp c.take_id.new.asked i)) once id later (and_twice (in_force id) (not (contains nat_cmp old id)))
+          (λ i. ap (λ b. in_force i && not b) (taken.1 i) ∙ neither (in_force i) (in_force id && (id == i)) (contains nat_cmp old i))
+          ∙ ap (λ ids. once && are_once (λ i. in_force i && not (contains nat_cmp old i)) ids) (sym c.in-Some.ensures) ∙ h.0,
+      λ q. ap (λ b. b || (in_force q && is_among later q)) (taken.1 q)
+          ∙ now_among in_force id q (contains nat_cmp old q) (is_among later q)
+          ∙ ap (λ ids. contains nat_cmp old q || (in_force q && is_among ids q)) (sym c.in-Some.ensures) ∙ h.1 q,
+    )
+
+pub returns : goal.returns
+returns c = λ selection s empty.
+    let h = c.loop-id.invariant selection s empty in
+    let in_force = has_id selection.contexts in
+    let asked = c.loop-id.asked in (
+      sym (and_all c.loop-id.once) ∙ ap (λ ids. c.loop-id.once && are_once (λ i. in_force i && not (contains nat_cmp asked i)) ids) (sym c.in_default.ensures) ∙ h.0,
+      λ q. sym (or_none (contains nat_cmp asked q) (in_force q)) ∙ ap (λ ids. contains nat_cmp asked q || (in_force q && is_among ids q)) (sym c.in_default.ensures) ∙ h.1 q,
+    )
