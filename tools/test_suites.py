@@ -1,5 +1,5 @@
-"""Sessions of the suites of libnbd, nbdkit, qemu, nbd-server and rust-nbd: the line of `check` in both profiles, and what the reader of
-orders and contents (served.py) says of them.
+"""Sessions of the suites of libnbd, nbdkit, qemu, nbd-server and rust-nbd, and of programs of Debian 13: the line of `check` in both
+profiles, and what the reader of orders and contents (served.py) says of them.
 
 recorded/suites.tar.xz has their captures, and recorded/suites.tsv a line for each:
 

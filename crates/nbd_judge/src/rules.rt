@@ -79,14 +79,14 @@ fn sentence_of(fault: WireFault) -> &'static str {
         WireFault::BadChunk =>
             "A chunk is of a known type, and its payload has the form of this type; one of type NONE has DONE.",
         WireFault::BadContent =>
-            "Content answers a READ, lies in its range and shares no byte with content before it, and a READ with DF gets one piece; an error's offset lies in the range; a status answers a BLOCK_STATUS, is the only one of a metadata context in force, and its last extent alone may pass the range.",
+            "Content answers a READ, lies in its range and shares no byte with content before it, and a READ with DF gets one piece; an error's offset lies in the range; a status answers a BLOCK_STATUS, is the only one of a metadata context in force that this asks, and its last extent alone may pass the range.",
         WireFault::IncompleteRead =>
             "The reply to a READ that succeeds has every byte of its range.",
         WireFault::SuccessOfImproper =>
             "An option or a request that the client should not have sent is answered by an error, unless block sizes alone forbid it.",
         WireFault::BadDisconnect => "DISC has neither an offset nor a length.",
         WireFault::IncompleteStatus =>
-            "The reply to a BLOCK_STATUS that succeeds has the status of each metadata context in force.",
+            "The reply to a BLOCK_STATUS that succeeds has the status of each metadata context in force that it asks.",
         WireFault::BadReplyOffset =>
             "A chunk with an extended header has the offset of the request that it answers.",
         WireFault::Unfinished => "The capture has each message that began to its last byte.",

@@ -104,9 +104,9 @@ pub fn nothing_after_disconnect()
     ensures { NothingAfterDisconnect }
 {}
 
-/// The replies to a request have its cookie and are one simple reply, or chunks of which only the last
-/// ends the reply; each is of a form that the request and the structured replies in force allow. A BLOCK_STATUS whose
-/// length is not 0 has, where its reply ended without a failure, a status of each metadata context in force.
+/// The replies to a request have its cookie and are one simple reply, or chunks of which only the last ends the reply; each is
+/// of a form that the request and the structured replies in force allow. A BLOCK_STATUS whose length is not 0 has, where its
+/// reply ended without a failure, a status of each metadata context in force that it asks.
 pub fn replies_are_whole()
     ensures { RepliesAreWhole }
 {}
