@@ -25,7 +25,7 @@ from collections import namedtuple
 
 import served
 from built import TOP, Ended, Room, Tally
-from messages import front, records_of, text
+from messages import front, longest_runs, one_by_one, records_of, text
 
 RECORDED = TOP / "tools/recorded"
 PROFILES = "base", "wide"
@@ -78,11 +78,15 @@ def asked(room, session, capture, order, profile):
 
 
 def judged(tally, room, session, capture):
-    """A session as it was recorded."""
+    """A session as it was recorded, and in wide also as records of one byte and as longest runs."""
     for profile in PROFILES:
         name, wanted, now = f"{session.file}, {profile}", getattr(session, profile), line_of_today(session, profile)
         order = order_of(session, wanted)
         tally.want(name, asked(room, session, capture, order, profile), ended(now))
+        if profile == "wide":
+            for way in (one_by_one, longest_runs):
+                told = asked(room, session, text(way(records_of(capture))), order, profile)
+                tally.want(f"{name}, {way.__name__}", told, ended(now))
         if session.order != SEARCHED:
             found = served.line(records_of(capture), order, session.start, profile)
             tally.want(f"{name}: a reader", found, f"{now}\n")
