@@ -1,142 +1,146 @@
-//! One order of all requests, as the ranges that were searched want it: of whole requests, or in parts.
+//! One order of all requests, as the registers that were searched want it: of whole requests, or in parts.
 
-use crate::scene::{NEVER, Request, Scene};
-use crate::sweep::Kept;
-use crate::work::{Work, keep};
+use crate::scene::{NEVER, Patch, Scene};
+use crate::work::Work;
 use nbd_wire::{Entry, Part};
-use std::alloc::Global;
 
-/// How often moments are put off before an order of whole requests is given up.
-const PASSES: usize = 100;
+/// How often moments are put off before an order of whole requests is given up. Where that ends at all, it took four times at most.
+const PASSES: usize = 16;
 
-impl Scene {
-    /// Puts off the requests that were answered, and those that a range wants, as far as the ranges want it. Where that does not end,
-    /// or comes too late for a request, whole requests have no order.
-    pub fn arrange(&mut self, work: &mut Work, list: &[Kept]) {
-        for _ in 0..PASSES {
-            work.spend(list.len());
-            if self.is_torn || !self.put_off(list) {
-                return;
-            }
-        }
-        self.is_torn = true;
-    }
+/// The slot in which a request is served whole, or `NEVER` where it is not, and its place in that slot.
+pub type Moment = (usize, usize);
 
-    // Puts each request of a range off behind the one before it; whether that changed any.
-    fn put_off(&mut self, list: &[Kept]) -> bool {
-        let mut is_changed = false;
-        let (mut range, mut first) = (0, (0, 0));
-        for (lo, _, _, _, request) in list {
-            if *request >= self.requests.len() {
-                break;
-            }
-            if *lo != range {
-                (range, first) = (*lo, (0, 0));
-            }
-            let one = &mut self.requests[*request];
-            if one.moment.0 == NEVER {
-                one.moment.0 = *request;
-            }
-            if one.moment < first {
-                (one.moment, is_changed) = (first, true);
-            }
-            self.is_torn |= one.due < one.moment.0;
-            first = (one.moment.0, one.moment.1.saturating_add(1));
-        }
-        is_changed
-    }
-}
+/// A request that is served in a register, or 0 where a register begins; and the register's first offset, and the one behind it.
+pub type Served = (usize, u64, u64);
 
 // What is served atomically: its moment, the request, and the range from its first offset to the one behind it.
-type Piece = ((usize, usize), usize, u64, u64);
+type Piece = (Moment, usize, u64, u64);
 
-/// An order of all requests: each as it was arranged, or, where whole requests have no order, each of the ranges in its own order and
-/// all else as it arrives. Then a range keeps its order and no part is late, since they are sorted by their slots.
-pub fn entries_of(alloc: Global, work: &mut Work, scene: &Scene, list: &[Kept]) -> Vec<Entry> {
-    let mut pieces = Vec::new(alloc);
-    if scene.is_torn {
-        add_ranges(&mut pieces, list, &mut work.is_lost);
-        add_rest(&mut pieces, scene, &mut work.is_lost);
-    } else {
-        add_whole(&mut pieces, scene, &mut work.is_lost);
+/// The moments of requests as they arrive; those that were not answered have none.
+pub fn arrival(requests: &[Patch], work: &mut Work) -> Vec<Moment> {
+    let mut moments = Vec::new(work.alloc);
+    for request in 0..requests.len() {
+        let is_out = requests[request].due == NEVER;
+        work.keep(&mut moments, (if is_out { NEVER } else { request }, 0));
     }
-    pieces.sort_unstable();
-    joined(alloc, scene, &pieces, &mut work.is_lost)
+    moments
 }
 
-// Adds what is served in the ranges, but for the start.
-fn add_ranges(pieces: &mut Vec<Piece>, list: &[Kept], is_lost: &mut bool) {
-    let (mut range, mut first) = (0, (0, 0));
-    for (lo, hi, _, _, request) in list {
-        if *lo != range {
-            (range, first) = (*lo, (0, 0));
+/// Puts off the requests that were answered, and those that a register wants, as far as the registers want it; whether that changed
+/// any, ends, and makes none late.
+pub fn arrange(
+    served: &[Served],
+    requests: &[Patch],
+    moments: &mut [Moment],
+    work: &mut Work,
+) -> bool {
+    for pass in 0..PASSES {
+        work.spend(served.len().saturating_mul(2));
+        match put_off(served, requests, moments) {
+            Some(true) if !work.is_over() => {}
+            Some(false) => return pass > 0,
+            _ => return false,
         }
-        let moment = first.max((*request, 0));
-        if *request > 0 {
-            keep(pieces, (moment, *request, *lo, *hi), is_lost);
-        }
-        first = (moment.0, moment.1.saturating_add(1));
     }
+    false
 }
 
-// Adds what of the requests that were answered is not served yet, as it arrives; also those without a range. Of a BLOCK_STATUS that
-// may be a part of a range that was searched, since it reads only what it calls zero.
-fn add_rest(pieces: &mut Vec<Piece>, scene: &Scene, is_lost: &mut bool) {
-    pieces.sort_unstable_by_key(|piece| (piece.1, piece.2));
-    let (served, mut next) = (pieces.len(), 0);
-    for request in 1..scene.requests.len() {
-        let one = &scene.requests[request];
-        let (mut at, first) = (one.lo, next);
-        for i in first..served {
-            let Some((_, owner, lo, hi)) = pieces.get(i).copied() else {
-                break;
-            };
-            if owner != request {
-                break;
-            }
-            add_answered(pieces, request, one, (at, lo), is_lost);
-            (at, next) = (hi, i + 1);
+// Puts each request of a register off behind the one before it: whether that changed any; None where one would be late.
+fn put_off(served: &[Served], requests: &[Patch], moments: &mut [Moment]) -> Option<bool> {
+    let (mut is_changed, mut first) = (false, (0, 0));
+    for (request, _, _) in served {
+        if *request == 0 || *request >= moments.len() {
+            first = (0, 0);
+            continue;
         }
-        add_answered(pieces, request, one, (at, one.hi), is_lost);
+        let old = moments[*request];
+        let is_out = old.0 == NEVER;
+        first = first.max(if is_out { (*request, 0) } else { old });
+        is_changed |= first != old;
+        moments[*request] = first;
+        if requests.get(*request)?.due < first.0 {
+            return None;
+        }
+        first.1 = first.1.saturating_add(1);
     }
+    Some(is_changed)
 }
 
-// Adds what of a request that was answered lies between two offsets, as it arrives; also one without a range.
-fn add_answered(
+/// The order in which each register has its own, and what is not served in these is at its moment. Where the moments are those of
+/// arrival a register keeps its order and no part is late, since they are sorted by their slots.
+pub fn entries_of(
+    scene: &Scene,
+    moments: &[Moment],
+    served: &[Served],
+    work: &mut Work,
+) -> Vec<Entry> {
+    // The offsets up to which requests are served: the registers of one stand by their offsets.
+    let (mut pieces, mut ends) = (Vec::new(work.alloc), Vec::new(work.alloc));
+    for one in &scene.requests {
+        work.keep(&mut ends, one.lo);
+    }
+    add_registers(&mut pieces, &mut ends, moments, served, work);
+    add_rest(&mut pieces, &ends, moments, &scene.requests, work);
+    joined(scene, &mut pieces, work)
+}
+
+// Adds what is served in the registers, and what of the same requests lies before that.
+fn add_registers(
     pieces: &mut Vec<Piece>,
-    request: usize,
-    one: &Request,
-    between: (u64, u64),
-    is_lost: &mut bool,
+    ends: &mut [u64],
+    moments: &[Moment],
+    served: &[Served],
+    work: &mut Work,
 ) {
-    let (lo, hi) = between;
-    if one.due != NEVER && (lo < hi || one.lo == one.hi) {
-        keep(pieces, ((request, 0), request, lo, hi), is_lost);
+    let mut first = (0, 0);
+    for (request, lo, hi) in served {
+        if *request == 0 || *request >= ends.len().min(moments.len()) {
+            first = (0, 0);
+            continue;
+        }
+        if ends[*request] < *lo {
+            work.keep(pieces, (moments[*request], *request, ends[*request], *lo));
+        }
+        first = (*request, 0).max(first);
+        work.keep(pieces, (first, *request, *lo, *hi));
+        first.1 = first.1.saturating_add(1);
+        ends[*request] = *hi;
     }
 }
 
-// Adds each request that has a moment, whole.
-fn add_whole(pieces: &mut Vec<Piece>, scene: &Scene, is_lost: &mut bool) {
-    for request in 1..scene.requests.len() {
-        let one = &scene.requests[request];
-        if one.moment.0 != NEVER {
-            keep(pieces, (one.moment, request, one.lo, one.hi), is_lost);
+// Adds what is not served yet; also requests without a range.
+fn add_rest(
+    pieces: &mut Vec<Piece>,
+    ends: &[u64],
+    moments: &[Moment],
+    requests: &[Patch],
+    work: &mut Work,
+) {
+    for request in 1..ends.len().min(moments.len()).min(requests.len()) {
+        let (one, end) = (&requests[request], ends[request]);
+        if end < one.hi || one.lo == one.hi {
+            work.keep(pieces, (moments[request], request, end, one.hi));
         }
     }
 }
 
-// The entries of pieces. Those of one request that follow each other are one entry.
-fn joined(alloc: Global, scene: &Scene, pieces: &[Piece], is_lost: &mut bool) -> Vec<Entry> {
-    let mut entries = Vec::new(alloc);
+// The entries of the pieces that have a moment. Those of one request that follow each other are one entry.
+fn joined(scene: &Scene, pieces: &mut [Piece], work: &mut Work) -> Vec<Entry> {
+    work.spend(pieces.len().saturating_mul(16));
+    pieces.sort_unstable();
+    let mut entries = Vec::new(work.alloc);
     let (mut last, mut from, mut to) = (0, 0, 0);
-    for (_, request, lo, hi) in pieces {
+    for ((slot, _), request, lo, hi) in pieces {
+        if *slot == NEVER {
+            break;
+        }
         if *request == last && *lo == to {
             let _ = entries.pop();
         } else {
             from = *lo;
         }
         (last, to) = (*request, *hi);
-        keep(&mut entries, entry_of(scene, last, from, to), is_lost);
+        work.keep(&mut entries, entry_of(scene, last, from, to));
     }
     entries
 }

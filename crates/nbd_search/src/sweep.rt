@@ -4,14 +4,10 @@
 //! to its value or hidden directly before the last switch; so does a READ in its last slot with an open change of its value.
 
 use crate::columns::{COUNT, Columns};
+use crate::order::Served;
 use crate::scene::{NEVER, Patch};
-use crate::work::{Work, keep};
-use std::alloc::Global;
+use crate::work::Work;
 use std::mem;
-
-/// What is served in a range: its first offset and the one behind it, the turn and the place in that, and the request. So they are
-/// sorted by ranges, and in a range as they are served.
-pub type Kept = (u64, u64, usize, usize, usize);
 
 /// What a search comes to.
 #[derive(Clone, Copy, Drop)]
@@ -22,16 +18,6 @@ pub enum Outcome {
     NoOrder(usize),
     /// There were too many states, or the search as a whole is over.
     BrokenOff,
-}
-
-// A request that was served.
-#[derive(Clone, Copy, Drop)]
-struct Served {
-    request: usize,
-    // What one state has served is in order where it is by turns, and then by places in the log.
-    turn: usize,
-    // The place of what the state served before it in the log, behind that; 0 for nothing.
-    before: usize,
 }
 
 // One way in which the operations so far can have been served.
@@ -54,47 +40,43 @@ impl State {
     fn has_served(&self, one: &Patch) -> bool {
         self.debt.has(one.column) != one.is_read
     }
-
-    // Serves an operation, before its last switch or behind it.
-    fn serve(&mut self, one: &Patch, behind: usize, log: &mut Vec<Served>, is_lost: &mut bool) {
-        let served = Served {
-            request: one.request,
-            turn: self.turn.saturating_add(behind),
-            before: self.log,
-        };
-        keep(log, served, is_lost);
-        self.log = log.len();
-        self.debt.flip(one.column);
-    }
 }
+
+// A request that was served, and its turn: what one state has served is in order where it is by turns, and then by places in the log.
+// Then the place of what the state served before it in the log, behind that; 0 for nothing.
+type Logged = (usize, usize, usize);
 
 /// A search that goes on slot by slot.
 #[derive(Drop)]
 pub struct Sweep {
-    alloc: Global,
     /// What it may cost.
     pub work: Work,
     // The operations that have arrived and are not due yet, by their columns; what is closed has no request.
     open: Vec<Patch>,
     states: Vec<State>,
-    log: Vec<Served>,
+    // Room for others.
+    room: Vec<State>,
+    log: Vec<Logged>,
     // The last slot that was gone through.
     slot: usize,
     // There were too many states or columns.
     is_wide: bool,
+    // A change was hidden: the log has that behind what it was served before.
+    has_hidden: bool,
 }
 
 impl Sweep {
     /// A search that has not begun.
-    pub fn new(alloc: Global, work: Work) -> Sweep {
+    pub fn new(work: Work) -> Sweep {
         Sweep {
-            alloc,
-            work,
-            open: Vec::new(alloc),
-            states: Vec::new(alloc),
-            log: Vec::new(alloc),
+            open: Vec::new(work.alloc),
+            states: Vec::new(work.alloc),
+            room: Vec::new(work.alloc),
+            log: Vec::new(work.alloc),
             slot: 0,
             is_wide: false,
+            has_hidden: false,
+            work,
         }
     }
 
@@ -102,10 +84,8 @@ impl Sweep {
     pub fn run(&mut self, operations: &[Patch]) -> Outcome {
         self.begin();
         for one in operations {
-            if !one.is_out && !self.has_ended() {
-                self.go_on(one.request);
-                self.arrive(one);
-            }
+            self.go_on(one.request);
+            self.arrive(one);
         }
         self.go_on(NEVER);
         if self.is_wide || self.work.is_over() {
@@ -123,7 +103,7 @@ impl Sweep {
         self.open.clear();
         self.log.clear();
         self.states.clear();
-        self.is_wide = false;
+        (self.is_wide, self.has_hidden) = (false, false);
         let state = State {
             value: None,
             last: 0,
@@ -131,38 +111,33 @@ impl Sweep {
             log: 0,
             debt: Columns::new(),
         };
-        keep(&mut self.states, state, &mut self.work.is_lost);
+        self.work.keep(&mut self.states, state);
     }
 
-    // Whether it is of no use to go on.
-    fn has_ended(&self) -> bool {
-        self.states.is_empty() || self.is_wide || self.work.is_over()
-    }
-
-    // Goes through the slots before the arrival of a request, while there are states.
+    // Goes through the slots before the arrival of a request.
     fn go_on(&mut self, request: usize) {
-        self.work.spend(self.states.len().saturating_add(32));
+        self.work.spend(self.states.len().saturating_add(8));
         for _ in 0..self.open.len() {
-            match self.next_due(request) {
-                Some(one) if !self.has_ended() => self.fall_due(&one),
+            self.work.spend(self.open.len() / 4);
+            let (mut first, mut due) = (None, request);
+            for one in &self.open {
+                if one.due < due {
+                    (first, due) = (Some(*one), one.due);
+                }
+            }
+            match first {
+                Some(one) if !self.states.is_empty() => self.fall_due(&one),
                 _ => break,
             }
+            // Where there is too much nothing goes on.
             self.is_wide |= self.states.len() as u64 > self.work.limits.states;
-        }
-    }
-
-    // Of the open operations that are due before the arrival of a request the first.
-    fn next_due(&self, request: usize) -> Option<Patch> {
-        let (mut found, mut due) = (None, request);
-        for one in &self.open {
-            if one.due < due {
-                (found, due) = (Some(*one), one.due);
+            if self.is_wide || self.work.is_over() {
+                self.states.clear();
             }
         }
-        found
     }
 
-    // An operation arrives: a READ is served where it matches.
+    // An operation arrives: no state has served it, but a READ is served where it matches.
     fn arrive(&mut self, one: &Patch) {
         let mut column = self.open.len();
         for place in 0..self.open.len() {
@@ -171,23 +146,17 @@ impl Sweep {
             }
         }
         let one = Patch { column, ..*one };
-        if column < self.open.len() {
-            self.open[column] = one;
-        } else {
-            keep(&mut self.open, one, &mut self.work.is_lost);
+        match self.open.get_mut(column) {
+            Some(closed) => *closed = one,
+            None => self.work.keep(&mut self.open, one),
         }
         self.is_wide |= column >= COUNT;
-        self.begin_with(&one);
-    }
-
-    // No state has served what arrives; a READ is served where it matches.
-    fn begin_with(&mut self, one: &Patch) {
         for state in self.states.iter_mut() {
-            if state.has_served(one) {
-                state.debt.flip(one.column);
+            if state.has_served(&one) {
+                state.debt.flip(column);
             }
             if one.reads(state.value) {
-                state.serve(one, 1, &mut self.log, &mut self.work.is_lost);
+                serve(state, &one, 1, &mut self.log, &mut self.work);
             }
         }
     }
@@ -195,10 +164,10 @@ impl Sweep {
     // An operation is in its last slot: each state that has not served it does so, in each way.
     fn fall_due(&mut self, one: &Patch) {
         self.slot = one.due;
-        let states = mem::replace(&mut self.states, Vec::new(self.alloc));
+        let mut states = self.take_states();
         for state in &states {
             if state.has_served(one) {
-                keep(&mut self.states, *state, &mut self.work.is_lost);
+                self.work.keep(&mut self.states, *state);
             } else {
                 self.branch(state, one);
             }
@@ -206,7 +175,17 @@ impl Sweep {
         if let Some(open) = self.open.get_mut(one.column) {
             (open.request, open.due) = (NEVER, NEVER);
         }
-        self.prune();
+        states.clear();
+        self.room = states;
+        if self.states.len() > 1 {
+            self.prune();
+        }
+    }
+
+    // The states, which are none then.
+    fn take_states(&mut self) -> Vec<State> {
+        let room = mem::replace(&mut self.room, Vec::new(self.work.alloc));
+        mem::replace(&mut self.states, room)
     }
 
     // Adds what a state becomes by serving what is due: by a switch in this slot to a change with which it is served, or where that
@@ -226,29 +205,24 @@ impl Sweep {
     // Adds the state with what is due served by such a change to this value, by a switch or hidden, and with the open READs that match
     // it and had arrived there; if there is such a change.
     fn put(&mut self, state: &State, one: &Patch, value: Option<u64>, is_switch: bool) {
-        self.work.spend(self.open.len().saturating_add(32));
+        self.work.spend((self.open.len() / 2).saturating_add(8));
         let slot = if is_switch { self.slot } else { state.last };
         let Some(change) = self.change(state, one, value, slot) else {
             return;
         };
-        let mut state = *state;
+        let (mut state, behind) = (*state, usize::from(is_switch));
+        self.has_hidden |= !is_switch;
         if is_switch {
-            state.value = value;
-            state.last = slot;
+            (state.value, state.last) = (value, slot);
             state.turn = state.turn.saturating_add(2);
         }
-        self.serve_all(&mut state, &change, slot, usize::from(is_switch));
-        keep(&mut self.states, state, &mut self.work.is_lost);
-    }
-
-    // A state serves a change in this slot, and with it the open READs that match it and had arrived there.
-    fn serve_all(&mut self, state: &mut State, change: &Patch, slot: usize, behind: usize) {
-        state.serve(change, behind, &mut self.log, &mut self.work.is_lost);
+        serve(&mut state, &change, behind, &mut self.log, &mut self.work);
         for open in &self.open {
-            if open.reads(change.value) && open.request <= slot && !state.has_served(open) {
-                state.serve(open, behind, &mut self.log, &mut self.work.is_lost);
+            if open.reads(value) && open.request <= slot && !state.has_served(open) {
+                serve(&mut state, open, behind, &mut self.log, &mut self.work);
             }
         }
+        self.work.keep(&mut self.states, state);
     }
 
     // The change with which what is due is served, if it had arrived at this slot: itself, or of the open changes to this value that
@@ -272,44 +246,54 @@ impl Sweep {
 
     // Drops each state for which another one can stand.
     fn prune(&mut self) {
-        let mut states = mem::replace(&mut self.states, Vec::new(self.alloc));
+        let mut states = self.take_states();
+        self.work.spend(states.len().saturating_mul(16));
         states.sort_unstable_by_key(|state| (state.value, NEVER - state.last, state.debt.words));
         let (mut first, mut value) = (0, None);
         for state in &states {
             if state.value != value {
                 (first, value) = (self.states.len(), state.value);
             }
-            self.work.spend(self.states.len().saturating_sub(first));
             if !self.is_dominated(state, first) {
-                keep(&mut self.states, *state, &mut self.work.is_lost);
+                self.work.keep(&mut self.states, *state);
             }
         }
+        states.clear();
+        self.room = states;
     }
 
     // Whether one of the states from `first` on has no more against it than this one, and can still hide the changes that this one
     // has served besides: they had arrived before its last switch.
-    fn is_dominated(&self, state: &State, first: usize) -> bool {
+    fn is_dominated(&mut self, state: &State, first: usize) -> bool {
         for other in self.states.get(first..).unwrap_or(&[]) {
-            if other.debt.are_among(&state.debt) && self.can_hide(other, state) {
-                return true;
+            self.work.spend(1);
+            if other.debt.are_among(&state.debt) {
+                self.work.spend(self.open.len());
+                if can_hide(&self.open, other, state) {
+                    return true;
+                }
             }
         }
         false
     }
 
-    fn can_hide(&self, other: &State, state: &State) -> bool {
-        for one in &self.open {
-            let is_late = !one.is_read && one.request > other.last;
-            if is_late && state.has_served(one) && !other.has_served(one) {
-                return false;
-            }
+    /// Adds what was served in this range to a list: request 0 stands for what was left before.
+    pub fn trace(&mut self, lo: u64, hi: u64, served: &mut Vec<Served>) {
+        let mut list = self.chain();
+        self.work.spend(list.len().saturating_mul(8));
+        list.reverse();
+        if self.has_hidden {
+            list.sort_unstable();
         }
-        true
+        for (_, _, request) in &list {
+            self.work.keep(served, (*request, lo, hi));
+        }
     }
 
-    /// Adds what was served in this range to a list.
-    pub fn trace(&mut self, lo: u64, hi: u64, list: &mut Vec<Kept>) {
-        let mut place = match self.states.get(0) {
+    // What a state has served, backwards: the turns, the places in the log, and the requests. What was left before was served first.
+    fn chain(&mut self) -> Vec<Logged> {
+        let mut list = Vec::new(self.work.alloc);
+        let mut place = match self.states.first() {
             Some(state) => state.log,
             None => 0,
         };
@@ -317,9 +301,29 @@ impl Sweep {
             let Some(one) = self.log.get(place.wrapping_sub(1)) else {
                 break;
             };
-            let kept = (lo, hi, one.turn, place, one.request);
-            keep(list, kept, &mut self.work.is_lost);
-            place = one.before;
+            let request = if one.2 == 0 { 0 } else { one.0 };
+            self.work.keep(&mut list, (one.1, place, request));
+            place = one.2;
+        }
+        list
+    }
+}
+
+// A state serves an operation, before its last switch or behind it.
+fn serve(state: &mut State, one: &Patch, behind: usize, log: &mut Vec<Logged>, work: &mut Work) {
+    let turn = state.turn.saturating_add(behind);
+    work.keep(log, (one.request, turn, state.log));
+    state.log = log.len();
+    state.debt.flip(one.column);
+}
+
+// Whether one state can still hide the open changes that another one has served besides.
+fn can_hide(open: &[Patch], one: &State, other: &State) -> bool {
+    for change in open {
+        let is_late = !change.is_read && change.request > one.last;
+        if is_late && other.has_served(change) && !one.has_served(change) {
+            return false;
         }
     }
+    true
 }

@@ -1,0 +1,103 @@
+//! Requests by their numbers, each with a last slot.
+
+use crate::scene::NEVER;
+use crate::work::Work;
+
+/// More steps than a way through a tree has.
+const WAY: usize = 256;
+
+/// A tree over the numbers of all requests: an answer costs the logarithm of how many there are.
+#[derive(Drop)]
+pub struct Dues {
+    // The place of number 0: a power of two, and at least how many numbers there are.
+    leaves: usize,
+    // Of what lies below each node the least last slot, or `NEVER`, and the slot behind the greatest, or 0. Node 1 is above all.
+    nodes: Vec<(usize, usize)>,
+}
+
+impl Dues {
+    /// None of so many requests.
+    pub fn new(count: usize, work: &mut Work) -> Dues {
+        let leaves = count.checked_next_power_of_two().unwrap_or(1);
+        let mut nodes = Vec::new(work.alloc);
+        work.spend(leaves.saturating_mul(4));
+        for _ in 0..leaves.saturating_mul(2) {
+            work.keep(&mut nodes, (NEVER, 0));
+        }
+        Dues { leaves, nodes }
+    }
+
+    fn node(&self, place: usize) -> (usize, usize) {
+        match self.nodes.get(place) {
+            Some(node) => *node,
+            None => (NEVER, 0),
+        }
+    }
+
+    /// Gives a number its last slot; None takes the number away.
+    pub fn set(&mut self, number: usize, due: Option<usize>) {
+        let mut place = self.leaves.saturating_add(number);
+        let mut node = match due {
+            Some(due) => (due, due.saturating_add(1)),
+            None => (NEVER, 0),
+        };
+        for _ in 0..WAY {
+            if let Some(old) = self.nodes.get_mut(place) {
+                *old = node;
+            }
+            let beside = self.node(place ^ 1);
+            node = (node.0.min(beside.0), node.1.max(beside.1));
+            place /= 2;
+            if place == 0 {
+                break;
+            }
+        }
+    }
+
+    /// The greatest number before `end` whose last slot is before this one; 0 where there is none.
+    pub fn newest(&self, end: usize, slot: usize) -> usize {
+        let mut place = self.leaves.saturating_add(end).saturating_sub(1);
+        for _ in 0..WAY {
+            if self.node(place).0 >= slot {
+                // The node on the left.
+                place >>= place.trailing_zeros().min(63);
+                if place <= 1 {
+                    return 0;
+                }
+                place -= 1;
+            } else if place < self.leaves {
+                place = place.saturating_mul(2) | 1;
+            } else {
+                break;
+            }
+        }
+        place.saturating_sub(self.leaves)
+    }
+
+    /// The least number from `first` to before `end` whose last slot is this one or a later one.
+    pub fn late(&self, first: usize, end: usize, slot: usize) -> Option<usize> {
+        if first >= end.min(self.leaves) {
+            return None;
+        }
+        let mut place = match first {
+            0 => 1,
+            _ => self.leaves.saturating_add(first),
+        };
+        for _ in 0..WAY {
+            if self.node(place).1 <= slot {
+                // The node on the right.
+                place >>= place.trailing_ones().min(63);
+                if place == 0 {
+                    return None;
+                }
+                place |= 1;
+            } else if place < self.leaves {
+                place = place.saturating_mul(2);
+            } else {
+                break;
+            }
+        }
+        let number = place.saturating_sub(self.leaves);
+        if number < end { Some(number) } else { None }
+    }
+}
