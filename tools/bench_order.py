@@ -119,7 +119,7 @@ class Holes(typing.NamedTuple):
 
 class Statuses(typing.NamedTuple):
     """WRITEs of single zeroes, each answered before the next comes, and as many statuses that call all zero. Then one byte is written,
-    and a last status calls that zero too."""
+    and a last status calls that zero too. It is of the profile wide."""
 
     count: int
 
@@ -184,13 +184,14 @@ def measure(program, folder, name, shape, runs):
     with open(capture, "wb") as file:
         for side, data in shape.lines():
             file.write(side + b" " + data.hex().encode() + b"\n")
-    words = [program, "order", capture, "--start", "zero"]
+    rest = ["--start", "zero"] + (["--profile", "wide"] if isinstance(shape, Statuses) else [])
+    words = [program, "order", capture, *rest]
     took, memory, answer = timed(words, runs)
     with open(order, "wb") as file:
         status = subprocess.run(words, stdout=file, check=False).returncode
     over, said, parts = "", answer, 0
     if status == 0:
-        checked, _, said = timed([program, "check", capture, order, "--start", "zero"], runs)
+        checked, _, said = timed([program, "check", capture, order, *rest], runs)
         over = f"{took / checked:6.2f}"
         with open(order, "rb") as file:
             parts = sum(line.count(b" ") == 2 for line in file)

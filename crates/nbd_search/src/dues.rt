@@ -11,7 +11,7 @@ const WAY: usize = 256;
 pub struct Dues {
     // The place of number 0: a power of two, and at least how many numbers there are.
     leaves: usize,
-    // Of what lies below each node the least last slot, or `NEVER`, and the slot behind the greatest, or 0. Node 1 is above all.
+    // Of all below a node, of which 1 is the top, the least last slot, or `NEVER`, and the slot behind the greatest, or 0.
     nodes: Vec<(usize, usize)>,
 }
 
@@ -28,29 +28,23 @@ impl Dues {
     }
 
     fn node(&self, place: usize) -> (usize, usize) {
-        match self.nodes.get(place) {
-            Some(node) => *node,
-            None => (NEVER, 0),
-        }
+        self.nodes.get(place).copied().unwrap_or((NEVER, 0))
     }
 
-    /// Gives a number its last slot; None takes the number away.
-    pub fn set(&mut self, number: usize, due: Option<usize>) {
+    /// Gives a number its last slot, or takes the number away.
+    pub fn set(&mut self, number: usize, slot: usize, is_in: bool) {
         let mut place = self.leaves.saturating_add(number);
-        let mut node = match due {
-            Some(due) => (due, due.saturating_add(1)),
-            None => (NEVER, 0),
-        };
-        for _ in 0..WAY {
-            if let Some(old) = self.nodes.get_mut(place) {
-                *old = node;
+        let (mut least, mut behind) = (NEVER, 0);
+        if is_in {
+            (least, behind) = (slot, slot.saturating_add(1));
+        }
+        for _ in 0..=self.leaves.trailing_zeros() {
+            if let Some(node) = self.nodes.get_mut(place) {
+                *node = (least, behind);
             }
             let beside = self.node(place ^ 1);
-            node = (node.0.min(beside.0), node.1.max(beside.1));
+            (least, behind) = (least.min(beside.0), behind.max(beside.1));
             place /= 2;
-            if place == 0 {
-                break;
-            }
         }
     }
 
@@ -58,17 +52,18 @@ impl Dues {
     pub fn newest(&self, end: usize, slot: usize) -> usize {
         let mut place = self.leaves.saturating_add(end).saturating_sub(1);
         for _ in 0..WAY {
-            if self.node(place).0 >= slot {
+            if self.node(place).0 < slot {
+                if place >= self.leaves {
+                    break;
+                }
+                place = place.saturating_mul(2) | 1;
+            } else {
                 // The node on the left.
                 place >>= place.trailing_zeros().min(63);
                 if place <= 1 {
                     return 0;
                 }
                 place -= 1;
-            } else if place < self.leaves {
-                place = place.saturating_mul(2) | 1;
-            } else {
-                break;
             }
         }
         place.saturating_sub(self.leaves)
@@ -79,22 +74,20 @@ impl Dues {
         if first >= end.min(self.leaves) {
             return None;
         }
-        let mut place = match first {
-            0 => 1,
-            _ => self.leaves.saturating_add(first),
-        };
+        let mut place = self.leaves.saturating_add(first);
         for _ in 0..WAY {
-            if self.node(place).1 <= slot {
+            if self.node(place).1 > slot {
+                if place >= self.leaves {
+                    break;
+                }
+                place = place.saturating_mul(2);
+            } else {
                 // The node on the right.
                 place >>= place.trailing_ones().min(63);
                 if place == 0 {
                     return None;
                 }
                 place |= 1;
-            } else if place < self.leaves {
-                place = place.saturating_mul(2);
-            } else {
-                break;
             }
         }
         let number = place.saturating_sub(self.leaves);

@@ -2,14 +2,11 @@
 //! nbd_order before they are told.
 #![tactic(auto)]
 
-mod alone;
-mod columns;
 mod dues;
 mod few;
 mod order;
 mod progress;
 pub mod proposal;
-mod ranges;
 mod replay;
 mod scene;
 mod search;

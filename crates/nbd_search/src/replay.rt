@@ -1,129 +1,111 @@
-//! The present order replayed: what READs get wrong where each request is served whole at its moment.
+//! The present order replayed: where READs are wrong if each request is served whole at its moment.
 
 use crate::order::Moment;
-use crate::ranges::{Range, Ranges};
 use crate::scene::{NEVER, Patch, Scene};
 use crate::work::Work;
+use nbd_export::{Contents, Extents, Start};
+use std::alloc::AllocError;
 use std::mem;
 
-/// Bytes that are not zero with no more zeroes in between are one range.
-const NEAR: u64 = 32;
+/// Where a READ is wrong is told in aligned blocks of so many bytes.
+const BLOCK: u64 = 64;
 
-/// Where a READ is wrong in what one change left.
-#[derive(Clone, Copy, Drop)]
-pub struct Run {
-    /// The first offset of what the change left, of what the READ reads.
-    pub lo: u64,
-    /// The offset behind that.
-    pub hi: u64,
-    /// The first wrong byte.
-    pub first: u64,
-    /// The offset behind the last one.
-    pub behind: u64,
-    /// The place of the READ's patch.
-    pub place: usize,
-}
+/// The first offset of a range, the one behind it, and the place of a patch.
+pub type Range = (u64, u64, usize);
 
-// What is left on the export, and what READs got wrong.
+// What is known of the export, and where READs were wrong.
 #[derive(Drop)]
 struct Replay {
-    // What was left, by the patches that left it; zeroes and unknown bytes too.
-    left: Ranges,
-    // What of that is not zero: so a long range that is read as zeroes costs what is wrong in it.
-    nonzero: Ranges,
-    runs: Vec<Run>,
+    contents: Extents,
+    wrong: Vec<Range>,
 }
 
-/// What READs get wrong where each request that has a moment is served whole at it, in the order of service.
-pub fn wrong_runs(scene: &Scene, moments: &[Moment], work: &mut Work) -> Vec<Run> {
-    let mut replay = Replay {
-        left: Ranges::new(work.alloc),
-        nonzero: Ranges::new(work.alloc),
-        runs: Vec::new(work.alloc),
+/// Where READs are wrong if each request that has a moment is served whole at it.
+pub fn wrong_ranges(scene: &Scene, work: &mut Work) -> Vec<Range> {
+    let wrong = Vec::new(work.alloc);
+    let Ok(contents) = Extents::new(work.alloc, scene.size, Start::Unknown) else {
+        work.is_lost = true;
+        return wrong;
     };
-    for (_, place) in &order_of(scene, moments, work) {
+    let mut replay = Replay { contents, wrong };
+    for (_, place) in &order_of(scene, work) {
         if !work.is_over() {
             replay.serve(scene, *place, work);
         }
     }
-    mem::replace(&mut replay.runs, Vec::new(work.alloc))
+    mem::replace(&mut replay.wrong, Vec::new(work.alloc))
 }
 
 // The places of the patches that are served, behind their moments.
-fn order_of(scene: &Scene, moments: &[Moment], work: &mut Work) -> Vec<(Moment, usize)> {
+fn order_of(scene: &Scene, work: &mut Work) -> Vec<(Moment, usize)> {
     let mut order = Vec::new(work.alloc);
     for place in 0..scene.patches.len() {
-        match moments.get(scene.patches[place].request) {
-            Some((NEVER, _)) | None => {}
-            Some(moment) => work.keep(&mut order, (*moment, place)),
+        match scene.requests.get(scene.patches[place].request) {
+            Some(one) if one.moment.0 != NEVER => work.keep(&mut order, (one.moment, place)),
+            _ => {}
         }
     }
-    work.spend(order.len().saturating_mul(16));
     order.sort_unstable();
     order
 }
 
 impl Replay {
-    // Serves a patch: leaves its bytes, or compares them.
+    // Serves the patch at a place: leaves its bytes, or compares them.
     fn serve(&mut self, scene: &Scene, place: usize, work: &mut Work) {
         let Some(patch) = scene.patches.get(place) else {
             return;
         };
-        work.spend(32);
-        let range = (patch.lo, patch.hi, place);
+        let bytes = scene.bytes(patch, patch.lo, patch.hi);
+        work.spend((bytes.unwrap_or(&[]).len() / 8).saturating_add(32));
         if patch.is_read {
-            self.read(scene, patch, place, work);
+            self.compare(scene, patch, place, work);
         } else {
-            self.left.take(patch.lo, patch.hi, work);
-            self.left.add(range, work);
-            self.nonzero.take(patch.lo, patch.hi, work);
-            let bytes = scene.bytes(patch, patch.lo, patch.hi).unwrap_or(&[]);
-            self.leave_nonzero(range, bytes, work);
+            work.is_lost |= self.leave(patch, bytes).is_err();
         }
     }
 
-    // Leaves what is not zero of the bytes of a range.
-    fn leave_nonzero(&mut self, range: Range, bytes: &[u8], work: &mut Work) {
-        work.spend(bytes.len() / 8);
-        let (mut lo, mut hi, mut at) = (range.0, range.0, range.0);
-        for byte in bytes {
-            if *byte != 0 {
-                if at.saturating_sub(hi) > NEAR {
-                    work.spend(8);
-                    self.nonzero.add((lo, hi, range.2), work);
-                    lo = at;
-                }
-                hi = at.saturating_add(1);
-            }
-            at = at.saturating_add(1);
+    // Leaves the bytes of a patch, if they are known.
+    fn leave(&mut self, patch: &Patch, bytes: Option<&[u8]>) -> Result<(), AllocError> {
+        let size = self.contents.size();
+        let lo = patch.lo.min(size);
+        let length = patch.hi.min(size).saturating_sub(lo);
+        match bytes {
+            None => self.contents.forget(lo, length),
+            Some(bytes) if bytes.len() as u64 == length => self.contents.put(lo, bytes),
+            Some(_) => self.contents.zero(lo, length),
         }
-        self.nonzero.add((lo, hi, range.2), work);
     }
 
-    // Compares what a patch at a place reads with what was left; zeroes with what is not zero.
-    fn read(&mut self, scene: &Scene, read: &Patch, place: usize, work: &mut Work) {
+    // Notes where a READ, whose patch is at a place, got other bytes than are known there; blocks that adjoin are one range.
+    fn compare(&mut self, scene: &Scene, read: &Patch, place: usize, work: &mut Work) {
         let mut at = read.lo;
-        let is_zero = scene.bytes(read, at, read.hi).unwrap_or(&[]).is_empty();
-        for _ in at..read.hi {
-            let left = if is_zero { &self.nonzero } else { &self.left };
-            let Some((start, end, change)) = left.meeting(at, read.hi) else {
+        for _ in read.lo..read.hi {
+            work.spend(32);
+            let bytes = scene.bytes(read, at, read.hi).unwrap_or(&[]);
+            let Some(offset) = self.first_other(at, read.hi, bytes) else {
                 break;
             };
-            let (lo, hi) = (at.max(start), read.hi.min(end));
-            if let Some(change) = scene.patches.get(change) {
-                let (first, behind) = scene.wrong(change, read, lo, hi, work);
-                if first < behind {
-                    let run = Run {
-                        lo,
-                        hi,
-                        first,
-                        behind,
-                        place,
-                    };
-                    work.keep(&mut self.runs, run);
-                }
+            let block = offset / BLOCK;
+            let lo = block.saturating_mul(BLOCK).max(at);
+            at = block.saturating_add(1).saturating_mul(BLOCK).min(read.hi);
+            match self.wrong.last_mut() {
+                Some(last) if last.2 == place && last.1 == lo => last.1 = at,
+                _ => work.keep(&mut self.wrong, (lo, at, place)),
             }
-            at = hi;
         }
+    }
+
+    // The first offset from `lo` to before `hi` with another known byte than one of these, or than 0 where there are none.
+    fn first_other(&mut self, lo: u64, hi: u64, bytes: &[u8]) -> Option<u64> {
+        let hi = hi.min(self.contents.size());
+        let (lo, length) = (lo.min(hi), hi.saturating_sub(lo));
+        if bytes.len() as u64 == length {
+            return self.contents.differs(lo, bytes);
+        }
+        let found = self.contents.differs_zero(lo, length)?;
+        // What is right is not looked at again.
+        self.contents
+            .differs_zero(lo, found.min(hi).saturating_sub(lo));
+        Some(found)
     }
 }

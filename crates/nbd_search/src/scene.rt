@@ -1,7 +1,7 @@
-//! The requests of a session as what they leave or read in ranges of the export. No byte is copied. A BLOCK_STATUS reads zeroes where
-//! it calls a range zero, and is a READ here.
+//! The requests of a session as what they leave or read in ranges of the export. A BLOCK_STATUS is a READ of zeroes here.
 
-use crate::replay::Run;
+use crate::order::Moment;
+use crate::replay::Range;
 use crate::work::Work;
 use nbd_export::Start;
 use nbd_session::{Asked, Transcript};
@@ -12,26 +12,26 @@ use nbd_wire::{Piece, Profile, commands};
 pub const NEVER: usize = usize::MAX;
 
 /// Bytes that a request leaves in a range, or reads there. The start is request 0, which leaves its bytes before all others.
-#[derive(Clone, Copy, Drop)]
+#[derive(Clone, Copy, Default, Drop)]
 pub struct Patch {
     /// The request's number.
     pub request: usize,
-    /// The last slot in which it may be served, or `NEVER`. Slot t lies between the completion of request t and that of the next.
+    /// The last slot in which it may be served, or `NEVER`. Slot t lies between the completion of request t and the next one.
     pub due: usize,
-    /// The last slot in which it is taken to be served.
+    /// The last slot in which it is taken to be served; 0 where it is not.
     pub slot: usize,
+    /// When it is served in the present order, if it is a request as a whole.
+    pub moment: Moment,
     /// It reads its bytes; else it leaves them.
     pub is_read: bool,
-    /// The first offset of its range.
+    /// Some of what it reads is wrong in the present order.
+    pub is_wrong: bool,
+    /// Its range, to before `hi`.
     pub lo: u64,
-    /// The offset behind it.
     pub hi: u64,
-    /// Of what a READ was answered the piece with its bytes.
-    pub piece: usize,
-    /// The offset of the first byte that a message has for it.
-    pub from: u64,
-    /// The offset up to which it is wrong, on the way along the export.
-    pub wrong_to: u64,
+    // Where its bytes begin, and of a READ the piece that has them.
+    from: u64,
+    piece: usize,
     /// What stands for its bytes in the range that is searched; None where they are unknown.
     pub value: Option<u64>,
     /// Its column while it is open in a search.
@@ -50,14 +50,12 @@ impl Patch {
 pub struct Scene<'a> {
     transcript: &'a Transcript,
     start: &'a Start,
-    // The export's size in bytes.
-    size: u64,
+    /// The export's size in bytes.
+    pub size: u64,
     /// By their numbers, each whole; number 0 is the start. The range is empty of one that neither leaves bytes nor reads them.
     pub requests: Vec<Patch>,
-    /// What they leave or read; of a READ one for each piece with bytes.
+    /// What they leave or read; of a READ at least one for each piece with bytes.
     pub patches: Vec<Patch>,
-    /// What was right on arrival is taken as it was then: READs are served when they come, and a change without a reply is not.
-    pub is_pinned: bool,
 }
 
 impl<'a> Scene<'a> {
@@ -68,23 +66,18 @@ impl<'a> Scene<'a> {
         start: &'a Start,
         work: &mut Work,
     ) -> Scene<'a> {
-        let size = match transcript.export() {
-            Some((size, _)) => size,
-            None => 0,
-        };
         let mut scene = Scene {
             transcript,
             start,
-            size,
+            size: transcript.export().unwrap_or((0, 0)).0,
             requests: Vec::new(work.alloc),
             patches: Vec::new(work.alloc),
-            is_pinned: true,
         };
-        let whole = scene.patch(0, 0, None, 0, size);
+        let whole = scene.patch(0, 0, None, (0, scene.size));
         work.keep(&mut scene.requests, whole);
         scene.keep(whole, work);
-        for i in 0..transcript.count() {
-            if let Some(one) = transcript.asked(i.saturating_add(1)) {
+        for number in 1..=transcript.count() {
+            if let Some(one) = transcript.asked(number) {
                 scene.add(profile, one, work);
             }
         }
@@ -94,51 +87,38 @@ impl<'a> Scene<'a> {
     // Adds a request, and what it leaves or reads.
     fn add(&mut self, profile: Profile, one: &Asked, work: &mut Work) {
         let (request, due) = (self.requests.len(), due_of(profile, one, 0));
-        let mut whole = self.patch(request, due, None, one.offset, one.length);
-        let is_change = one.touches(one.offset);
-        let is_read = one.command == commands::READ || one.command == commands::BLOCK_STATUS;
-        let gives_bytes = is_read && one.succeeded();
-        if !is_change && !gives_bytes {
-            (whole.lo, whole.hi) = (0, 0);
-        }
-        work.spend(16);
+        let (is_change, command) = (one.touches(one.offset), one.command);
+        let is_read = one.succeeded() && matches!(command, commands::READ | commands::BLOCK_STATUS);
+        let length = if is_change || is_read { one.length } else { 0 };
+        let whole = self.patch(request, due, None, (one.offset, length));
         work.keep(&mut self.requests, whole);
         if is_change {
             self.keep(whole, work);
         }
-        for i in 0..one.pieces.len() {
-            let span = Span::of(&one.pieces[i]);
-            let due = due_of(profile, one, i);
-            if gives_bytes {
-                self.keep(
-                    self.patch(request, due, Some(i), span.offset, span.size),
-                    work,
-                );
-            }
+        for i in 0..if is_read { one.pieces.len() } else { 0 } {
+            let (span, due) = (Span::of(&one.pieces[i]), due_of(profile, one, i));
+            let patch = self.patch(request, due, Some(i), (span.offset, span.size));
+            self.keep(patch, work);
         }
     }
 
-    // What a request does in a range; of a READ the piece with these bytes.
-    fn patch(
-        &self,
-        request: usize,
-        due: usize,
-        piece: Option<usize>,
-        lo: u64,
-        length: u64,
-    ) -> Patch {
+    // What a request does from an offset on in so many bytes; of a READ the piece with these.
+    fn patch(&self, request: usize, due: usize, piece: Option<usize>, range: (u64, u64)) -> Patch {
+        let slot = match piece {
+            Some(_) => request,
+            None if due == NEVER => 0,
+            None => due,
+        };
         Patch {
             request,
             due,
-            slot: if piece.is_some() { request } else { due },
+            slot,
             is_read: piece.is_some(),
-            lo: lo.min(self.size),
-            hi: lo.saturating_add(length).min(self.size),
+            lo: range.0.min(self.size),
+            hi: range.0.saturating_add(range.1).min(self.size),
+            from: range.0,
             piece: piece.unwrap_or(0),
-            from: lo,
-            wrong_to: 0,
-            value: None,
-            column: 0,
+            ..Patch::default()
         }
     }
 
@@ -148,36 +128,35 @@ impl<'a> Scene<'a> {
         }
     }
 
-    /// Parts the patches of READs: where these are wrong they are taken as what they are.
-    pub fn unpin(&mut self, runs: &mut [Run], work: &mut Work) {
-        for run in runs.iter_mut() {
-            match self.patches.get_mut(run.place) {
-                Some(rest) if rest.slot < rest.due => {
-                    let (mut right, mut wrong) = (*rest, *rest);
-                    (right.hi, wrong.lo, wrong.hi, rest.lo) = (run.lo, run.lo, run.hi, run.hi);
-                    wrong.slot = wrong.due;
-                    work.spend(32);
-                    self.keep(right, work);
-                    run.place = self.patches.len();
-                    self.keep(wrong, work);
-                }
-                _ => {}
+    /// Parts the patches of READs where these are wrong: there they may be served until they are due.
+    pub fn mark(&mut self, wrong: &[Range], work: &mut Work) {
+        for patch in self.patches.iter_mut() {
+            patch.is_wrong = false;
+        }
+        for (lo, hi, place) in wrong {
+            if let Some(rest) = self.patches.get_mut(*place) {
+                let (mut right, mut wrong) = (*rest, *rest);
+                (right.hi, wrong.lo, wrong.hi, rest.lo) = (*lo, *lo, *hi, *hi);
+                (wrong.slot, wrong.is_wrong) = (wrong.due, true);
+                self.keep(right, work);
+                self.keep(wrong, work);
             }
         }
     }
 
-    /// Takes all as what they are.
-    pub fn unpin_all(&mut self) {
-        self.is_pinned = false;
+    /// Takes nothing as it was on arrival, where READs are served when they come and what has no reply is not.
+    pub fn unpin(&mut self) {
         for patch in self.patches.iter_mut() {
             patch.slot = patch.due;
         }
     }
 
-    /// What stands for a patch's bytes from `lo` to before `hi`, which lie in its range: the same number for the same bytes, 0 for
-    /// zeroes, and None where they are unknown.
-    pub fn value(&self, patch: &Patch, lo: u64, hi: u64) -> Option<u64> {
-        Some(mixed(self.bytes(patch, lo, hi)?))
+    /// Numbers what patches do from `lo` to before `hi`: the same number for the same bytes, None where they are unknown.
+    pub fn number(&self, patches: &mut [Patch], lo: u64, hi: u64, work: &mut Work) {
+        for patch in patches.iter_mut() {
+            work.spend((hi.saturating_sub(lo) as usize / 8).saturating_add(4));
+            patch.value = self.bytes(patch, lo, hi).map(mixed);
+        }
     }
 
     /// The patch's bytes from `lo` to before `hi`, if they are known; none where they are zeroes that no message has.
@@ -205,55 +184,31 @@ impl<'a> Scene<'a> {
         }
     }
 
-    /// The first byte from `lo` to before `hi` that a READ did not get as a change left it, and the offset behind the last; `hi` where
-    /// there is none.
-    pub fn wrong(
-        &self,
-        change: &Patch,
-        read: &Patch,
-        lo: u64,
-        hi: u64,
-        work: &mut Work,
-    ) -> (u64, u64) {
-        let Some(left) = self.bytes(change, lo, hi) else {
-            return (hi, hi);
+    /// The first offset from `lo` to before `hi` at which a READ did not get what a change left; `hi` where there is none.
+    pub fn differs(&self, change: &Patch, read: &Patch, lo: u64, hi: u64, work: &mut Work) -> u64 {
+        let (left, got) = (self.bytes(change, lo, hi), self.bytes(read, lo, hi));
+        let (Some(left), Some(got)) = (left, got) else {
+            return hi;
         };
-        let got = self.bytes(read, lo, hi).unwrap_or(&[]);
-        let (mut first, mut behind) = (0, hi.saturating_sub(lo) as usize);
-        for _ in 0..behind {
-            if byte_at(left, first) != byte_at(got, first) {
-                break;
+        let count = left.len().max(got.len());
+        work.spend((count / 8).saturating_add(4));
+        for place in 0..count {
+            if byte_at(left, place) != byte_at(got, place) {
+                return lo.saturating_add(place as u64);
             }
-            first = first.saturating_add(1);
         }
-        work.spend((first / 8).saturating_add(8));
-        for _ in first..behind {
-            let last = behind.saturating_sub(1);
-            if byte_at(left, last) != byte_at(got, last) {
-                break;
-            }
-            behind = last;
-            work.spend(1);
-        }
-        (
-            lo.saturating_add(first as u64),
-            lo.saturating_add(behind as u64),
-        )
+        hi
     }
 }
 
-// The last slot in which a request may be served, or `NEVER`; of a READ that is served by chunk, in which this piece may. No piece has
-// an earlier one than the first.
+// The last slot of a request; by chunk that of a piece of a READ, of which none has an earlier one than the first.
 fn due_of(profile: Profile, one: &Asked, piece: usize) -> usize {
     let due = match one.shown.get(piece) {
         _ if !profile.serves_by_chunk(one.command) => one.known_at,
         Some(shown) => Some(*shown),
         None => one.ended_at,
     };
-    match due {
-        Some(count) => count as usize,
-        None => NEVER,
-    }
+    due.unwrap_or(u64::MAX) as usize
 }
 
 /// An odd number with bits in no order.
@@ -271,8 +226,5 @@ fn mixed(bytes: &[u8]) -> u64 {
 
 // A byte, which is zero where it is not there.
 fn byte_at(bytes: &[u8], place: usize) -> u8 {
-    match bytes.get(place) {
-        Some(byte) => *byte,
-        None => 0,
-    }
+    bytes.get(place).copied().unwrap_or(0)
 }

@@ -1,90 +1,55 @@
 //! The way along the export: what READs got wrong is looked at in ranges in which the same requests matter to it.
 
 use crate::dues::Dues;
-use crate::replay::Run;
-use crate::scene::{NEVER, Patch, Scene};
+use crate::scene::{Patch, Scene};
 use crate::work::Work;
 use std::collections::BTreeMap;
 use std::mem;
 
-/// What happens at an offset, in this order.
-#[derive(Clone, Copy, PartialEq, Eq, PartialOrd, Ord, Drop)]
-pub enum Kind {
-    /// A patch ends.
-    Ends,
-    /// A patch begins.
-    Begins,
-    /// A READ gets something wrong.
-    IsWrong,
-}
+/// Where something happens, whether a patch begins there or ends, and the place of the patch.
+pub type Event = (u64, bool, usize);
 
-/// An offset, what happens there, the place of the patch, and the offset up to which a READ is wrong.
-pub type Event = (u64, Kind, usize, u64);
-
-/// All that happens, as one comes along.
-pub fn events_of(scene: &Scene, runs: &[Run], work: &mut Work) -> Vec<Event> {
+/// All that happens as one comes along; at an offset patches end before others begin.
+pub fn events_of(scene: &Scene, work: &mut Work) -> Vec<Event> {
     let mut events = Vec::new(work.alloc);
     for place in 0..scene.patches.len() {
         let (lo, hi) = (scene.patches[place].lo, scene.patches[place].hi);
         if lo < hi {
-            work.keep(&mut events, (lo, Kind::Begins, place, 0));
-            work.keep(&mut events, (hi, Kind::Ends, place, 0));
+            work.keep(&mut events, (lo, true, place));
+            work.keep(&mut events, (hi, false, place));
         }
     }
-    for run in runs {
-        work.keep(
-            &mut events,
-            (run.first, Kind::IsWrong, run.place, run.behind),
-        );
-    }
-    work.spend(events.len().saturating_mul(16));
     events.sort_unstable();
     events
 }
 
-/// A range whose bytes are taken as one value, with a period: the requests from one number to another, so that each order serves them
-/// behind what was due before and before what came later, and the newest change before them is surely the last that is served before.
+/// A range whose bytes are taken as one value, with a period: the requests from one number to another, such that all others
+/// are due before or came later, and the newest change before them is surely the last that is served before.
 #[derive(Drop)]
 pub struct Register {
-    /// The first offset of the range.
+    /// The range, to before `hi`.
     pub lo: u64,
-    /// The offset behind it.
     pub hi: u64,
     /// A READ that is wrong.
     pub read: usize,
-    /// First the newest change before the period, then what its requests do, by their numbers.
+    // The first number of the period, and the newest change before it.
+    first: usize,
+    newest: usize,
+    /// First that change, then what the requests of the period do, by their numbers.
     pub operations: Vec<Patch>,
 }
-
-impl Register {
-    /// Numbers what is done in a part of its range: the same bytes have the same number.
-    pub fn number(&mut self, scene: &Scene, lo: u64, hi: u64, work: &mut Work) {
-        for one in self.operations.iter_mut() {
-            work.spend((hi.saturating_sub(lo) as usize / 8).saturating_add(4));
-            one.value = scene.value(one, lo, hi);
-        }
-    }
-}
-
-// An open period: its first number, the newest change before it, the offset from which on it was not looked at, and a READ that is
-// wrong.
-type Period = (usize, usize, u64, usize);
 
 /// What holds the present offset.
 #[derive(Drop)]
 pub struct Walk {
-    /// The offset.
-    pub at: u64,
-    /// By their numbers the patches that hold it, or were the last to do so.
-    pub now: Vec<Patch>,
-    /// The changes among them.
-    pub changes: Dues,
-    /// The changes without a reply that are left out of these.
-    pub lost: Dues,
-    // The changes that are not left out, and the READs.
+    at: u64,
+    // By their numbers the patches that hold it, or were the last to do so.
+    now: Vec<Patch>,
+    // Their slots; those of the changes that are not left out.
     every: Dues,
-    // The periods in which READs are wrong, by their last numbers.
-    open: BTreeMap<usize, Period>,
+    changes: Dues,
+    // What is looked at where READs are wrong, by the last numbers of the periods.
+    open: BTreeMap<usize, Register>,
     // READs that may be wrong from here on and have no open period.
     news: Vec<usize>,
 }
@@ -92,18 +57,15 @@ pub struct Walk {
 impl Walk {
     /// Nothing holds the offset.
     pub fn new(scene: &Scene, work: &mut Work) -> Walk {
-        let (count, mut now) = (scene.requests.len(), Vec::new(work.alloc));
-        if let Some(start) = scene.patches.first() {
-            for _ in 0..count {
-                work.keep(&mut now, *start);
-            }
+        let mut now = Vec::new(work.alloc);
+        for one in &scene.requests {
+            work.keep(&mut now, *one);
         }
         Walk {
             at: 0,
+            every: Dues::new(now.len(), work),
+            changes: Dues::new(now.len(), work),
             now,
-            changes: Dues::new(count, work),
-            lost: Dues::new(count, work),
-            every: Dues::new(count, work),
             open: BTreeMap::new(work.alloc),
             news: Vec::new(work.alloc),
         }
@@ -114,8 +76,7 @@ impl Walk {
         if offset > self.at {
             let news = mem::replace(&mut self.news, Vec::new(work.alloc));
             for read in &news {
-                work.spend(16);
-                if !self.is_open(*read) {
+                if self.is_new(*read) {
                     self.open(*read, work);
                 }
             }
@@ -123,128 +84,162 @@ impl Walk {
         }
     }
 
-    // Whether the period of a READ is open, or it is not wrong.
-    fn is_open(&self, read: usize) -> bool {
-        match (self.now.get(read), self.next_open(read)) {
-            (Some(one), _) if one.wrong_to <= self.at => true,
-            (_, Some((_, (first, ..)))) => first <= read,
-            _ => false,
+    // Whether a READ is wrong and its period is not open.
+    fn is_new(&self, read: usize) -> bool {
+        match (self.now.get(read), self.open.range(read..).next()) {
+            (Some(one), _) if !one.is_wrong || one.hi <= self.at => false,
+            (_, Some((_, register))) => register.first > read,
+            _ => true,
         }
-    }
-
-    // The open period with this number, or else the next one; with its last number.
-    fn next_open(&self, number: usize) -> Option<(usize, Period)> {
-        let (last, period) = self.open.range(number..).next()?;
-        Some((*last, *period))
     }
 
     // Opens the period of a READ.
     fn open(&mut self, read: usize, work: &mut Work) {
-        let (mut first, mut behind, end) = (read, read, self.now.len());
+        let first = self.first(read, work);
+        let mut register = Register {
+            lo: self.at,
+            hi: self.at,
+            read,
+            first,
+            newest: self.changes.newest(first, first),
+            operations: Vec::new(work.alloc),
+        };
+        let last = self.fill(&mut register, work);
+        work.is_lost |= self.open.insert(last, register).is_err();
+    }
+
+    // Where the period of a READ begins: what came before is due there, and before the newest change of that came.
+    fn first(&self, read: usize, work: &mut Work) -> usize {
+        let mut first = read;
         for _ in 0..read {
-            work.spend(32);
-            match self.across(first) {
+            work.spend(16);
+            let newest = self.changes.newest(first, first);
+            let late = self.every.late(0, first, first);
+            match late.or(self.changes.late(0, newest, newest)) {
                 Some(number) => first = number,
                 None => break,
             }
         }
-        for _ in read..end {
-            work.spend(32);
-            // No period ends before what lies across its end is due.
-            let next = self.every.late(behind.saturating_add(1), end, 0);
-            behind = next.unwrap_or(end);
-            match self.across(behind) {
-                Some(number) if behind < end => behind = behind.max(self.slot(number)),
-                _ => break,
-            }
-        }
-        behind = behind.min(end);
-        let period = (first, self.changes.newest(first, first), self.at, read);
-        work.is_lost |= self.open.insert(behind.saturating_sub(1), period).is_err();
+        first
     }
 
-    // The last slot in which a request is taken to be served.
-    fn slot(&self, number: usize) -> usize {
-        match self.now.get(number) {
-            Some(one) => one.slot,
-            None => NEVER,
-        }
-    }
-
-    // The least request on account of which no period begins at a number: it is before that and is not due there, or not before the
-    // newest change of those that are.
-    fn across(&self, number: usize) -> Option<usize> {
-        let newest = self.changes.newest(number, number);
-        match self.every.late(0, number, number) {
-            None => self.changes.late(0, newest, newest),
-            late => late,
-        }
-    }
-
-    /// Closes a period to which it matters that a patch begins or ends here, if there is one. What a change leaves matters to all that
-    /// come behind it, but to those that have a change before them which surely comes behind it.
-    pub fn close(&mut self, patch: &Patch, work: &mut Work) -> Option<Register> {
-        work.spend(16);
-        let (last, (first, newest, lo, read)) = self.next_open(patch.request)?;
-        let reach = if patch.is_read { first } else { newest };
-        if reach > patch.slot {
-            return None;
-        }
-        self.open.remove(&last);
-        let mut operations = Vec::new(work.alloc);
-        self.add(newest, last, &mut operations, work);
-        let mut next = first;
-        for _ in first..=last {
-            let Some(request) = self.every.late(next, last.saturating_add(1), 0) else {
+    // Takes in one request of a period after the other, and answers the last number: where all that came is due, and all changes
+    // before the newest one were due before that one.
+    fn fill(&self, register: &mut Register, work: &mut Work) -> usize {
+        let (first, end) = (register.first, self.now.len());
+        // The slots behind the last ones of all, of the newest change, and of those before that.
+        let (mut all, mut last, mut older) = (0, 0, 0);
+        let (mut number, mut change) = (register.newest, register.newest);
+        for _ in 0..end {
+            let Some(one) = self.now.get(number) else {
                 break;
             };
-            self.add(request, last, &mut operations, work);
-            next = request.saturating_add(1);
+            if number > first && all <= number && older <= change {
+                break;
+            }
+            work.keep(&mut register.operations, *one);
+            all = one.slot.saturating_add(1).max(all);
+            if !one.is_read {
+                (older, last, change) = (older.max(last), one.slot.saturating_add(1), number);
+            }
+            let next = first.max(number.saturating_add(1));
+            number = self.every.late(next, end, 1).unwrap_or(end);
         }
-        Some(Register {
-            lo,
-            hi: self.at,
-            read,
-            operations,
-        })
-    }
-
-    // Adds what a request does here. Until its period ends a READ may be served, also one that is taken as served when it came.
-    fn add(&mut self, request: usize, last: usize, operations: &mut Vec<Patch>, work: &mut Work) {
-        work.spend(8);
-        let Some(mut one) = self.now.get(request).copied() else {
-            return;
-        };
-        if one.is_read {
-            one.due = one.due.min(last);
-            if one.wrong_to > self.at {
-                work.keep(&mut self.news, request);
+        // Until its period ends a READ may be served, also one that is taken as served when it came.
+        let last = number.saturating_sub(1);
+        for one in register.operations.iter_mut() {
+            if one.is_read {
+                one.due = one.due.min(last);
             }
         }
-        work.keep(operations, one);
+        last
     }
 
-    /// Lets something happen here, when the periods to which it matters are closed.
-    pub fn pass(&mut self, scene: &Scene, patch: &Patch, event: &Event, work: &mut Work) {
-        let (_, kind, _, wrong_to) = *event;
-        work.spend(32);
-        if let (Some(now), true) = (self.now.get_mut(patch.request), kind != Kind::Ends) {
-            *now = Patch { wrong_to, ..*patch };
-        }
-        let slot = if kind == Kind::Ends {
-            None
-        } else {
-            Some(patch.slot)
-        };
-        if kind == Kind::IsWrong {
-            work.keep(&mut self.news, patch.request);
-        } else if scene.is_pinned && patch.due == NEVER {
-            self.lost.set(patch.request, slot);
-        } else {
-            self.every.set(patch.request, slot);
-            if !patch.is_read {
-                self.changes.set(patch.request, slot);
+    /// Closes a period to which it matters that a patch begins or ends here, if there is one.
+    pub fn close(&mut self, patch: &Patch, work: &mut Work) -> Option<Register> {
+        work.spend(16);
+        let last = self.touched(patch)?;
+        let mut register = self.open.remove(&last)?;
+        register.hi = self.at;
+        for one in &register.operations {
+            if one.is_wrong && one.hi > self.at {
+                work.keep(&mut self.news, one.request);
             }
         }
+        Some(register)
+    }
+
+    // The last number of an open period to which a patch matters: a change to all but those behind a change that is surely later.
+    fn touched(&self, patch: &Patch) -> Option<usize> {
+        let (last, register) = self.open.range(patch.request..).next()?;
+        match patch.is_read {
+            true if register.first > patch.slot => None,
+            false if register.newest > patch.due => None,
+            _ => Some(*last),
+        }
+    }
+
+    /// Lets a patch begin or end here, when the periods to which it matters are closed.
+    pub fn pass(&mut self, patch: &Patch, begins: bool, work: &mut Work) {
+        work.spend(16);
+        if let (Some(now), true) = (self.now.get_mut(patch.request), begins) {
+            *now = *patch;
+            if patch.is_wrong {
+                work.keep(&mut self.news, patch.request);
+            }
+        }
+        self.every.set(patch.request, patch.slot, begins);
+        if !patch.is_read && patch.slot >= patch.request {
+            self.changes.set(patch.request, patch.slot, begins);
+        }
+    }
+
+    /// The place of the first READ of a register that is refuted alone, if it is less than one, and the first such offset.
+    pub fn refuted(
+        &self,
+        scene: &Scene,
+        register: &Register,
+        end: usize,
+        work: &mut Work,
+    ) -> Option<(usize, u64)> {
+        for place in 0..register.operations.len() {
+            let read = &register.operations[place];
+            if read.is_wrong && read.request < end {
+                if let Some(offset) = self.unseen(scene, read, register.lo, work) {
+                    return Some((place, offset));
+                }
+            }
+        }
+        None
+    }
+
+    // The first offset from one up to here at which no change left a READ's byte that it can see: the newest change that is
+    // surely before it, and those that may be served behind that one and before the READ.
+    fn unseen(&self, scene: &Scene, read: &Patch, lo: u64, work: &mut Work) -> Option<u64> {
+        let newest = self.changes.newest(read.request, read.request);
+        let end = read.due.saturating_add(1);
+        // What was left out may have left it.
+        if self.every.newest(end, 1) > 0 {
+            return None;
+        }
+        let (mut offset, mut begun, mut number) = (lo, lo, 0);
+        for _ in 0..u64::MAX {
+            work.spend(4);
+            if offset >= self.at || work.is_over() {
+                break;
+            }
+            match self.changes.late(number, end, newest) {
+                Some(found) => {
+                    number = found.saturating_add(1);
+                    if let Some(change) = self.now.get(found) {
+                        offset = scene.differs(change, read, offset, self.at, work);
+                    }
+                }
+                // All were asked: once more, if that was of use.
+                None if offset > begun => (begun, number) = (offset, 0),
+                None => return Some(offset),
+            }
+        }
+        None
     }
 }

@@ -35,24 +35,11 @@ pub struct Work {
 }
 
 impl Work {
-    /// A search that begins, and looks at this.
-    pub fn new(alloc: Global, limits: Limits, place: Place, progress: Progress) -> Work {
-        Work {
-            alloc,
-            limits,
-            place,
-            end: None,
-            is_lost: false,
-            progress,
-        }
-    }
-
     /// Takes so many steps; the search is over where fewer are left.
     pub fn spend(&mut self, steps: usize) {
         let left = self.limits.steps;
         let Some(rest) = left.checked_sub(steps as u64) else {
-            self.end = Some(Reason::Steps);
-            return;
+            return self.give_up(Reason::Steps);
         };
         self.limits.steps = rest;
         if rest / PAUSE < left / PAUSE {
@@ -60,13 +47,19 @@ impl Work {
         }
     }
 
+    /// Breaks the search off, if it is not.
+    pub fn give_up(&mut self, reason: Reason) {
+        self.end.get_or_insert(reason);
+    }
+
     /// Whether the search is broken off.
     pub fn is_over(&self) -> bool {
         self.is_lost || self.end.is_some()
     }
 
-    /// Adds an item to a list, or notes that memory was refused.
+    /// Adds an item to a list, which costs some steps too, or notes that memory was refused.
     pub fn keep<T: Drop>(&mut self, list: &mut Vec<T>, item: T) {
+        self.spend(8);
         keep(list, item, &mut self.is_lost);
     }
 }
