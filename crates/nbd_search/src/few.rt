@@ -11,7 +11,7 @@ const MOST: usize = 64;
 /// Few of the requests of a byte that has no order, as came out in a slot. Of the READs that are due there these are the last 1,
 /// 2, 4 .. that have none, but for those that the others do not need.
 pub fn shrink(operations: &[Patch], slot: usize, sweep: &mut Sweep) -> Vec<Patch> {
-    let mut reads = by_due(operations, slot, &mut sweep.work);
+    let mut reads = reads_by(operations, slot, &mut sweep.work);
     let mut size = 1usize;
     for _ in 0..64 {
         let last = reads.get(..size).unwrap_or(&reads);
@@ -29,16 +29,14 @@ pub fn shrink(operations: &[Patch], slot: usize, sweep: &mut Sweep) -> Vec<Patch
     few_of(operations, &reads, &mut sweep.work)
 }
 
-// The READs that are due up to a slot, those that are due last first.
-fn by_due(operations: &[Patch], slot: usize, work: &mut Work) -> Vec<Patch> {
+// The READs that are due up to a slot, the last first.
+fn reads_by(operations: &[Patch], slot: usize, work: &mut Work) -> Vec<Patch> {
     let mut reads = Vec::new(work.alloc);
-    work.spend(operations.len().saturating_mul(16));
     for one in operations {
         if one.is_read && one.due <= slot {
             work.keep(&mut reads, *one);
         }
     }
-    reads.sort_unstable_by_key(|read| read.due);
     reads.reverse();
     reads
 }
@@ -64,7 +62,6 @@ pub fn few_of(operations: &[Patch], reads: &[Patch], work: &mut Work) -> Vec<Pat
     few
 }
 
-// The newest change that is surely before a READ.
 fn newest_before(operations: &[Patch], read: &Patch) -> usize {
     let mut newest = 0;
     for one in operations {

@@ -77,7 +77,7 @@ pub fn entries_of(requests: &[Patch], served: &[Served], work: &mut Work) -> Vec
     joined(requests, &pieces, work)
 }
 
-// Adds what is served in the registers, and what of the same requests lies before that. What goes on at a moment is one piece.
+// Adds what is served in the registers, and what of the same requests lies before that.
 fn add_registers(
     pieces: &mut Vec<Piece>,
     ends: &mut [(u64, usize)],
@@ -91,20 +91,28 @@ fn add_registers(
             first = (0, 0);
             continue;
         }
-        first = (*request, 0).max(first);
-        let (end, behind) = ends[*request];
-        match pieces.get_mut(behind.wrapping_sub(1)) {
-            Some(last) if end == *lo && last.0 == first => last.3 = *hi,
-            _ => {
-                if end < *lo {
-                    work.keep(pieces, (requests[*request].moment, *request, end, *lo));
-                }
-                work.keep(pieces, (first, *request, *lo, *hi));
-                ends[*request].1 = pieces.len();
+        first = first.max((*request, 0));
+        let (piece, (end, behind)) = ((first, *request, *lo, *hi), ends[*request]);
+        if !goes_on(pieces, behind, piece) {
+            if end < *lo {
+                work.keep(pieces, (requests[*request].moment, *request, end, *lo));
             }
+            work.keep(pieces, piece);
+            ends[*request].1 = pieces.len();
         }
         ends[*request].0 = *hi;
         first.1 = first.1.saturating_add(1);
+    }
+}
+
+// Whether a piece goes on with the one before a place at its moment: they are one then.
+fn goes_on(pieces: &mut [Piece], behind: usize, piece: Piece) -> bool {
+    match pieces.get_mut(behind.wrapping_sub(1)) {
+        Some(last) if last.0 == piece.0 && last.3 == piece.2 => {
+            last.3 = piece.3;
+            true
+        }
+        _ => false,
     }
 }
 

@@ -12,7 +12,7 @@ use nbd_wire::{Piece, Profile, commands};
 pub const NEVER: usize = usize::MAX;
 
 /// Bytes that a request leaves in a range, or reads there. The start is request 0, which leaves its bytes before all others.
-#[derive(Clone, Copy, Default, Drop)]
+#[derive(Clone, Copy, Drop)]
 pub struct Patch {
     /// The request's number.
     pub request: usize,
@@ -59,7 +59,6 @@ pub struct Scene<'a> {
 }
 
 impl<'a> Scene<'a> {
-    /// The start and the requests of a session.
     pub fn new(
         profile: Profile,
         transcript: &'a Transcript,
@@ -84,7 +83,6 @@ impl<'a> Scene<'a> {
         scene
     }
 
-    // Adds a request, and what it leaves or reads.
     fn add(&mut self, profile: Profile, one: &Asked, work: &mut Work) {
         let (request, due) = (self.requests.len(), due_of(profile, one, 0));
         let (is_change, command) = (one.touches(one.offset), one.command);
@@ -118,7 +116,10 @@ impl<'a> Scene<'a> {
             hi: range.0.saturating_add(range.1).min(self.size),
             from: range.0,
             piece: piece.unwrap_or(0),
-            ..Patch::default()
+            moment: (0, 0),
+            is_wrong: false,
+            value: None,
+            column: 0,
         }
     }
 
@@ -166,7 +167,6 @@ impl<'a> Scene<'a> {
         Some(self.all_bytes(patch)?.get(first..behind).unwrap_or(&[]))
     }
 
-    // All bytes of a patch.
     fn all_bytes(&self, patch: &Patch) -> Option<&'a [u8]> {
         let Some(one) = self.transcript.asked(patch.request as u64) else {
             return match self.start {
@@ -224,7 +224,7 @@ fn mixed(bytes: &[u8]) -> u64 {
     number
 }
 
-// A byte, which is zero where it is not there.
+// Where there is no byte it is zero.
 fn byte_at(bytes: &[u8], place: usize) -> u8 {
     bytes.get(place).copied().unwrap_or(0)
 }

@@ -17,9 +17,8 @@ use std::alloc::{AllocError, Global};
 /// How often all requests are put into an order and replayed.
 const ROUNDS: u64 = 16;
 
-/// Looks for an order that explains the session of the profile from this start, or for requests that refute each, where the
-/// order of arrival has this wrong byte. Several times a second it says on `progress` how far it is. An `Err` says that memory
-/// ran out.
+/// Looks for an order that explains the session of the profile from this start, or for requests that refute each, where that
+/// of arrival has this wrong byte. It says on `progress` how far it is. An `Err` says that memory ran out.
 pub fn propose(
     alloc: Global,
     profile: Profile,
@@ -54,7 +53,6 @@ pub fn propose(
     }
 }
 
-/// A search of a session.
 #[derive(Drop)]
 struct Search {
     // The search of one register, and what all may cost.
@@ -182,14 +180,13 @@ impl Search {
     // Asks whether a READ is refuted alone that is less than those that were found; whether any was, or a register is stuck.
     fn ask(&mut self, scene: &Scene, walk: &Walk, register: &mut Register) -> bool {
         let work = &mut self.sweep.work;
-        if let Some((place, offset)) = walk.refuted(scene, register, self.alone, work) {
-            let behind = offset.saturating_add(1);
+        if let Some((read, offset)) = walk.refuted(scene, register, self.alone, work) {
+            let (behind, mut reads) = (offset.saturating_add(1), [read]);
+            scene.number(&mut reads, offset, behind, work);
             scene.number(&mut register.operations, offset, behind, work);
-            if let Some(read) = register.operations.get(place) {
-                (self.alone, self.is_stuck) = (read.request, true);
-                work.place = place_of(read.request, offset);
-                self.refuting = few_of(&register.operations, &[*read], work);
-            }
+            (self.alone, self.is_stuck) = (read.request, true);
+            work.place = place_of(read.request, offset);
+            self.refuting = few_of(&register.operations, &reads, work);
         }
         self.is_stuck
     }
@@ -201,7 +198,9 @@ impl Search {
             Outcome::NoOrder(slot) if self.is_exact => {
                 self.refuting = shrink(&register.operations, slot, &mut self.sweep);
             }
-            _ if self.is_exact => self.sweep.work.give_up(Reason::States),
+            _ if self.is_exact => {
+                self.sweep.work.end.get_or_insert(Reason::States);
+            }
             _ => {}
         }
     }

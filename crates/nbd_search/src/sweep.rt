@@ -12,7 +12,6 @@ const COUNT: usize = 1024;
 
 const WORDS: usize = COUNT / 64;
 
-/// What a search comes to.
 #[derive(Clone, Copy, Drop)]
 pub enum Outcome {
     Order,
@@ -37,13 +36,11 @@ struct State {
 }
 
 impl State {
-    // Whether it has served an open operation.
     fn has_served(&self, one: &Patch) -> bool {
         let word = self.debt[one.column / 64 % WORDS];
         (word >> (one.column % 64) & 1 == 1) != one.is_read
     }
 
-    // Has served an operation that it had not, or the other way round.
     fn flip(&mut self, one: &Patch) {
         self.debt[one.column / 64 % WORDS] ^= 1 << (one.column % 64);
     }
@@ -82,22 +79,18 @@ impl State {
 // has served is in order; and the place behind that of what the state served before it, or 0.
 type Logged = (usize, usize, usize);
 
-/// A search that goes on slot by slot.
 #[derive(Drop)]
 pub struct Sweep {
-    /// What it may cost.
     pub work: Work,
     // The operations that have arrived and are not due yet, by their columns; what is closed has no request.
     open: Vec<Patch>,
     closed: Vec<usize>,
     states: Vec<State>,
     log: Vec<Logged>,
-    // The last slot that was gone through.
     slot: usize,
 }
 
 impl Sweep {
-    /// A search that has not begun.
     pub fn new(work: Work) -> Sweep {
         Sweep {
             open: Vec::new(work.alloc),
@@ -132,7 +125,6 @@ impl Sweep {
         Outcome::Order
     }
 
-    // Nothing has arrived and nothing is known.
     fn begin(&mut self) {
         self.work.progress.searches = self.work.progress.searches.saturating_add(1);
         self.open.clear();
@@ -178,7 +170,6 @@ impl Sweep {
         }
     }
 
-    // The states, which are none then.
     fn take_states(&mut self) -> Vec<State> {
         mem::replace(&mut self.states, Vec::new(self.work.alloc))
     }

@@ -84,7 +84,7 @@ impl Walk {
         }
     }
 
-    // Whether a READ is wrong and its period is not open.
+    // Whether a READ is wrong, and its period is not open.
     fn is_new(&self, read: usize) -> bool {
         match (self.now.get(read), self.open.range(read..).next()) {
             (Some(one), _) if !one.is_wrong || one.hi <= self.at => false,
@@ -93,7 +93,6 @@ impl Walk {
         }
     }
 
-    // Opens the period of a READ.
     fn open(&mut self, read: usize, work: &mut Work) {
         let first = self.first(read, work);
         let mut register = Register {
@@ -194,19 +193,18 @@ impl Walk {
         }
     }
 
-    /// The place of the first READ of a register that is refuted alone, if it is less than one, and the first such offset.
+    /// The first READ of a register that is refuted alone, if it is less than one, and the first such offset.
     pub fn refuted(
         &self,
         scene: &Scene,
         register: &Register,
         end: usize,
         work: &mut Work,
-    ) -> Option<(usize, u64)> {
-        for place in 0..register.operations.len() {
-            let read = &register.operations[place];
+    ) -> Option<(Patch, u64)> {
+        for read in &register.operations {
             if read.is_wrong && read.request < end {
                 if let Some(offset) = self.unseen(scene, read, register.lo, work) {
-                    return Some((place, offset));
+                    return Some((*read, offset));
                 }
             }
         }

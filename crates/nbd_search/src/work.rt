@@ -12,8 +12,7 @@ const PAUSE: u64 = 1 << 23;
 pub struct Limits {
     /// How many states the search of one range may have at once.
     pub states: u64,
-    /// How many steps may be taken in all, each of a few nanoseconds. The memory that the search holds is bounded by a small multiple
-    /// of them, in bytes.
+    /// How many steps may be taken in all, each of some nanoseconds, and of a few bytes of memory.
     pub steps: u64,
 }
 
@@ -39,17 +38,13 @@ impl Work {
     pub fn spend(&mut self, steps: usize) {
         let left = self.limits.steps;
         let Some(rest) = left.checked_sub(steps as u64) else {
-            return self.give_up(Reason::Steps);
+            self.end = Some(Reason::Steps);
+            return;
         };
         self.limits.steps = rest;
         if rest / PAUSE < left / PAUSE {
             self.progress.show();
         }
-    }
-
-    /// Breaks the search off, if it is not.
-    pub fn give_up(&mut self, reason: Reason) {
-        self.end.get_or_insert(reason);
     }
 
     /// Whether the search is broken off.
