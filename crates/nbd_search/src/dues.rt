@@ -11,7 +11,7 @@ const WAY: usize = 256;
 pub struct Dues {
     // The place of number 0: a power of two, and at least how many numbers there are.
     leaves: usize,
-    // Of all below a node, of which 1 is the top, the least last slot, or `NEVER`, and the slot behind the greatest, or 0.
+    // Of all below a node, 1 the top, the least last slot, or `NEVER`, and the slot behind the greatest, or 0.
     nodes: Vec<(usize, usize)>,
 }
 

@@ -8,7 +8,7 @@ use crate::work::Work;
 /// The most requests that a contest may have of a kind.
 const MOST: usize = 64;
 
-/// Few of the requests of a byte that has no order, as came out in a slot. Of the READs that are due there these are the last 1,
+/// Few of the requests of a byte that has no order, as came out in a slot: of the READs that are due there the last 1,
 /// 2, 4 .. that have none, but for those that the others do not need.
 pub fn shrink(operations: &[Patch], slot: usize, sweep: &mut Sweep) -> Vec<Patch> {
     let mut reads = reads_by(operations, slot, &mut sweep.work);
@@ -46,7 +46,7 @@ fn has_none(operations: &[Patch], reads: &[Patch], sweep: &mut Sweep) -> bool {
     matches!(sweep.run(&mut few), Outcome::NoOrder(_))
 }
 
-/// These READs, and what may help one: the newest change that is surely before it, and those that it sees with its bytes.
+/// These READs, and what may help one: the newest change surely before it, and those that it sees with its bytes.
 pub fn few_of(operations: &[Patch], reads: &[Patch], work: &mut Work) -> Vec<Patch> {
     let (mut helped, mut few) = (Vec::new(work.alloc), Vec::new(work.alloc));
     for read in reads {

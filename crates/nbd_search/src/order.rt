@@ -10,7 +10,7 @@ const PASSES: usize = 16;
 /// The slot in which a request is served whole, or `NEVER` where it is not, and its place in that slot.
 pub type Moment = (usize, usize);
 
-/// A request that is served in a register, or 0 where one begins; and the register's first offset, and the one behind it.
+/// A request that is served in a register, or 0 where one begins; and the register's range.
 pub type Served = (usize, u64, u64);
 
 // What is served atomically: its moment, the request, and the range from its first offset to the one behind it.
@@ -58,10 +58,10 @@ fn put_off(served: &[Served], requests: &mut [Patch]) -> Option<bool> {
     Some(is_changed)
 }
 
-/// The order in which each register has its own, and all else is served at its moment. Where these are those of arrival a
-/// register keeps its order and no part is late, since they are sorted by their slots.
+/// The order in which each register has its own, and all else is served at its moment. Where these are those of arrival
+/// a register keeps its order and no part is late, since they are sorted by their slots.
 pub fn entries_of(requests: &[Patch], served: &[Served], work: &mut Work) -> Vec<Entry> {
-    // Up to where each request is served, and the place behind its last piece: the registers of one stand by their offsets.
+    // Up to where each is served, and the place behind its last piece: the registers of one stand by their offsets.
     let (mut pieces, mut ends) = (Vec::new(work.alloc), Vec::new(work.alloc));
     for one in requests {
         work.keep(&mut ends, (one.lo, 0));

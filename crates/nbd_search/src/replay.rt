@@ -76,7 +76,7 @@ impl Replay {
         }
     }
 
-    // Notes where a READ, whose patch is at a place, got other bytes than are known there; blocks that adjoin are one range.
+    // Notes where a READ, whose patch is at a place, got other bytes; blocks that adjoin are one range.
     fn compare(&mut self, scene: &Scene, read: &Patch, place: usize, work: &mut Work) {
         let mut at = read.lo;
         for _ in read.lo..read.hi {
@@ -95,7 +95,7 @@ impl Replay {
         }
     }
 
-    // The first offset from `lo` to before `hi` with another known byte than one of these, or than 0 where there are none.
+    // The first offset from `lo` to before `hi` with another known byte than these, or than 0 if there are none.
     fn first_other(&mut self, lo: u64, hi: u64, bytes: &[u8]) -> Option<u64> {
         let hi = hi.min(self.contents.size());
         let (lo, length) = (lo.min(hi), hi.saturating_sub(lo));

@@ -1,4 +1,4 @@
-//! The requests of a session as what they leave or read in ranges of the export. A BLOCK_STATUS is a READ of zeroes here.
+//! The requests of a session as what they leave or read in ranges. A BLOCK_STATUS is a READ of zeroes here.
 
 use crate::order::Moment;
 use crate::replay::Range;
@@ -11,12 +11,12 @@ use nbd_wire::{Piece, Profile, commands};
 /// The last slot of a request that may stay out.
 pub const NEVER: usize = usize::MAX;
 
-/// Bytes that a request leaves in a range, or reads there. The start is request 0, which leaves its bytes before all others.
+/// Bytes that a request leaves in a range, or reads there. The start is request 0, which leaves its bytes first.
 #[derive(Clone, Copy, Drop)]
 pub struct Patch {
     /// The request's number.
     pub request: usize,
-    /// The last slot in which it may be served, or `NEVER`. Slot t lies between the completion of request t and the next one.
+    /// The last slot in which it may be served, or `NEVER`. Slot t is from the completion of request t to the next.
     pub due: usize,
     /// The last slot in which it is taken to be served; 0 where it is not.
     pub slot: usize,
@@ -52,7 +52,7 @@ pub struct Scene<'a> {
     start: &'a Start,
     /// The export's size in bytes.
     pub size: u64,
-    /// By their numbers, each whole; number 0 is the start. The range is empty of one that neither leaves bytes nor reads them.
+    /// By their numbers, each whole; number 0 is the start. A range is empty where no bytes are left or read.
     pub requests: Vec<Patch>,
     /// What they leave or read; of a READ at least one for each piece with bytes.
     pub patches: Vec<Patch>,
@@ -93,7 +93,8 @@ impl<'a> Scene<'a> {
         if is_change {
             self.keep(whole, work);
         }
-        for i in 0..if is_read { one.pieces.len() } else { 0 } {
+        let count = if is_read { one.pieces.len() } else { 0 };
+        for i in 0..count {
             let (span, due) = (Span::of(&one.pieces[i]), due_of(profile, one, i));
             let patch = self.patch(request, due, Some(i), (span.offset, span.size));
             self.keep(patch, work);
@@ -152,7 +153,7 @@ impl<'a> Scene<'a> {
         }
     }
 
-    /// Numbers what patches do from `lo` to before `hi`: the same number for the same bytes, None where they are unknown.
+    /// Numbers the bytes of patches from `lo` to before `hi`: the same have the same number, unknown ones none.
     pub fn number(&self, patches: &mut [Patch], lo: u64, hi: u64, work: &mut Work) {
         for patch in patches.iter_mut() {
             work.spend((hi.saturating_sub(lo) as usize / 8).saturating_add(4));
@@ -184,7 +185,7 @@ impl<'a> Scene<'a> {
         }
     }
 
-    /// The first offset from `lo` to before `hi` at which a READ did not get what a change left; `hi` where there is none.
+    /// The first offset from `lo` to before `hi` at which a READ did not get what a change left, or `hi`.
     pub fn differs(&self, change: &Patch, read: &Patch, lo: u64, hi: u64, work: &mut Work) -> u64 {
         let (left, got) = (self.bytes(change, lo, hi), self.bytes(read, lo, hi));
         let (Some(left), Some(got)) = (left, got) else {

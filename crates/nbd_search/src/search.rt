@@ -17,8 +17,8 @@ use std::alloc::{AllocError, Global};
 /// How often all requests are put into an order and replayed.
 const ROUNDS: u64 = 16;
 
-/// Looks for an order that explains the session of the profile from this start, or for requests that refute each, where that
-/// of arrival has this wrong byte. It says on `progress` how far it is. An `Err` says that memory ran out.
+/// Looks for an order that explains the session of the profile from this start, or for requests that refute each, where
+/// that of arrival has this wrong byte. It says on `progress` how far it is. An `Err` says that memory ran out.
 pub fn propose(
     alloc: Global,
     profile: Profile,
@@ -84,8 +84,8 @@ impl Search {
         }
     }
 
-    // The present order is replayed, first that of arrival; what it gets wrong is searched and binds the next one, until nothing
-    // is wrong. If that does not come, an order in parts needs no registers but those of the order of arrival.
+    // The present order is replayed, first that of arrival; what it gets wrong is searched and binds the next one,
+    // until nothing is wrong. Else an order in parts needs no registers but those of the order of arrival.
     fn refine(&mut self, scene: &mut Scene) -> bool {
         let mut count = 0;
         for round in 1..=ROUNDS {
@@ -177,7 +177,7 @@ impl Search {
         outcome
     }
 
-    // Asks whether a READ is refuted alone that is less than those that were found; whether any was, or a register is stuck.
+    // Asks whether a READ is refuted alone that is less than those found; whether any was, or a register is stuck.
     fn ask(&mut self, scene: &Scene, walk: &Walk, register: &mut Register) -> bool {
         let work = &mut self.sweep.work;
         if let Some((read, offset)) = walk.refuted(scene, register, self.alone, work) {

@@ -1,6 +1,6 @@
-//! The search for an order of the requests of one range, whose bytes are taken as one value. A READ is served where the value
-//! matches; a change in its last slot, by a switch to its value or hidden directly before the last switch; a READ in its last
-//! slot with an open change of its value.
+//! The search for an order of the requests of one range, whose bytes are taken as one value. A READ is served where the
+//! value matches; a change in its last slot, by a switch to its value or hidden directly before the last switch; a READ in
+//! its last slot with an open change of its value.
 
 use crate::order::Served;
 use crate::scene::{NEVER, Patch};
@@ -30,8 +30,8 @@ struct State {
     turn: usize,
     // The place of what was served last in the log, behind it.
     log: usize,
-    // What stands against it, by columns: of the open operations the changes that it has served, and the READs that it has
-    // not. In the column of one that is closed all states are alike.
+    // What stands against it, by columns: of the open operations the changes that it has served, and the READs that it
+    // has not. In the column of one that is closed all states are alike.
     debt: [u64; WORDS],
 }
 
@@ -63,7 +63,7 @@ impl State {
         true
     }
 
-    // Whether it can still hide the open changes that another one has served besides: they had arrived at its last switch.
+    // Whether it can still hide what another one has changed besides: that had arrived at its last switch.
     fn can_hide(&self, other: &State, open: &[Patch]) -> bool {
         for one in open {
             let is_late = !one.is_read && one.request > self.last;
@@ -75,8 +75,8 @@ impl State {
     }
 }
 
-// A request that was served, or 0 for what was left before; its turn: by turns, and then by places in the log, what one state
-// has served is in order; and the place behind that of what the state served before it, or 0.
+// A request that was served, or 0 for what was left before; its turn: what one state has served is in order by turns and
+// then by places in the log; and the place behind that of what the state served before it, or 0.
 type Logged = (usize, usize, usize);
 
 #[derive(Drop)]
@@ -174,7 +174,7 @@ impl Sweep {
         mem::replace(&mut self.states, Vec::new(self.work.alloc))
     }
 
-    // Adds what a state becomes by serving what is due; a READ with an open change to its value, or to one that is not known.
+    // Adds what a state becomes by serving what is due; a READ with an open change to its value, or to an unknown one.
     fn branch(&mut self, state: &State, one: &Patch) {
         for value in [one.value, None] {
             self.put(state, one, value, true);
@@ -208,8 +208,8 @@ impl Sweep {
         self.work.keep(&mut self.states, state);
     }
 
-    // The change with which what is due is served in a slot, if there is one: itself, or of the open changes to this value that
-    // the state has not served the one with the earliest last slot.
+    // The change with which what is due is served in a slot, if there is one: itself, or of the open changes to this value
+    // that the state has not served the one with the earliest last slot.
     fn change(&self, state: &State, one: &Patch, value: Option<u64>, slot: usize) -> Option<Patch> {
         if one.request > slot {
             return None;

@@ -23,8 +23,8 @@ pub fn events_of(scene: &Scene, work: &mut Work) -> Vec<Event> {
     events
 }
 
-/// A range whose bytes are taken as one value, with a period: the requests from one number to another, such that all others
-/// are due before or came later, and the newest change before them is surely the last that is served before.
+/// A range whose bytes are taken as one value, with a period: the requests from one number to another, such that all
+/// others are due before or came later, and the newest change before them is surely the last that is served before.
 #[derive(Drop)]
 pub struct Register {
     /// The range, to before `hi`.
@@ -122,8 +122,8 @@ impl Walk {
         first
     }
 
-    // Takes in one request of a period after the other, and answers the last number: where all that came is due, and all changes
-    // before the newest one were due before that one.
+    // Takes in one request of a period after the other, and answers the last number: where all that came is due, and all
+    // changes before the newest one were due before that one.
     fn fill(&self, register: &mut Register, work: &mut Work) -> usize {
         let (first, end) = (register.first, self.now.len());
         // The slots behind the last ones of all, of the newest change, and of those before that.
@@ -168,7 +168,7 @@ impl Walk {
         Some(register)
     }
 
-    // The last number of an open period to which a patch matters: a change to all but those behind a change that is surely later.
+    // The last number of an open period to which a patch matters: a change does up to one that is surely later.
     fn touched(&self, patch: &Patch) -> Option<usize> {
         let (last, register) = self.open.range(patch.request..).next()?;
         match patch.is_read {
@@ -211,7 +211,7 @@ impl Walk {
         None
     }
 
-    // The first offset from one up to here at which no change left a READ's byte that it can see: the newest change that is
+    // The first offset from one up to here at which no change left a READ's byte that it can see: the newest that is
     // surely before it, and those that may be served behind that one and before the READ.
     fn unseen(&self, scene: &Scene, read: &Patch, lo: u64, work: &mut Work) -> Option<u64> {
         let newest = self.changes.newest(read.request, read.request);
