@@ -76,22 +76,33 @@ impl Replay {
         }
     }
 
-    // Notes where a READ, whose patch is at a place, got other bytes; blocks that adjoin are one range.
+    // Notes where a READ, whose patch is at a place, got other bytes: in aligned blocks, but zeroes in ranges that double
+    // where one follows the other. What adjoins is one range.
     fn compare(&mut self, scene: &Scene, read: &Patch, place: usize, work: &mut Work) {
-        let mut at = read.lo;
+        let (mut at, mut step) = (read.lo, BLOCK);
         for _ in read.lo..read.hi {
-            work.spend(32);
+            work.spend(64);
             let bytes = scene.bytes(read, at, read.hi).unwrap_or(&[]);
             let Some(offset) = self.first_other(at, read.hi, bytes) else {
                 break;
             };
-            let block = offset / BLOCK;
-            let lo = block.saturating_mul(BLOCK).max(at);
-            at = block.saturating_add(1).saturating_mul(BLOCK).min(read.hi);
-            match self.wrong.last_mut() {
-                Some(last) if last.2 == place && last.1 == lo => last.1 = at,
-                _ => work.keep(&mut self.wrong, (lo, at, place)),
+            let (mut start, is_zero) = (offset, bytes.is_empty());
+            step = BLOCK.min(step.saturating_mul(2));
+            if !is_zero {
+                start = offset.saturating_sub(offset % BLOCK);
+            } else if offset > at {
+                step = 1;
             }
+            let lo = start.max(at);
+            at = start.saturating_add(step).min(read.hi);
+            self.note((lo, at, place), work);
+        }
+    }
+
+    fn note(&mut self, range: Range, work: &mut Work) {
+        match self.wrong.last_mut() {
+            Some(last) if last.2 == range.2 && last.1 == range.0 => last.1 = range.1,
+            _ => work.keep(&mut self.wrong, range),
         }
     }
 

@@ -154,7 +154,7 @@ impl Sweep {
 
     // An operation is in its last slot: each state that has not served it does so, in each way.
     fn fall_due(&mut self, one: &Patch) {
-        for state in &self.take_states() {
+        for state in &mem::replace(&mut self.states, Vec::new(self.work.alloc)) {
             if state.has_served(one) {
                 self.work.keep(&mut self.states, *state);
             } else {
@@ -168,10 +168,6 @@ impl Sweep {
         if self.states.len() > 1 {
             self.prune();
         }
-    }
-
-    fn take_states(&mut self) -> Vec<State> {
-        mem::replace(&mut self.states, Vec::new(self.work.alloc))
     }
 
     // Adds what a state becomes by serving what is due; a READ with an open change to its value, or to an unknown one.
@@ -229,7 +225,7 @@ impl Sweep {
 
     // Drops each state for which another one can stand.
     fn prune(&mut self) {
-        let mut states = self.take_states();
+        let mut states = mem::replace(&mut self.states, Vec::new(self.work.alloc));
         self.work.spend(states.len().saturating_mul(16));
         states.sort_unstable_by_key(|state| (state.value, NEVER - state.last, state.debt));
         for state in &states {
