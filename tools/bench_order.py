@@ -18,7 +18,7 @@ import subprocess
 import tempfile
 import typing
 
-from bench_extents import READ, TOP, WRITE, negotiation, number, reply, request, timed
+from bench_extents import BLOCK_STATUS, HOLE_AND_ZERO, READ, TOP, WRITE, negotiation, number, reply, request, timed
 
 MIB = 1 << 20
 
@@ -30,7 +30,8 @@ class Task:
 
 class Shape(typing.NamedTuple):
     """A session of so many requests: blocks of `block` bytes, or, without one, ranges of 1 to `most` bytes anywhere, of so many
-    different bytes. With `stale` one READ behind the half of them gets an old byte."""
+    different bytes. With `stale` one READ behind the half of them gets an old byte, with `lie` the byte 0 where there is another one.
+    With `late` the first request is a READ of all that is answered last, with `lost` a WRITE of all that is never carried out."""
 
     count: int
     window: int
@@ -39,6 +40,9 @@ class Shape(typing.NamedTuple):
     most: int = 0
     letters: int = 256
     stale: bool = False
+    lie: bool = False
+    late: bool = False
+    lost: bool = False
 
     def draw_range(self, dice):
         if self.block:
@@ -51,7 +55,12 @@ class Shape(typing.NamedTuple):
 
     def records(self, dice):
         """Its lines behind the negotiation."""
-        export, before, open_tasks, asked, stale = bytearray(self.size), bytearray(self.size), {}, 0, self.stale
+        export, before, open_tasks, asked = bytearray(self.size), bytearray(self.size), {}, 0
+        stale, lie = self.stale, self.lie
+        if self.late:
+            yield b"C", request(READ, self.count + 1, 0, self.size)
+        if self.lost:
+            yield b"C", request(WRITE, self.count + 2, 0, self.size, dice.randbytes(self.size))
         while asked < self.count or open_tasks:
             if asked < self.count and len(open_tasks) < self.window and (not open_tasks or dice.random() < 0.6):
                 asked += 1
@@ -75,10 +84,14 @@ class Shape(typing.NamedTuple):
                     if stale and asked > self.count // 2 and data != before[task.offset:end]:
                         at = next(i for i in range(len(data)) if data[i] != before[task.offset + i])
                         data[at], stale = before[task.offset + at], False
+                    if lie and asked > self.count // 2 and any(data):
+                        data[next(i for i in range(len(data)) if data[i])], lie = 0, False
                     task.data = bytes(data)
             if dice.random() < 0.5:
                 del open_tasks[cookie]
                 yield b"S", reply(cookie, task.data if task.command == READ else b"")
+        if self.late:
+            yield b"S", reply(self.count + 1, bytes(self.size))
 
     def lines(self):
         yield from negotiation(self.size, False)
@@ -101,13 +114,51 @@ class Holes(typing.NamedTuple):
             hole = number(0, 8) + number(MIB, 4)
             yield b"S", bytes.fromhex("668e33ef00010002") + number(cookie, 8) + number(len(hole), 4) + hole
         for i in range(self.count):
-            yield b"S", bytes.fromhex("668e33ef00010000") + number(i + 1, 8) + number(0, 4)
+            yield b"S", done(i + 1)
+
+
+class Statuses(typing.NamedTuple):
+    """WRITEs of single zeroes, each answered before the next comes, and as many statuses that call all zero. Then one byte is written,
+    and a last status calls that zero too. It is of the profile wide."""
+
+    count: int
+
+    def lines(self):
+        yield from negotiation(MIB, True, True)
+        half = self.count // 2
+        for i in range(half):
+            yield b"C", request(WRITE, i + 1, i * (MIB // half), 1, bytes(1))
+            yield b"S", done(i + 1)
+        for i in range(half, self.count - 1):
+            yield from told_zero(i + 1)
+        yield b"C", request(WRITE, self.count, MIB // 2, 1, b"\1")
+        yield b"S", done(self.count)
+        yield from told_zero(self.count + 1)
+
+
+def done(cookie):
+    return bytes.fromhex("668e33ef00010000") + number(cookie, 8) + number(0, 4)
+
+
+def told_zero(cookie):
+    """A status of all, which is called zero."""
+    yield b"C", request(BLOCK_STATUS, cookie, 0, MIB)
+    extent = number(1, 4) + number(MIB, 4) + number(HOLE_AND_ZERO, 4)
+    yield b"S", bytes.fromhex("668e33ef00010005") + number(cookie, 8) + number(len(extent), 4) + extent
+
+
+def growing(name, shape, counts):
+    """Sessions of which each has more requests than the one before."""
+    return {f"{name} {count}": shape._replace(count=count) for count in counts}
 
 
 def with_stale(name, shape):
     return {name: shape, name + " stale": shape._replace(stale=True)}
 
 
+LARGE, MIDDLE = (8_000, 16_000, 32_000, 64_000), (6_000, 12_000, 24_000, 64_000)
+# Overlapping ranges of a good server: in each many requests contend.
+WIDE = Shape(0, 64, 64 * 1024, most=4096)
 SHAPES = {
     **with_stale("1 KiB 2000", Shape(2_000, 64, 1024, most=256)),
     **with_stale("1 KiB 5000", Shape(5_000, 64, 1024, most=256)),
@@ -117,6 +168,13 @@ SHAPES = {
        for key, shape in with_stale(f"byte of {letters}", Shape(3_000, 256, 1, block=1, letters=letters)).items()},
     **{f"1 MiB {kind} {window}": Shape(100_000, window, MIB, **how)
        for kind, how in (("aligned", {"block": 512}), ("anywhere", {"most": 1024})) for window in (1, 16, 64)},
+    **growing("hot byte, one lie,", Shape(0, 16, 1, block=1, lie=True), LARGE),
+    **growing("hot block, one lie,", Shape(0, 16, 512, block=512, lie=True), LARGE),
+    **growing("statuses", Statuses(0), LARGE),
+    **growing("64 KiB", WIDE, MIDDLE),
+    **growing("64 KiB, one lie,", WIDE._replace(lie=True), MIDDLE),
+    **growing("64 KiB, one late,", WIDE._replace(late=True), MIDDLE),
+    **growing("64 KiB, one lost,", WIDE._replace(lost=True), MIDDLE),
     **{f"holes {wrong}": Holes(1_000, wrong) for wrong in (1, 100, 1_000)},
 }
 
@@ -126,13 +184,14 @@ def measure(program, folder, name, shape, runs):
     with open(capture, "wb") as file:
         for side, data in shape.lines():
             file.write(side + b" " + data.hex().encode() + b"\n")
-    words = [program, "order", capture, "--start", "zero"]
+    rest = ["--start", "zero"] + (["--profile", "wide"] if isinstance(shape, Statuses) else [])
+    words = [program, "order", capture, *rest]
     took, memory, answer = timed(words, runs)
     with open(order, "wb") as file:
         status = subprocess.run(words, stdout=file, check=False).returncode
     over, said, parts = "", answer, 0
     if status == 0:
-        checked, _, said = timed([program, "check", capture, order, "--start", "zero"], runs)
+        checked, _, said = timed([program, "check", capture, order, *rest], runs)
         over = f"{took / checked:6.2f}"
         with open(order, "rb") as file:
             parts = sum(line.count(b" ") == 2 for line in file)

@@ -1031,7 +1031,7 @@ def deduced(tally, room):
             ends[follow(tally, f"deduced {turn}", told)] += 1
     tally.want("deduced: all of them end", (ends[0], ends[1] > 10), (0, True))
     ends = {(False, True): 0, (True, False): 0, (True, True): 0}
-    for turn in range(1000):
+    for turn in range(2000):
         start = rng.choice(("zero", "image:8", "unknown"))
         capture = room.put("race.cap", text(race(rng, rng.randint(3, 6), is_wide=True)))
         found = room.run("explain", capture, "--start", start_of(room, "race", start), "--profile", "wide")

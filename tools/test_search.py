@@ -98,13 +98,26 @@ def explains(order, asked, start):
     return not any(one.before is not None and left[one.number] for one in asked)
 
 
+def refuted_alone(asked, known):
+    """The least number of a request that reads a byte which it has in no order of the changes, and the least such offset; None where
+    there is no such request."""
+    changes = [one for one in asked if not one.reads]
+    for one in asked:
+        for offset, byte in enumerate(known):
+            if one.reads and one.act_at(offset) is not None and not has_order([*changes, one], offset, byte):
+                return one.number, offset
+    return None
+
+
 def refutes(line, asked, known):
-    """Whether a line names requests that read, of which one has a wrong byte at its offset in each order."""
+    """Whether a line names requests that read, of which one has a wrong byte at its offset in each order: where one of them has it
+    whatever the others read, the least of these and its least offset."""
+    least = refuted_alone(asked, known)
     if alone := ONE_REQUEST.fullmatch(line):
         word, numbers, offset = alone[1], {int(alone[2])}, int(alone[3])
-        if (word == b"status") != (asked[min(numbers) - 1].command == BLOCK_STATUS):
+        if least != (min(numbers), offset) or (word == b"status") != (asked[min(numbers) - 1].command == BLOCK_STATUS):
             return False
-    elif several := MORE_REQUESTS.fullmatch(line):
+    elif least is None and (several := MORE_REQUESTS.fullmatch(line)):
         numbers, offset = set(map(int, several[1].split())), int(several[2])
     else:
         return False

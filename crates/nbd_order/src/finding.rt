@@ -145,7 +145,8 @@ fn searched(
                 changes,
                 states: Vec::new(alloc),
             };
-            tested(alloc, profile, transcript, start, wrong, refutation)
+            let steps = scope.limits.steps;
+            tested(alloc, profile, transcript, start, wrong, refutation, steps)
         }
         Proposal::GaveUp(at, reason) => Ok(gave_up(at, reason)),
     }
@@ -175,7 +176,7 @@ fn judged(
     }
 }
 
-// The refutation, with all states that its requests can come to, where it is one.
+// The refutation, with all states that its requests can come to, where it is one and so many steps suffice.
 fn tested(
     alloc: Global,
     profile: Profile,
@@ -183,15 +184,18 @@ fn tested(
     start: &Start,
     wrong: Place,
     mut refutation: Refutation,
+    steps: u64,
 ) -> Result<Found, AllocError>
     requires { Passes profile transcript.now (arrival (request_count transcript.now)) (initial_of start.now) → ⊥ }
     ensures found { IfOk result (IsFound profile transcript.now (initial_of start.now)) }
     ensures wanted { (wanted : Wanted) → IfOk result (IsWanted wanted) }
 {
-    if refutation.fill(alloc, profile, transcript, start) {
+    if refutation.fill(alloc, profile, transcript, start, steps) {
         return Err(AllocError);
     }
-    Ok(if is_refuted(profile, transcript, start, &refutation) {
+    Ok(if refutation.steps_to_test(transcript) > steps {
+        gave_up(wrong, Reason::Steps)
+    } else if is_refuted(profile, transcript, start, &refutation) {
         Found::Unexplained(refutation)
     } else if refutation.states.len() < MOST_STATES {
         gave_up(wrong, Reason::Mistake)

@@ -33,22 +33,39 @@ pub struct State {
 }
 
 impl Refutation {
-    /// Adds all states that its requests can come to, or the most that it may have; whether memory was refused. It is still to be tested.
+    /// Adds all states that its requests can come to, or the most that it may have and that so many steps suffice for; whether memory was
+    /// refused. It is still to be tested.
     pub(crate) fn fill(
         &mut self,
         alloc: Global,
         profile: Profile,
         transcript: &Transcript,
         start: &Start,
+        steps: u64,
     ) -> bool {
         let (byte, mut is_lost) = (start_byte(start, self.offset), false);
         self.add(profile, transcript, Vec::new(alloc), byte, &mut is_lost);
         for at in 0..MOST_STATES {
+            if at >= self.states.len() || self.steps_to_test(transcript) > steps {
+                break;
+            }
             for turn in 0..self.changes.len() {
                 self.lead(profile, transcript, at, turn, &mut is_lost);
             }
         }
         is_lost
+    }
+
+    /// How many steps a test takes at most: each state is compared with each other one for each change, and each of the session's
+    /// requests with its READs and changes.
+    pub(crate) fn steps_to_test(&self, transcript: &Transcript) -> u64 {
+        let (states, changes) = (self.states.len() as u64, self.changes.len() as u64);
+        let kept = changes.saturating_add(self.reads.len() as u64);
+        let pairs = states.saturating_mul(states).saturating_mul(changes);
+        let all = transcript.count().saturating_mul(kept);
+        pairs
+            .saturating_mul(kept.saturating_mul(kept) / 16)
+            .saturating_add(all)
     }
 
     // Adds the state that a change leads to, where it can be served next and there is no such state: by their places.

@@ -130,9 +130,9 @@ impl Refutation {
     ) -> bool
         ensures { let f = self.now in IsTrue result → IsNoHelp profile transcript.now f.offset f.changes.items w byte k }
     {
-        is_before(profile, transcript, self.offset, k, w)
+        is_other(transcript, k, self.offset, byte)
+            || is_before(profile, transcript, self.offset, k, w)
             || is_overwritten(profile, transcript, self.offset, &self.changes, w, k)
-            || is_other(transcript, k, self.offset, byte)
     }
 }
 

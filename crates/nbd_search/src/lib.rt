@@ -2,15 +2,16 @@
 //! nbd_order before they are told.
 #![tactic(auto)]
 
-mod columns;
-mod contest;
+mod dues;
+mod few;
 mod order;
 mod progress;
 pub mod proposal;
-mod register;
+mod replay;
 mod scene;
 mod search;
 mod sweep;
+mod walk;
 mod work;
 
 pub use progress::Progress;

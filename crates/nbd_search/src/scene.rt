@@ -1,53 +1,39 @@
-//! The requests of a session as what they leave or read in ranges of the export. No byte is copied. A BLOCK_STATUS reads zeroes where
-//! it calls a range zero, and is a READ here.
+//! The requests of a session as what they leave or read in ranges. A BLOCK_STATUS is a READ of zeroes here.
 
-use crate::work::{Work, keep};
+use crate::order::Moment;
+use crate::replay::Range;
+use crate::work::Work;
 use nbd_export::Start;
 use nbd_session::{Asked, Transcript};
 use nbd_state::Span;
 use nbd_wire::{Piece, Profile, commands};
-use std::alloc::Global;
 
 /// The last slot of a request that may stay out.
 pub const NEVER: usize = usize::MAX;
 
-/// A request: its range is empty where it neither leaves bytes nor reads them.
-#[derive(Clone, Copy, Drop)]
-pub struct Request {
-    /// The last slot in which it may be served whole, or `NEVER`. Slot t lies between the completion of request t and that of the
-    /// next.
-    pub due: usize,
-    /// The first offset of its range.
-    pub lo: u64,
-    /// The offset behind it.
-    pub hi: u64,
-    /// The slot in which the present order serves it whole, or `NEVER` where it does not, and its place in that slot.
-    pub moment: (usize, usize),
-}
-
-/// Bytes that a request leaves in a range, or reads there. The start is request 0, which leaves its bytes before all others.
+/// Bytes that a request leaves in a range, or reads there. The start is request 0, which leaves its bytes first.
 #[derive(Clone, Copy, Drop)]
 pub struct Patch {
     /// The request's number.
     pub request: usize,
-    /// The last slot in which it may be served.
+    /// The last slot in which it may be served, or `NEVER`. Slot t is from the completion of request t to the next.
     pub due: usize,
-    /// Its moment in the present order.
-    pub moment: (usize, usize),
+    /// The last slot in which it is taken to be served; 0 where it is not.
+    pub slot: usize,
+    /// When it is served in the present order, if it is a request as a whole.
+    pub moment: Moment,
     /// It reads its bytes; else it leaves them.
     pub is_read: bool,
-    /// Of what a READ was answered the piece with its bytes.
-    pub piece: usize,
-    /// The first offset of its range.
+    /// Some of what it reads is wrong in the present order.
+    pub is_wrong: bool,
+    /// Its range, to before `hi`.
     pub lo: u64,
-    /// The offset behind it.
     pub hi: u64,
+    // Where its bytes begin, and of a READ the piece that has them.
+    from: u64,
+    piece: usize,
     /// What stands for its bytes in the range that is searched; None where they are unknown.
     pub value: Option<u64>,
-    /// It is left out of a search.
-    pub is_out: bool,
-    /// It is left out for good.
-    pub is_gone: bool,
     /// Its column while it is open in a search.
     pub column: usize,
 }
@@ -61,157 +47,128 @@ impl Patch {
 
 /// The requests of a session.
 #[derive(Drop)]
-pub struct Scene {
-    // The export's size in bytes.
-    size: u64,
-    /// By their numbers; number 0 is the start.
-    pub requests: Vec<Request>,
-    /// By their first offsets.
+pub struct Scene<'a> {
+    transcript: &'a Transcript,
+    start: &'a Start,
+    /// The export's size in bytes.
+    pub size: u64,
+    /// By their numbers, each whole; number 0 is the start. A range is empty where no bytes are left or read.
+    pub requests: Vec<Patch>,
+    /// What they leave or read; of a READ at least one for each piece with bytes.
     pub patches: Vec<Patch>,
-    /// The ends of their ranges, each once and by its offset; with the end of the range that begins there, where that was searched.
-    pub cuts: Vec<(u64, u64)>,
-    /// Whole requests have no order.
-    pub is_torn: bool,
 }
 
-impl Scene {
-    /// The start and the requests of a session.
-    pub fn new(alloc: Global, work: &mut Work, source: &Source) -> Scene {
-        let size = match source.transcript.export() {
-            Some((size, _)) => size,
-            None => 0,
-        };
+impl<'a> Scene<'a> {
+    pub fn new(
+        profile: Profile,
+        transcript: &'a Transcript,
+        start: &'a Start,
+        work: &mut Work,
+    ) -> Scene<'a> {
         let mut scene = Scene {
-            size,
-            requests: Vec::new(alloc),
-            patches: Vec::new(alloc),
-            cuts: Vec::new(alloc),
-            is_torn: false,
+            transcript,
+            start,
+            size: transcript.export().unwrap_or((0, 0)).0,
+            requests: Vec::new(work.alloc),
+            patches: Vec::new(work.alloc),
         };
-        scene.add_request(work, 0, 0, size);
-        scene.add_patch(work, 0, None, 0, size);
-        for i in 0..source.transcript.count() {
-            if let Some(one) = source.transcript.asked(i.saturating_add(1)) {
-                scene.add(work, source, one);
+        let whole = scene.patch(0, 0, None, (0, scene.size));
+        work.keep(&mut scene.requests, whole);
+        scene.keep(whole, work);
+        for number in 1..=transcript.count() {
+            if let Some(one) = transcript.asked(number) {
+                scene.add(profile, one, work);
             }
         }
-        scene.patches.sort_unstable_by_key(|patch| patch.lo);
-        scene.cuts.sort_unstable();
-        scene.cuts.dedup();
         scene
     }
 
-    // Adds a request, and what it leaves or reads.
-    fn add(&mut self, work: &mut Work, source: &Source, one: &Asked) {
-        let due = source.due(one, 0);
-        let length = one.length;
-        if one.touches(one.offset) {
-            self.add_request(work, due, one.offset, length);
-            self.add_patch(work, due, None, one.offset, length);
-        } else if gives_bytes(one) {
-            self.add_request(work, due, one.offset, length);
-            for i in 0..one.pieces.len() {
-                let span = Span::of(&one.pieces[i]);
-                self.add_patch(work, source.due(one, i), Some(i), span.offset, span.size);
-            }
-        } else {
-            self.add_request(work, due, 0, 0);
+    fn add(&mut self, profile: Profile, one: &Asked, work: &mut Work) {
+        let (request, due) = (self.requests.len(), due_of(profile, one, 0));
+        let (is_change, command) = (one.touches(one.offset), one.command);
+        let is_read = one.succeeded() && matches!(command, commands::READ | commands::BLOCK_STATUS);
+        let length = if is_change || is_read { one.length } else { 0 };
+        let whole = self.patch(request, due, None, (one.offset, length));
+        work.keep(&mut self.requests, whole);
+        if is_change {
+            self.keep(whole, work);
+        }
+        let count = if is_read { one.pieces.len() } else { 0 };
+        for i in 0..count {
+            let (span, due) = (Span::of(&one.pieces[i]), due_of(profile, one, i));
+            let patch = self.patch(request, due, Some(i), (span.offset, span.size));
+            self.keep(patch, work);
         }
     }
 
-    fn add_request(&mut self, work: &mut Work, due: usize, offset: u64, length: u64) {
-        let number = self.requests.len();
-        let slot = if due == NEVER { NEVER } else { number };
-        let one = Request {
-            due,
-            lo: offset.min(self.size),
-            hi: offset.saturating_add(length).min(self.size),
-            moment: (slot, 0),
+    // What a request does from an offset on in so many bytes; of a READ the piece with these.
+    fn patch(&self, request: usize, due: usize, piece: Option<usize>, range: (u64, u64)) -> Patch {
+        let slot = match piece {
+            Some(_) => request,
+            None if due == NEVER => 0,
+            None => due,
         };
-        keep(&mut self.requests, one, &mut work.is_lost);
-    }
-
-    // Adds what the last request leaves in a range, or reads there as this piece.
-    fn add_patch(
-        &mut self,
-        work: &mut Work,
-        due: usize,
-        piece: Option<usize>,
-        lo: u64,
-        length: u64,
-    ) {
-        let hi = lo.saturating_add(length).min(self.size);
-        let request = self.requests.len().saturating_sub(1);
-        if lo >= hi || request >= self.requests.len() {
-            return;
-        }
-        let patch = Patch {
+        Patch {
             request,
             due,
-            moment: (NEVER, 0),
+            slot,
             is_read: piece.is_some(),
+            lo: range.0.min(self.size),
+            hi: range.0.saturating_add(range.1).min(self.size),
+            from: range.0,
             piece: piece.unwrap_or(0),
-            lo,
-            hi,
+            moment: (0, 0),
+            is_wrong: false,
             value: None,
-            is_out: false,
-            is_gone: false,
             column: 0,
-        };
-        keep(&mut self.patches, patch, &mut work.is_lost);
-        keep(&mut self.cuts, (lo, lo), &mut work.is_lost);
-        keep(&mut self.cuts, (hi, hi), &mut work.is_lost);
-    }
-}
-
-// Whether its pieces are bytes that it read.
-fn gives_bytes(one: &Asked) -> bool {
-    one.succeeded() && (one.command == commands::READ || one.command == commands::BLOCK_STATUS)
-}
-
-/// An odd number with bits in no order.
-const MIXER: u64 = 0x9e37_79b9_7f4a_7c15;
-
-/// A session and its start.
-#[derive(Clone, Copy, Drop)]
-pub struct Source<'a> {
-    /// The profile of the session.
-    pub profile: Profile,
-    /// What the session says.
-    pub transcript: &'a Transcript,
-    /// What the export holds at first.
-    pub start: &'a Start,
-}
-
-impl<'a> Source<'a> {
-    /// What stands for a patch's bytes from `lo` to before `hi`, which lie in its range: the same number for the same bytes, 0 for
-    /// zeroes, and None where they are unknown.
-    pub fn value(&self, patch: &Patch, lo: u64, hi: u64) -> Option<u64> {
-        let first = lo.saturating_sub(patch.lo) as usize;
-        let behind = hi.saturating_sub(patch.lo) as usize;
-        match self.bytes(patch) {
-            Some(bytes) => Some(mixed(bytes.get(first..behind).unwrap_or(&[]))),
-            None => None,
         }
     }
 
-    /// The last slot in which a request may be served, or `NEVER`; of a READ that is served by chunk, in which this piece may. No piece
-    /// has an earlier one than the first.
-    pub fn due(&self, one: &Asked, piece: usize) -> usize {
-        let is_chunked = match self.profile {
-            Profile::Wide => one.command == commands::READ,
-            Profile::Base => false,
-        };
-        let due = match one.shown.get(piece) {
-            Some(shown) if is_chunked => Some(*shown),
-            _ if is_chunked => one.ended_at,
-            _ => one.known_at,
-        };
-        due.map_or(NEVER, |count| count as usize)
+    fn keep(&mut self, patch: Patch, work: &mut Work) {
+        if patch.lo < patch.hi {
+            work.keep(&mut self.patches, patch);
+        }
     }
 
-    // The bytes of a patch, if they are known; none where they are zeroes.
-    fn bytes(&self, patch: &Patch) -> Option<&'a [u8]> {
+    /// Parts the patches of READs where these are wrong: there they may be served until they are due.
+    pub fn mark(&mut self, wrong: &[Range], work: &mut Work) {
+        for patch in self.patches.iter_mut() {
+            patch.is_wrong = false;
+        }
+        for (lo, hi, place) in wrong {
+            if let Some(rest) = self.patches.get_mut(*place) {
+                let (mut right, mut wrong) = (*rest, *rest);
+                (right.hi, wrong.lo, wrong.hi, rest.lo) = (*lo, *lo, *hi, *hi);
+                (wrong.slot, wrong.is_wrong) = (wrong.due, true);
+                self.keep(right, work);
+                self.keep(wrong, work);
+            }
+        }
+    }
+
+    /// Takes nothing as it was on arrival, where READs are served when they come and what has no reply is not.
+    pub fn unpin(&mut self) {
+        for patch in self.patches.iter_mut() {
+            patch.slot = patch.due;
+        }
+    }
+
+    /// Numbers the bytes of patches from `lo` to before `hi`: the same have the same number, unknown ones none.
+    pub fn number(&self, patches: &mut [Patch], lo: u64, hi: u64, work: &mut Work) {
+        for patch in patches.iter_mut() {
+            work.spend((hi.saturating_sub(lo) as usize / 8).saturating_add(4));
+            patch.value = self.bytes(patch, lo, hi).map(mixed);
+        }
+    }
+
+    /// The patch's bytes from `lo` to before `hi`, if they are known; none where they are zeroes that no message has.
+    pub fn bytes(&self, patch: &Patch, lo: u64, hi: u64) -> Option<&'a [u8]> {
+        let first = lo.saturating_sub(patch.from) as usize;
+        let behind = hi.saturating_sub(patch.from) as usize;
+        Some(self.all_bytes(patch)?.get(first..behind).unwrap_or(&[]))
+    }
+
+    fn all_bytes(&self, patch: &Patch) -> Option<&'a [u8]> {
         let Some(one) = self.transcript.asked(patch.request as u64) else {
             return match self.start {
                 Start::Image(image) => Some(image.as_slice()),
@@ -227,7 +184,36 @@ impl<'a> Source<'a> {
             None => Some(one.payload.as_slice()),
         }
     }
+
+    /// The first offset from `lo` to before `hi` at which a READ did not get what a change left, or `hi`.
+    pub fn differs(&self, change: &Patch, read: &Patch, lo: u64, hi: u64, work: &mut Work) -> u64 {
+        let (left, got) = (self.bytes(change, lo, hi), self.bytes(read, lo, hi));
+        let (Some(left), Some(got)) = (left, got) else {
+            return hi;
+        };
+        let count = left.len().max(got.len());
+        work.spend((count / 8).saturating_add(4));
+        for place in 0..count {
+            if byte_at(left, place) != byte_at(got, place) {
+                return lo.saturating_add(place as u64);
+            }
+        }
+        hi
+    }
 }
+
+// The last slot of a request; by chunk that of a piece of a READ, of which none has an earlier one than the first.
+fn due_of(profile: Profile, one: &Asked, piece: usize) -> usize {
+    let due = match one.shown.get(piece) {
+        _ if !profile.serves_by_chunk(one.command) => one.known_at,
+        Some(shown) => Some(*shown),
+        None => one.ended_at,
+    };
+    due.unwrap_or(u64::MAX) as usize
+}
+
+/// An odd number with bits in no order.
+const MIXER: u64 = 0x9e37_79b9_7f4a_7c15;
 
 // A number for these bytes: 0 for zeroes, and hardly ever the same one for others.
 fn mixed(bytes: &[u8]) -> u64 {
@@ -237,4 +223,9 @@ fn mixed(bytes: &[u8]) -> u64 {
         number ^= number >> 32;
     }
     number
+}
+
+// Where there is no byte it is zero.
+fn byte_at(bytes: &[u8], place: usize) -> u8 {
+    bytes.get(place).copied().unwrap_or(0)
 }

@@ -1,67 +1,212 @@
 //! The search as a whole: an order, or requests that refute each.
 
-use crate::contest::contest_of;
-use crate::order::entries_of;
+use crate::few::{contest_of, few_of, shrink};
+use crate::order::{Served, arrange, arrive, entries_of};
 use crate::progress::Progress;
-use crate::proposal::{Place, Proposal};
-use crate::register::Register;
-use crate::scene::{Scene, Source};
-use crate::work::{End, Limits, Work};
+use crate::proposal::{Place, Proposal, Reason};
+use crate::replay::wrong_ranges;
+use crate::scene::{NEVER, Patch, Scene};
+use crate::sweep::{Outcome, Sweep};
+use crate::walk::{Register, Walk, events_of};
+use crate::work::{Limits, Work};
 use nbd_export::Start;
 use nbd_session::Transcript;
 use nbd_wire::Profile;
 use std::alloc::{AllocError, Global};
 
-/// Looks for an order that explains the session of the profile from this start, or for requests that refute each, where the order of
-/// arrival has this wrong byte. Several times a second it says on `progress` how far it is. An `Err` says that memory ran out.
-pub fn propose<'a>(
+/// How often all requests are put into an order and replayed.
+const ROUNDS: u64 = 16;
+
+/// Looks for an order that explains the session of the profile from this start, or for requests that refute each, where
+/// that of arrival has this wrong byte. It says on `progress` how far it is. An `Err` says that memory ran out.
+pub fn propose(
     alloc: Global,
     profile: Profile,
-    transcript: &'a Transcript,
-    start: &'a Start,
+    transcript: &Transcript,
+    start: &Start,
     limits: Limits,
     wrong: Place,
     progress: &mut Progress,
 ) -> Result<Proposal, AllocError> {
-    let source = Source {
-        profile,
-        transcript,
-        start,
+    let mut work = Work {
+        alloc,
+        limits,
+        place: wrong,
+        end: None,
+        is_lost: false,
+        progress: *progress,
     };
-    let mut register = Register::new(alloc, Work::new(limits, wrong, *progress));
-    let mut scene = Scene::new(alloc, &mut register.sweep.work, &source);
-    refine(&source, &mut register, &mut scene);
-    *progress = register.sweep.work.progress;
-    proposal_of(alloc, &mut register, &scene)
-}
-
-// What the search came to.
-fn proposal_of(
-    alloc: Global,
-    register: &mut Register,
-    scene: &Scene,
-) -> Result<Proposal, AllocError> {
-    let work = &mut register.sweep.work;
-    let proposal = match work.end {
-        None => Proposal::Order(entries_of(alloc, work, scene, &register.kept)),
-        Some(End::Refuted) => contest_of(alloc, work, &register.operations),
-        Some(End::GaveUp(reason)) => Proposal::GaveUp(work.place, reason),
+    let mut scene = Scene::new(profile, transcript, start, &mut work);
+    let mut search = Search {
+        served: Vec::new(alloc),
+        refuting: Vec::new(alloc),
+        alone: NEVER,
+        is_stuck: false,
+        is_exact: false,
+        sweep: Sweep::new(work),
     };
-    if work.is_lost {
-        Err(AllocError)
-    } else {
-        Ok(proposal)
+    let proposal = search.run(&mut scene);
+    *progress = search.sweep.work.progress;
+    match search.sweep.work.is_lost {
+        true => Err(AllocError),
+        false => Ok(proposal),
     }
 }
 
-// The requests are ordered as the ranges want it; each range that this leaves wrong is searched and binds the order from then on,
-// until none is wrong, or whole requests have no order. The first order is that of arrival.
-fn refine(source: &Source, register: &mut Register, scene: &mut Scene) {
-    for round in 1..u64::MAX {
-        register.sweep.work.progress.rounds = round;
-        scene.arrange(&mut register.sweep.work, &register.kept);
-        if scene.is_torn || !register.survey(source, scene) {
-            break;
+#[derive(Drop)]
+struct Search {
+    // The search of one register, and what all may cost.
+    sweep: Sweep,
+    // What is served in the registers, each in an order of its own.
+    served: Vec<Served>,
+    // What refutes each order, and the least READ that is refuted alone, or `NEVER`.
+    refuting: Vec<Patch>,
+    alone: usize,
+    // A register has no order, or too many states.
+    is_stuck: bool,
+    // Nothing is taken as it was on arrival: what has no order so has none.
+    is_exact: bool,
+}
+
+impl Search {
+    fn run(&mut self, scene: &mut Scene) -> Proposal {
+        arrive(&mut scene.requests);
+        if !self.refine(scene) {
+            arrive(&mut scene.requests);
+        }
+        let work = &mut self.sweep.work;
+        if let Some(reason) = work.end {
+            Proposal::GaveUp(work.place, reason)
+        } else if !self.refuting.is_empty() {
+            contest_of(&self.refuting, work)
+        } else {
+            Proposal::Order(entries_of(&scene.requests, &self.served, work))
         }
     }
+
+    // The present order is replayed, first that of arrival; what it gets wrong is searched and binds the next one,
+    // until nothing is wrong. Else an order in parts needs no registers but those of the order of arrival.
+    fn refine(&mut self, scene: &mut Scene) -> bool {
+        let mut count = 0;
+        for round in 1..=ROUNDS {
+            self.sweep.work.progress.rounds = round;
+            let wrong = wrong_ranges(scene, &mut self.sweep.work);
+            if wrong.is_empty() {
+                self.served.clear();
+                return true;
+            }
+            scene.mark(&wrong, &mut self.sweep.work);
+            self.go_along(scene);
+            if round == 1 {
+                self.go_again(scene);
+                count = self.served.len();
+            }
+            let work = &mut self.sweep.work;
+            if self.is_stuck || !arrange(&self.served, &mut scene.requests, work) {
+                break;
+            }
+        }
+        self.served.truncate(count);
+        false
+    }
+
+    // Goes along the order of arrival once more, with nothing taken as it was there, if a register has no order so.
+    fn go_again(&mut self, scene: &mut Scene) {
+        if self.is_stuck && self.refuting.is_empty() {
+            scene.unpin();
+            self.served.clear();
+            (self.is_stuck, self.is_exact) = (false, true);
+            self.go_along(scene);
+            self.is_exact = false;
+        }
+    }
+
+    // Goes along the export, and looks at the registers that are closed on the way.
+    fn go_along(&mut self, scene: &Scene) {
+        let events = events_of(scene, &mut self.sweep.work);
+        let mut walk = Walk::new(scene, &mut self.sweep.work);
+        for (offset, begins, place) in &events {
+            if let (Some(patch), false) = (scene.patches.get(*place), self.sweep.work.is_over()) {
+                walk.go_to(*offset, &mut self.sweep.work);
+                self.close(scene, &mut walk, patch);
+                walk.pass(patch, *begins, &mut self.sweep.work);
+            }
+        }
+    }
+
+    // Looks at the registers that are closed since a patch begins or ends.
+    fn close(&mut self, scene: &Scene, walk: &mut Walk, patch: &Patch) {
+        for _ in 0..scene.requests.len() {
+            let Some(mut register) = walk.close(patch, &mut self.sweep.work) else {
+                break;
+            };
+            self.look_at(scene, walk, &mut register);
+        }
+    }
+
+    // Looks for an order of all bytes of a register as one value, else of shorter ranges, each for itself.
+    fn look_at(&mut self, scene: &Scene, walk: &Walk, register: &mut Register) {
+        let (mut lo, mut hi) = (register.lo, register.hi);
+        for _ in lo..u64::MAX {
+            let is_whole = (lo, hi) == (register.lo, register.hi);
+            match self.search(scene, register, lo, hi) {
+                Outcome::Order => (lo, hi) = (hi, register.hi),
+                _ if is_whole && self.ask(scene, walk, register) => return,
+                Outcome::NoOrder(_) if hi.saturating_sub(lo) > 1 => {
+                    hi = lo.saturating_add(hi.saturating_sub(lo) / 2);
+                }
+                outcome => return self.stick(register, outcome),
+            }
+            if lo >= hi {
+                return;
+            }
+        }
+    }
+
+    // Looks for an order of the bytes of a register from `lo` to before `hi` as one value, while all others had one.
+    fn search(&mut self, scene: &Scene, register: &mut Register, lo: u64, hi: u64) -> Outcome {
+        if self.is_stuck {
+            return Outcome::BrokenOff;
+        }
+        self.sweep.work.place = place_of(register.read, lo);
+        scene.number(&mut register.operations, lo, hi, &mut self.sweep.work);
+        let outcome = self.sweep.run(&mut register.operations);
+        if let Outcome::Order = outcome {
+            self.sweep.trace(lo, hi, &mut self.served);
+        }
+        outcome
+    }
+
+    // Asks whether a READ is refuted alone that is less than those found; whether any was, or a register is stuck.
+    fn ask(&mut self, scene: &Scene, walk: &Walk, register: &mut Register) -> bool {
+        let work = &mut self.sweep.work;
+        if let Some((read, offset)) = walk.refuted(scene, register, self.alone, work) {
+            let (behind, mut reads) = (offset.saturating_add(1), [read]);
+            scene.number(&mut reads, offset, behind, work);
+            scene.number(&mut register.operations, offset, behind, work);
+            (self.alone, self.is_stuck) = (read.request, true);
+            work.place = place_of(read.request, offset);
+            self.refuting = few_of(&register.operations, &reads, work);
+        }
+        self.is_stuck
+    }
+
+    // A byte of a register has no order, or too many states.
+    fn stick(&mut self, register: &Register, outcome: Outcome) {
+        self.is_stuck = true;
+        match outcome {
+            Outcome::NoOrder(slot) if self.is_exact => {
+                self.refuting = shrink(&register.operations, slot, &mut self.sweep);
+            }
+            _ if self.is_exact => {
+                self.sweep.work.end.get_or_insert(Reason::States);
+            }
+            _ => {}
+        }
+    }
+}
+
+fn place_of(read: usize, offset: u64) -> Place {
+    let request = read as u64;
+    Place { request, offset }
 }

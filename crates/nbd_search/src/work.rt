@@ -2,6 +2,7 @@
 
 use crate::progress::Progress;
 use crate::proposal::{Place, Reason};
+use std::alloc::Global;
 
 /// How many steps pass before it is told again how far a search is.
 const PAUSE: u64 = 1 << 23;
@@ -11,29 +12,21 @@ const PAUSE: u64 = 1 << 23;
 pub struct Limits {
     /// How many states the search of one range may have at once.
     pub states: u64,
-    /// How many steps may be taken in all, each of a few nanoseconds. The memory that the search holds is bounded by a small multiple
-    /// of them, in bytes.
+    /// How many steps may be taken in all, each of some nanoseconds, and of a few bytes of memory.
     pub steps: u64,
-}
-
-/// Why a search is over before it has an order.
-#[derive(Clone, Copy, Drop)]
-pub enum End {
-    /// It is broken off.
-    GaveUp(Reason),
-    /// There is no order, as the contest shows that was found.
-    Refuted,
 }
 
 /// The steps that are left, and where the search is.
 #[derive(Drop)]
 pub struct Work {
+    /// Where memory comes from.
+    pub alloc: Global,
     /// What the search may cost; of the steps those that are left.
     pub limits: Limits,
     /// What is looked at.
     pub place: Place,
-    /// Why it is over, if it is.
-    pub end: Option<End>,
+    /// Why it is broken off, if it is.
+    pub end: Option<Reason>,
     /// Memory was refused: what the search has come to is of no use.
     pub is_lost: bool,
     /// Where it is told how far the search is.
@@ -41,22 +34,11 @@ pub struct Work {
 }
 
 impl Work {
-    /// A search that begins, and looks at this.
-    pub fn new(limits: Limits, place: Place, progress: Progress) -> Work {
-        Work {
-            limits,
-            place,
-            end: None,
-            is_lost: false,
-            progress,
-        }
-    }
-
     /// Takes so many steps; the search is over where fewer are left.
     pub fn spend(&mut self, steps: usize) {
         let left = self.limits.steps;
         let Some(rest) = left.checked_sub(steps as u64) else {
-            self.end = Some(End::GaveUp(Reason::Steps));
+            self.end = Some(Reason::Steps);
             return;
         };
         self.limits.steps = rest;
@@ -65,9 +47,15 @@ impl Work {
         }
     }
 
-    /// Whether the search is over.
+    /// Whether the search is broken off.
     pub fn is_over(&self) -> bool {
         self.is_lost || self.end.is_some()
+    }
+
+    /// Adds an item to a list, which costs some steps too, or notes that memory was refused.
+    pub fn keep<T: Drop>(&mut self, list: &mut Vec<T>, item: T) {
+        self.spend(8);
+        keep(list, item, &mut self.is_lost);
     }
 }
 

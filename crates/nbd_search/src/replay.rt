@@ -1,0 +1,122 @@
+//! The present order replayed: where READs are wrong if each request is served whole at its moment.
+
+use crate::order::Moment;
+use crate::scene::{NEVER, Patch, Scene};
+use crate::work::Work;
+use nbd_export::{Contents, Extents, Start};
+use std::alloc::AllocError;
+use std::mem;
+
+/// Where a READ is wrong is told in aligned blocks of so many bytes.
+const BLOCK: u64 = 64;
+
+/// The first offset of a range, the one behind it, and the place of a patch.
+pub type Range = (u64, u64, usize);
+
+// What is known of the export, and where READs were wrong.
+#[derive(Drop)]
+struct Replay {
+    contents: Extents,
+    wrong: Vec<Range>,
+}
+
+/// Where READs are wrong if each request that has a moment is served whole at it.
+pub fn wrong_ranges(scene: &Scene, work: &mut Work) -> Vec<Range> {
+    let wrong = Vec::new(work.alloc);
+    let Ok(contents) = Extents::new(work.alloc, scene.size, Start::Unknown) else {
+        work.is_lost = true;
+        return wrong;
+    };
+    let mut replay = Replay { contents, wrong };
+    for (_, place) in &order_of(scene, work) {
+        if !work.is_over() {
+            replay.serve(scene, *place, work);
+        }
+    }
+    mem::replace(&mut replay.wrong, Vec::new(work.alloc))
+}
+
+// The places of the patches that are served, behind their moments.
+fn order_of(scene: &Scene, work: &mut Work) -> Vec<(Moment, usize)> {
+    let mut order = Vec::new(work.alloc);
+    for place in 0..scene.patches.len() {
+        match scene.requests.get(scene.patches[place].request) {
+            Some(one) if one.moment.0 != NEVER => work.keep(&mut order, (one.moment, place)),
+            _ => {}
+        }
+    }
+    order.sort_unstable();
+    order
+}
+
+impl Replay {
+    // Serves the patch at a place: leaves its bytes, or compares them.
+    fn serve(&mut self, scene: &Scene, place: usize, work: &mut Work) {
+        let Some(patch) = scene.patches.get(place) else {
+            return;
+        };
+        let bytes = scene.bytes(patch, patch.lo, patch.hi);
+        work.spend((bytes.unwrap_or(&[]).len() / 8).saturating_add(32));
+        if patch.is_read {
+            self.compare(scene, patch, place, work);
+        } else {
+            work.is_lost |= self.leave(patch, bytes).is_err();
+        }
+    }
+
+    // Leaves the bytes of a patch, if they are known.
+    fn leave(&mut self, patch: &Patch, bytes: Option<&[u8]>) -> Result<(), AllocError> {
+        let size = self.contents.size();
+        let lo = patch.lo.min(size);
+        let length = patch.hi.min(size).saturating_sub(lo);
+        match bytes {
+            None => self.contents.forget(lo, length),
+            Some(bytes) if bytes.len() as u64 == length => self.contents.put(lo, bytes),
+            Some(_) => self.contents.zero(lo, length),
+        }
+    }
+
+    // Notes where a READ, whose patch is at a place, got other bytes: in aligned blocks, but zeroes in ranges that double
+    // where one follows the other. What adjoins is one range.
+    fn compare(&mut self, scene: &Scene, read: &Patch, place: usize, work: &mut Work) {
+        let (mut at, mut step) = (read.lo, BLOCK);
+        for _ in read.lo..read.hi {
+            work.spend(64);
+            let bytes = scene.bytes(read, at, read.hi).unwrap_or(&[]);
+            let Some(offset) = self.first_other(at, read.hi, bytes) else {
+                break;
+            };
+            let (mut start, is_zero) = (offset, bytes.is_empty());
+            step = BLOCK.min(step.saturating_mul(2));
+            if !is_zero {
+                start = offset.saturating_sub(offset % BLOCK);
+            } else if offset > at {
+                step = 1;
+            }
+            let lo = start.max(at);
+            at = start.saturating_add(step).min(read.hi);
+            self.note((lo, at, place), work);
+        }
+    }
+
+    fn note(&mut self, range: Range, work: &mut Work) {
+        match self.wrong.last_mut() {
+            Some(last) if last.2 == range.2 && last.1 == range.0 => last.1 = range.1,
+            _ => work.keep(&mut self.wrong, range),
+        }
+    }
+
+    // The first offset from `lo` to before `hi` with another known byte than these, or than 0 if there are none.
+    fn first_other(&mut self, lo: u64, hi: u64, bytes: &[u8]) -> Option<u64> {
+        let hi = hi.min(self.contents.size());
+        let (lo, length) = (lo.min(hi), hi.saturating_sub(lo));
+        if bytes.len() as u64 == length {
+            return self.contents.differs(lo, bytes);
+        }
+        let found = self.contents.differs_zero(lo, length)?;
+        // What is right is not looked at again.
+        self.contents
+            .differs_zero(lo, found.min(hi).saturating_sub(lo));
+        Some(found)
+    }
+}
