@@ -80,6 +80,8 @@ WIRE = {
     "out-of-profile-of-a-long-payload": Session(extended_session(extended.asked(TRIM, 1, 0, 2**32, PAYLOAD_LEN)), profile="wide"),
     "out-of-profile-of-a-long-chunk": Session(extended_session(extended.reads(1, 0, 1), extended.head_of(1, 2**32)), profile="wide"),
     "bad-content-of-a-status-not-asked": Session(filtered(extended.SECOND, extended.WHOLE_FIRST), profile="wide"),
+    "bad-chunk-of-the-type-of-a-command": Session(
+        filtered(extended.asks(1, 0, 8), extended.Reply(1, BLOCK_STATUS, struct.pack(">QI", 5, 0), DONE | PAYLOAD_LEN, None)), profile="wide"),
     "incomplete-status-of-a-filter": Session(filtered(extended.BOTH, extended.WHOLE_FIRST), profile="wide"),
     "bad-magic-without-an-extended-header": Session(extended_session(read(1, 0, 1), (CLIENT, bytes(4))), profile="wide"),
     "bad-magic-of-a-reply-without-an-extended-header": Session(extended_session(extended.reads(1, 0, 1), simple(1)), profile="wide"),

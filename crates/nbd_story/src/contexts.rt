@@ -4,7 +4,7 @@ use crate::parts::end_of;
 use crate::requests::Request;
 use crate::story::Story;
 use crate::text::Text;
-use crate::told::Told;
+use crate::told::{Form, Told};
 use crate::zeroes::{Descriptor, Descriptors, count_of, descriptor_in};
 use nbd_state::{Asking, Selection};
 use nbd_wire::flags::{has, has_long};
@@ -140,7 +140,8 @@ impl Story {
     /// of the ids that it asks.
     pub fn filter_in(&self, told: &Told) -> Option<(u64, &[u8])> {
         let payload = self.behind(told);
-        if self.may_filter(&told.head()) && payload.len() as u64 == told.payload {
+        let is_whole = payload.len() as u64 == told.payload;
+        if matches!(told.form, Form::Request) && is_whole && self.may_filter(&told.head()) {
             filter_of(payload)
         } else {
             None
