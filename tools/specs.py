@@ -11,8 +11,9 @@ import glob
 import os
 import re
 import sys
+from pathlib import Path
 
-TOP = os.path.dirname(os.path.dirname(os.path.abspath(__file__)))
+TOP = Path(__file__).resolve().parent.parent
 TACTIC = re.compile(r"(?<![\w'.-])(omega|search|grind|simp|cc|rw|assumption|hlevel|first_of)(?![\w'-])")
 USE = re.compile(r"^\s*(?:ghost )?(?:pub )?use (Rattle\.[^\s{;]+?)(?:\.\{(.*)\})?(?: as (\S+?))?;?$")
 WORD = re.compile(r"[A-Za-z_ℕℤ][\w'-]*(?:\.[A-Za-z_][\w'-]*)*|◌[^\s]+◌")

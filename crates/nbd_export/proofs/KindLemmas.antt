@@ -1,11 +1,11 @@
 -- The kinds at offsets, by the kinds from each start.
-use Rattle.std.proofs.Common.{◌≡◌, ℕ, zero, suc, ◌-◌, ◌<◌, ◌≤◌, refl, sym, ◌∙◌, ap, subst, Option, Some, None, IsSome, arith, ⊎_elim, false}
+use Rattle.std.proofs.Common.{◌≡◌, ℕ, zero, suc, ◌+◌, ◌-◌, ◌<◌, ◌≤◌, ◌⊎◌, inl, inr, refl, sym, ◌∙◌, ap, subst, Option, Some, None, IsSome, arith, ⊎_elim, Bool, true, false, ◌==◌, ◌||◌, is_some, if◌then◌else◌}
 use Rattle.std.proofs.lemmas.Bool.{cases_eq, cases_lt}
 use Rattle.std.proofs.lemmas.Bool.Decides.{nat_tests}
 use Rattle.std.specs.BTreeMap.{is_at}
 use Rattle.std.specs.Ordering.{nat_cmp}
 use Rattle.nbd_export.specs.declared.kind.Kind.{Kind}
-use Rattle.nbd_export.specs.Kinds.{kind_at, kind_before, first_of_two, IsApartAt}
+use Rattle.nbd_export.specs.Kinds.{kind_at, kind_before, first_of_two, IsApartAt, ranges_met}
 use Rattle.nbd_export.specs.internal.Overlays.{IsJoin, IsOverlay}
 
 -- the kind at an offset comes from the starts up to it
@@ -225,3 +225,21 @@ module _ (f : ℕ → Option Kind) (none : (x : ℕ) → 0 < x → f x ≡ None)
 -- nothing changes where no range begins
 pub none_apart : (f : ℕ → Option Kind) (x : ℕ) → f x ≡ None → IsApartAt f x
 none_apart f x e kind here there = (let no : None ≡ Some kind = sym e ∙ here in absurd (cc))
+
+-- one more range is met where bytes go on from n to m, where the next one begins, or before that
+pub met_one : (f : ℕ → Option Kind) (x n m : ℕ) → n < m → (n ≡ 0) ⊎ IsSome (f (x + n)) → ((y : ℕ) → x + n < y → y < x + m → f y ≡ None) → ranges_met f x m ≡ ranges_met f x n + 1
+unfolding ranges_met
+met_one f x n zero lt begun none = absurd (omega (arith, lt))
+met_one f x n (suc m) lt begun none = ⊎_elim
+    (λ (l : n < m).
+    let gone : f (x + m) ≡ None = none (x + m) (omega (arith, l)) (omega arith) in
+    let later : (m == 0) ≡ false = grind (arith, nat_tests, l) in
+    let ih : ranges_met f x m ≡ ranges_met f x n + 1 = met_one f x n m l begun (λ y lo hi. none y lo (omega (arith, hi))) in
+    rw (gone, later) (omega (arith, ih)))
+    (λ (g : m ≤ n). let is : n ≡ m = omega (arith, g, lt) in subst (λ (k : ℕ). ranges_met f x (suc m) ≡ ranges_met f x k + 1) (sym is) (begins (m == 0) refl (f (x + m)) refl (subst (λ (k : ℕ). (k ≡ 0) ⊎ IsSome (f (x + k))) is begun)))
+    (cases_lt n m)
+  where
+    begins : (b : Bool) → (m == 0) ≡ b → (o : Option Kind) → f (x + m) ≡ o → (m ≡ 0) ⊎ IsSome (f (x + m)) → ranges_met f x m + (if (m == 0) || is_some (f (x + m)) then 1 else 0) ≡ ranges_met f x m + 1
+    begins true e o is d = rw e refl
+    begins false e (Some v) is d = rw (e, is) refl
+    begins false e None is d = absurd (elim d [ inl z ↦ cc | inr s ↦ cc ])

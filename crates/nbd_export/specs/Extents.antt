@@ -2,6 +2,7 @@
 use Rattle.std.specs.Prelude.{ℕ, Option}
 use Rattle.std.specs.BTreeMap.{btree_map_len}
 use Rattle.nbd_export.specs.declared.extents.Extents.{Extents}
+use Rattle.nbd_export.specs.Kinds.{kind_from, ranges_met}
 use Rattle.nbd_export.specs.Pages.{stored_byte}
 use Rattle.nbd_export.specs.RangeKinds.{byte_by_kind, kind_of}
 use Rattle.nbd_export.specs.Ranges.{AreSameBelow, overlay}
@@ -17,6 +18,10 @@ size_of extents = extents.kinds.size
 -- how many ranges there are; no two neighbours are of one kind
 abbrev pub range_count : Extents → ℕ
 range_count extents = btree_map_len extents.kinds.starts
+
+-- in how many of the ranges these bytes lie
+abbrev pub ranges_met_by : Extents → (offset len : ℕ) → ℕ
+ranges_met_by extents offset len = ranges_met (kind_from extents.kinds.starts) offset len
 
 -- below the size a range has come to these bytes, and the others are as they were
 abbrev pub Becomes : (old new : Extents) (offset len : ℕ) → (ℕ → Option ℕ) → Type 0

@@ -1,4 +1,3 @@
-pub mod Cells
 pub mod Extents
 pub mod Kinds
 pub mod Pages

@@ -32,7 +32,7 @@ pub struct Extents {
 }
 
 impl Extents {
-    ghost use Rattle.nbd_export.specs.Extents.{byte_of, range_count, size_of};
+    ghost use Rattle.nbd_export.specs.Extents.{byte_of, range_count, ranges_met_by, size_of};
 
     /// The contents of an export of `size` bytes that holds `start`. An image is taken over as it is; only
     /// the pages that are written later are copied from it.
@@ -59,6 +59,14 @@ impl Extents {
         ensures { result ≡ range_count self.now }
     {
         self.kinds.count()
+    }
+
+    /// In how many of the ranges these bytes lie. It takes no memory, and a step for each.
+    pub fn ranges_in(&self, offset: u64, len: u64) -> u64
+        requires { offset + len ≤ size_of self.now }
+        ensures { result ≡ ranges_met_by self.now offset len }
+    {
+        self.kinds.count_in(offset, offset + len)
     }
 
     // The least offset in one range whose byte is known and is not its byte of `bytes`.

@@ -1,8 +1,8 @@
 //! The kinds of an export's bytes, as ranges of one kind that lie side by side.
 
-ghost use Rattle.std.specs.Prelude.{◌≡◌, ◌==◌, ◌+◌, ◌^◌, ◌<◌, ◌≤◌, ℕ, None, Some, if◌then◌else◌, IfOk, IsSome, IsTrue, OnErr, OnOk};
+ghost use Rattle.std.specs.Prelude.{◌≡◌, ◌==◌, ◌+◌, ◌-◌, ◌^◌, ◌<◌, ◌≤◌, ℕ, None, Some, if◌then◌else◌, IfOk, IsSome, IsTrue, OnErr, OnOk};
 ghost use Rattle.std.specs.BTreeMap.{btree_map_len};
-ghost use Rattle.nbd_export.specs.Kinds.{IsApartAt, kind_from};
+ghost use Rattle.nbd_export.specs.Kinds.{IsApartAt, kind_from, ranges_met};
 
 use crate::kind::Kind;
 use crate::starts::{end_of, join, kind_at, overlay};
@@ -54,6 +54,18 @@ impl Kinds {
         ensures { result ≡ btree_map_len self.now.starts }
     {
         self.starts.len() as u64
+    }
+
+    /// In how many ranges the bytes from `first` to before `end` lie.
+    pub fn count_in(&self, first: u64, end: u64) -> u64
+        ensures { result ≡ ranges_met (kind_from self.now.starts) first (end - first) }
+    {
+        let (mut at, mut count) = (first, 0);
+        while at < end {
+            at = end_of(&self.starts, at, end);
+            count += 1;
+        }
+        count
     }
 
     /// The kind of the byte at an offset.

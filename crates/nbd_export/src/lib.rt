@@ -4,10 +4,8 @@
 //! requests, replies or sessions.
 #![tactic(auto)]
 
-mod cells;
 pub mod contents;
 pub mod extents;
-pub mod flat;
 mod kind;
 mod kinds;
 mod pages;
@@ -17,5 +15,4 @@ mod starts;
 
 pub use contents::Contents;
 pub use extents::Extents;
-pub use flat::Flat;
 pub use start::Start;

@@ -1,7 +1,6 @@
 pub mod AnswerLemmas
 pub mod ChunkLemmas
 pub mod CountLemmas
-pub mod DecisionLemmas
 pub mod ProfileLemmas
 pub mod RefusalLemmas
 pub mod SingleLemmas

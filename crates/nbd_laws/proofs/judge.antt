@@ -8,6 +8,7 @@ pub mod ExactNegotiationLemmas
 pub mod ExactTransmissionLemmas
 pub mod KindLemmas
 pub mod PhaseLemmas
+pub mod SameLemmas
 pub mod SoundClientLemmas
 pub mod SoundLemmas
 pub mod SoundNegotiationLemmas

@@ -1,7 +1,9 @@
+pub mod AnswerLemmas
 pub mod DecidingLemmas
 pub mod DecidingReadLemmas
 pub mod DecidingReplyLemmas
 pub mod DecidingRunLemmas
+pub mod ExampleLemmas
 pub mod IndexLemmas
 pub mod SessionLemmas
 pub mod WorkedChunkLemmas

@@ -1,5 +1,7 @@
 //! Worked examples: small captures that an order of service explains, or does not. The captures stand
 //! in specs/Captures.antt and the files beside it.
+#![tactic(auto, using(crate::proofs::worked::ExampleLemmas::examples))]
+
 ghost use Rattle.std.specs.Prelude.{◌≡◌, ℕ, List, [], ◌∷◌, length};
 ghost use Rattle.nbd_wire.specs.declared.entry.Entry.{Entry};
 ghost use Rattle.nbd_wire.specs.protocol.Entries.{part, whole};

@@ -1,4 +1,6 @@
 //! Laws over the definitions of nbd_wire: each is the contract of a function that does nothing.
+#![tactic(auto, using(crate::proofs::LawLemmas::laws))]
+
 ghost use Rattle.nbd_laws.specs.Soundness.{ReportsAreSound};
 ghost use Rattle.nbd_laws.specs.Announcing.{SizesAreAnnounced};
 ghost use Rattle.nbd_laws.specs.Granting.{HeadersAreGranted, HeadsAreInForce};

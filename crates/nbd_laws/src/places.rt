@@ -1,4 +1,6 @@
 //! Laws of places: each is the contract of a function that does nothing.
+#![tactic(auto, using(crate::proofs::runs::PlaceLemmas::places))]
+
 ghost use Rattle.nbd_laws.specs.Marking.{BeginningsAreUnderWay, HaveOnePlace, PlacesBeginNoRun, PrefixesHaveNoPlace, UnderWayAgree};
 
 /// Bytes that a run begins with are those of a session under way, with what completes in the run within them.

@@ -1,5 +1,7 @@
 //! Worked examples: small captures, byte by byte, and the place at which the rules refuse them. The captures
 //! stand in specs/captures/Refused.antt.
+#![tactic(auto, using(crate::proofs::worked::WorkedPlaceLemmas::worked_places))]
+
 ghost use Rattle.std.specs.Prelude.{[], ◌∷◌};
 ghost use Rattle.nbd_wire.specs.protocol.Captures.{flat};
 ghost use Rattle.nbd_wire.specs.protocol.Places.{IsPlace, IsPlaceOf};

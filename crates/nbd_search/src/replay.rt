@@ -76,26 +76,22 @@ impl Replay {
         }
     }
 
-    // Notes where a READ, whose patch is at a place, got other bytes: in aligned blocks, but zeroes in ranges that double
-    // where one follows the other. What adjoins is one range.
+    // Notes where a READ, whose patch is at a place, got other bytes: in aligned blocks, of zeroes in more and more of them.
+    // What adjoins is one range.
     fn compare(&mut self, scene: &Scene, read: &Patch, place: usize, work: &mut Work) {
-        let (mut at, mut step) = (read.lo, BLOCK);
+        let (mut at, mut size) = (read.lo, BLOCK);
         for _ in read.lo..read.hi {
             work.spend(64);
             let bytes = scene.bytes(read, at, read.hi).unwrap_or(&[]);
-            let Some(offset) = self.first_other(at, read.hi, bytes) else {
+            let Some(offset) = self.first_other(at, read.hi, bytes, work) else {
                 break;
             };
-            let (mut start, is_zero) = (offset, bytes.is_empty());
-            step = BLOCK.min(step.saturating_mul(2));
-            if !is_zero {
-                start = offset.saturating_sub(offset % BLOCK);
-            } else if offset > at {
-                step = 1;
+            let (start, lo) = (offset.saturating_sub(offset % BLOCK), at);
+            at = start.saturating_add(size).min(read.hi);
+            self.note((start.max(lo), at, place), work);
+            if bytes.is_empty() {
+                size = size.saturating_mul(2);
             }
-            let lo = start.max(at);
-            at = start.saturating_add(step).min(read.hi);
-            self.note((lo, at, place), work);
         }
     }
 
@@ -107,10 +103,12 @@ impl Replay {
     }
 
     // The first offset from `lo` to before `hi` with another known byte than these, or than 0 if there are none.
-    fn first_other(&mut self, lo: u64, hi: u64, bytes: &[u8]) -> Option<u64> {
+    fn first_other(&mut self, lo: u64, hi: u64, bytes: &[u8], work: &mut Work) -> Option<u64> {
         let hi = hi.min(self.contents.size());
         let (lo, length) = (lo.min(hi), hi.saturating_sub(lo));
         if bytes.len() as u64 == length {
+            let ranges = self.contents.ranges_in(lo, length) as usize;
+            work.spend(ranges.saturating_mul(8));
             return self.contents.differs(lo, bytes);
         }
         let found = self.contents.differs_zero(lo, length)?;

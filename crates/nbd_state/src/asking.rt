@@ -3,7 +3,7 @@
 //! asks (this project's choice, read from libnbd and qemu).
 
 ghost use Rattle.std.specs.Prelude.{ℕ, ◌≡◌, ◌==◌, ◌&&◌, ◌||◌, [], false, not, IfErr, IfOk, if◌then◌else◌, length, true};
-ghost use Rattle.std.specs.BTreeSet.{contains};
+ghost use Rattle.std.specs.BTreeSet.{IsEmpty, contains};
 ghost use Rattle.std.specs.Option.{option_map};
 ghost use Rattle.std.specs.Ordering.{nat_cmp};
 ghost use Rattle.nbd_wire.specs.protocol.Contexts as contexts;
@@ -76,6 +76,7 @@ impl Telling {
     pub(crate) fn tell(&mut self, id: u32, ends: bool) -> Result<(), AllocError>
         ensures told { IfOk result (λ _. ends ≡ false → (q : ℕ) →
             is_settled_by self.new q ≡ (if id == q then true else is_settled_by self.old q)) }
+        ensures cleared { ends ≡ true → IsEmpty self.new.ids }
         ensures unchanged { IfErr result (λ _. self.new ≡ self.old) }
     {
         if ends {
@@ -86,9 +87,10 @@ impl Telling {
         }
     }
 
-    /// Where the reply ends, nothing more is told.
+    /// Where the reply ends, no id is kept.
     pub(crate) fn clear_if(&mut self, ends: bool)
-        ensures { ends ≡ false → self.new ≡ self.old }
+        ensures kept { ends ≡ false → self.new ≡ self.old }
+        ensures cleared { ends ≡ true → IsEmpty self.new.ids }
     {
         if ends {
             self.ids.clear();

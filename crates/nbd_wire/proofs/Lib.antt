@@ -2,6 +2,7 @@ pub mod ChunkFormLemmas
 pub mod ChunkReadLemmas
 pub mod EncodingLemmas
 pub mod FieldLemmas
+pub mod FieldsLemmas
 pub mod FilterLemmas
 pub mod HeadLemmas
 pub mod HeadReadLemmas

@@ -1,26 +1,34 @@
 -- The least wrong byte of a READ, from its pieces.
 use Rattle.std.proofs.Common.{◌≡◌, ℕ, zero, suc, ◌+◌, ◌-◌, ◌<◌, ◌≤◌, ◌⊎◌, inl, inr, List, [], ◌∷◌, length, refl, sym, ◌∙◌, ap, subst, Option, Some, None, arith, Bool, true, false, nat_le, nat_lt, ◌&&◌, if◌then◌else◌, slice_get, slice_index_or, IsTrue, is_some, map, Bor, ◌==◌, ◌||◌, eqb-true}
-use Rattle.std.proofs.lemmas.Bool.{leb-true, leb-false, le-leb, lt-ltb, ltb-true}
+use Rattle.std.proofs.lemmas.Bool.{or_cases, and_from, and_parts, leb-true, leb-false, le-leb, lt-ltb, ltb-true, cases_eq}
 use Rattle.std.specs.List.{Contains}
-use Rattle.std.proofs.lemmas.Option.{slice_get_within, slice_get-get_or}
+use Rattle.std.proofs.lemmas.Option.{slice_get_within, slice_get-get_or, slice_get-map}
+use Rattle.std.specs.Option.{option_map}
 use Rattle.nbd_wire.specs.declared.entry.Part.{Part}
 use Rattle.nbd_wire.specs.protocol.Entries.{in_part}
 use Rattle.nbd_wire.specs.declared.commands.TheConstants as commands
 use Rattle.nbd_wire.specs.declared.payloads.Piece.{Piece}
 use Rattle.nbd_wire.specs.declared.payloads.Piece.TheVariants.{Bytes, Hole}
 use Rattle.nbd_wire.specs.protocol.ExportBytes.{IsWrongIn, effect, is_success, Effect, serves, GivesByte}
-use Rattle.nbd_wire.specs.protocol.Reports.{Asked}
+use Rattle.nbd_wire.specs.protocol.Reports.{Asked, lesser_of}
 use Rattle.nbd_wire.specs.protocol.Pieces.{byte_at, holds, is_in, piece_byte, piece_offset, piece_size}
 use Rattle.nbd_export.specs.Ranges.{DiffersIn, IsLeast, bytes_from, zeroes}
-use Rattle.nbd_laws.specs.Soundness.{AreLaid}
-use Rattle.nbd_wire.specs.protocol.Reports.{lesser_of}
-use Rattle.nbd_judge.specs.internal.Pieces.{AreInside, DiffersInOneOf, DiffersInPiece}
+use Rattle.nbd_judge.specs.internal.Pieces.{DiffersInOneOf, DiffersInPiece}
+use Rattle.nbd_judge.proofs.orders.FirstLemmas.{one_first, read_at}
 use Rattle.nbd_judge.specs.internal.Servable.{IsServable}
-use Rattle.nbd_judge.proofs.verdicts.DecisionLemmas.{same_or_not}
 
 pub least_as : (P Q : ℕ → Type 0) (o : Option ℕ) → ((m : ℕ) → P m → Q m) → ((m : ℕ) → Q m → P m) → IsLeast P o → IsLeast Q o
 least_as P Q None to back h = λ n q. h n (back n q)
 least_as P Q (Some n) to back h = (to n h.0, λ m l q. h.1 m l (back m q))
+
+-- a number is the least of itself
+pub itself : (o : Option ℕ) → IsLeast (λ n. o ≡ Some n) o
+itself None = λ n q. (cc)
+itself (Some m) = (refl, λ n l q. (let s : m ≡ n = cc in omega arith))
+
+pub one_least : (P : ℕ → Type 0) (o : Option ℕ) (n : ℕ) → IsLeast P o → IsLeast P (Some n) → o ≡ Some n
+one_least P None n h k = absurd (h n k.0)
+one_least P (Some m) n h k = ap Some (one_first P m n h k)
 
 pub least_lesser : (P Q : ℕ → Type 0) (a b : Option ℕ) → IsLeast P a → IsLeast Q b → IsLeast (λ x. P x ⊎ Q x) (lesser_of a b)
 least_lesser P Q None None p q = λ n e. elim e [ inl x ↦ p n x | inr y ↦ q n y ]
@@ -33,59 +41,42 @@ least_lesser P Q (Some x) (Some y) p q = go (nat_le x y) refl
     go false h = (let lt : y < x = leb-false x y h in (inr q.0, λ m l e. elim e [ inl u ↦ p.1 m (omega arith) u | inr v ↦ q.1 m l v ]))
 
 -- with one more piece
-pub one_more : (byte : ℕ → Option ℕ) (pieces : List Piece) (n : ℕ) (p : Piece) (a b : Option ℕ) → slice_get pieces n ≡ Some p → IsLeast (DiffersInOneOf byte pieces n) a
-    → IsLeast (DiffersInPiece byte p) b → IsLeast (DiffersInOneOf byte pieces (n + 1)) (lesser_of a b)
-one_more byte pieces n p a b at ha hb =
-    least_as (λ x. DiffersInOneOf byte pieces n x ⊎ DiffersInPiece byte p x) (DiffersInOneOf byte pieces (n + 1)) (lesser_of a b) to back
-    (least_lesser (DiffersInOneOf byte pieces n) (DiffersInPiece byte p) a b ha hb)
-  where
-    to : (m : ℕ) → (DiffersInOneOf byte pieces n m ⊎ DiffersInPiece byte p m) → DiffersInOneOf byte pieces (n + 1) m
-    to m (inl d) = (let l : d.0 < n = d.2 in (d.0, d.1, omega arith, d.3, d.4))
-    to m (inr d) = (n, p, omega arith, at, d)
+module _ (byte : ℕ → Option ℕ) (pieces : List Piece) (n : ℕ) (p : Piece) (at : slice_get pieces n ≡ Some p) where
+  pub to_more : (m : ℕ) → DiffersInOneOf byte pieces n m ⊎ DiffersInPiece byte p m → DiffersInOneOf byte pieces (n + 1) m
+  to_more m (inl d) = (let l : d.0 < n = d.2 in (d.0, d.1, omega arith, d.3, d.4))
+  to_more m (inr d) = (n, p, omega arith, at, d)
 
-    back : (m : ℕ) → DiffersInOneOf byte pieces (n + 1) m → DiffersInOneOf byte pieces n m ⊎ DiffersInPiece byte p m
-    back m d = elim (same_or_not d.0 n) [
-      | inl e ↦ (let s : Some d.1 ≡ Some p = sym d.3 ∙ ap (slice_get pieces) e ∙ at in let q : d.1 ≡ p = cc in
-          inr (subst (λ (r : Piece). DiffersInPiece byte r m) q d.4))
-      | inr ne ↦ (let l : d.0 < n + 1 = d.2 in inl (d.0, d.1, omega arith, d.3, d.4))
-    ]
+  pub from_more : (m : ℕ) → DiffersInOneOf byte pieces (n + 1) m → DiffersInOneOf byte pieces n m ⊎ DiffersInPiece byte p m
+  from_more m d = elim (cases_eq d.0 n) [
+    | inl e ↦ (let s : Some d.1 ≡ Some p = sym d.3 ∙ ap (slice_get pieces) e ∙ at in let q : d.1 ≡ p = cc in inr (subst (λ (r : Piece). DiffersInPiece byte r m) q d.4))
+    | inr ne ↦ (let l : d.0 < n + 1 = d.2 in inl (d.0, d.1, omega arith, d.3, d.4))
+  ]
 
-pub both : (a b : Bool) → (a && b) ≡ true → (a ≡ true) × (b ≡ true)
-both true b e = (refl, e)
-both false b e = absurd (let q : false ≡ true = e in (cc))
-
-both_in : (a b : Bool) → a ≡ true → b ≡ true → (a && b) ≡ true
-both_in a b e f = ap (λ c. c && b) e ∙ f
+  pub one_more : (a b : Option ℕ) → IsLeast (DiffersInOneOf byte pieces n) a → IsLeast (DiffersInPiece byte p) b → IsLeast (DiffersInOneOf byte pieces (n + 1)) (lesser_of a b)
+  one_more a b ha hb =
+      least_as (λ x. DiffersInOneOf byte pieces n x ⊎ DiffersInPiece byte p x) (DiffersInOneOf byte pieces (n + 1)) (lesser_of a b) to_more from_more
+      (least_lesser (DiffersInOneOf byte pieces n) (DiffersInPiece byte p) a b ha hb)
 
 pub in_from : (offset len x : ℕ) → offset ≤ x → x < offset + len → IsTrue (is_in offset len x)
 in_from offset len x lo hi = ap (λ b. b && nat_lt x (offset + len)) (le-leb offset x lo) ∙ lt-ltb x (offset + len) hi
 
 pub from_in : (offset len x : ℕ) → IsTrue (is_in offset len x) → (offset ≤ x) × (x < offset + len)
 from_in offset len x h =
-    let b = both (nat_le offset x) (nat_lt x (offset + len)) h in
+    let b = and_parts (nat_le offset x) (nat_lt x (offset + len)) h in
     (leb-true offset x b.0, ltb-true x (offset + len) b.1)
 
--- what the contents say of a piece's range
-byte_there : (offset : ℕ) (bytes : List ℕ) (x : ℕ) → offset ≤ x → x < offset + length bytes → bytes_from offset bytes x ≡ Some (piece_byte (Bytes offset bytes) x)
-byte_there offset bytes x lo hi = slice_get-get_or bytes (x - offset) 0 (omega arith)
+-- a piece's range is compared with the bytes that the piece gives
+piece_difference : (byte given : ℕ → Option ℕ) (p : Piece) → ((x : ℕ) → piece_offset p ≤ x → x < piece_offset p + piece_size p → given x ≡ Some (piece_byte p x)) →
+    (o : Option ℕ) → IsLeast (DiffersIn byte (piece_offset p) (piece_size p) given) o → IsLeast (DiffersInPiece byte p) o
+piece_difference byte given p gives o h = least_as (DiffersIn byte (piece_offset p) (piece_size p) given) (DiffersInPiece byte p) o
+    (λ x d. (in_from (piece_offset p) (piece_size p) x d.0 d.1, (d.2.0, d.2.1, λ e. d.2.2 (gives x d.0 d.1 ∙ e))))
+    (λ x d. (let i = from_in (piece_offset p) (piece_size p) x d.0 in (i.0, i.1, (d.1.0, d.1.1, λ e. d.1.2 (sym (gives x i.0 i.1) ∙ e))))) h
 
 pub bytes_difference : (byte : ℕ → Option ℕ) (offset : ℕ) (bytes : List ℕ) (o : Option ℕ) → IsLeast (DiffersIn byte offset (length bytes) (bytes_from offset bytes)) o → IsLeast (DiffersInPiece byte (Bytes offset bytes)) o
-bytes_difference byte offset bytes o h = least_as (DiffersIn byte offset (length bytes) (bytes_from offset bytes)) (DiffersInPiece byte (Bytes offset bytes)) o to back h
-  where
-    to : (x : ℕ) → DiffersIn byte offset (length bytes) (bytes_from offset bytes) x → DiffersInPiece byte (Bytes offset bytes) x
-    to x d = (in_from offset (length bytes) x d.0 d.1, (d.2.0, d.2.1, λ e. d.2.2 (byte_there offset bytes x d.0 d.1 ∙ e)))
-
-    back : (x : ℕ) → DiffersInPiece byte (Bytes offset bytes) x → DiffersIn byte offset (length bytes) (bytes_from offset bytes) x
-    back x d = (let i = from_in offset (length bytes) x d.0 in (i.0, i.1, (d.1.0, d.1.1, λ e. d.1.2 (sym (byte_there offset bytes x i.0 i.1) ∙ e))))
+bytes_difference byte offset bytes = piece_difference byte (bytes_from offset bytes) (Bytes offset bytes) (λ x lo hi. slice_get-get_or bytes (x - offset) 0 (omega arith))
 
 pub hole_difference : (byte : ℕ → Option ℕ) (offset size : ℕ) (o : Option ℕ) → IsLeast (DiffersIn byte offset size zeroes) o → IsLeast (DiffersInPiece byte (Hole offset size)) o
-hole_difference byte offset size o h = least_as (DiffersIn byte offset size zeroes) (DiffersInPiece byte (Hole offset size)) o to back h
-  where
-    to : (x : ℕ) → DiffersIn byte offset size zeroes x → DiffersInPiece byte (Hole offset size) x
-    to x d = (in_from offset size x d.0 d.1, (d.2.0, d.2.1, λ e. d.2.2 e))
-
-    back : (x : ℕ) → DiffersInPiece byte (Hole offset size) x → DiffersIn byte offset size zeroes x
-    back x d = (let i = from_in offset size x d.0 in (i.0, i.1, (d.1.0, d.1.1, λ e. d.1.2 e)))
+hole_difference byte offset size = piece_difference byte zeroes (Hole offset size) (λ x lo hi. refl)
 
 -- a piece that holds x, where the pieces give a byte there
 holding : (ps : List Piece) (x : ℕ) → IsTrue (is_some (byte_at ps x)) → (i : ℕ) × (p : Piece) × (slice_get ps i ≡ Some p) × IsTrue (holds p x)
@@ -113,12 +104,6 @@ byte_of (q ∷ ps) x apart (suc i) p e h =
     go true t ih = (let bad : zero ≡ suc i = apart zero (suc i) q p refl e t h in absurd (omega arith))
     go false t ih = ih
 
-pub pieces_inside : (size : ℕ) (a : Asked) → AreLaid a.offset a.length a.pieces → a.offset + a.length ≤ size → AreInside size a.pieces
-pieces_inside size a laid within i p e =
-    let q : (a.offset ≤ piece_offset p) × (piece_offset p + piece_size p ≤ a.offset + a.length) = laid.inside i p e in
-    let l : piece_offset p + piece_size p ≤ a.offset + a.length = q.1 in
-    omega arith
-
 -- what is said of a wrong byte, whatever the type of its request
 pub wrong_of : (p : Option Part) (e : Effect) (byte : ℕ → Option ℕ) (x : ℕ) → IsWrongIn p e byte x →
     ((e.command ≡ commands.READ) ⊎ (e.command ≡ commands.BLOCK_STATUS)) × (e.succeeded ≡ true) × IsTrue (serves p e x)
@@ -131,11 +116,10 @@ wrong_there p e byte other x w q = (w.0, w.1, w.2, (w.3.0, q ∙ w.3.1, w.3.2))
 
 -- the types whose replies are compared
 pub compared_of : (command : ℕ) → ((command == commands.READ) || (command == commands.BLOCK_STATUS)) ≡ true → (command ≡ commands.READ) ⊎ (command ≡ commands.BLOCK_STATUS)
-compared_of command h = go (command == commands.READ) refl h
-  where
-    go : (b : Bool) → (command == commands.READ) ≡ b → (b || (command == commands.BLOCK_STATUS)) ≡ true → (command ≡ commands.READ) ⊎ (command ≡ commands.BLOCK_STATUS)
-    go true q h = inl (eqb-true command commands.READ q)
-    go false q h = inr (eqb-true command commands.BLOCK_STATUS h)
+compared_of command h = elim (or_cases (command == commands.READ) (command == commands.BLOCK_STATUS) h) [
+  | inl q ↦ inl (eqb-true command commands.READ q)
+  | inr q ↦ inr (eqb-true command commands.BLOCK_STATUS q)
+]
 
 module _ (size : ℕ) (a : Asked) (byte : ℕ → Option ℕ) (reads : (a.command ≡ commands.READ) ⊎ (a.command ≡ commands.BLOCK_STATUS)) (well : is_success a.outcome ≡ true) (sound : IsServable size a) where
   same_byte : (i : ℕ) (p : Piece) (x : ℕ) → slice_get a.pieces i ≡ Some p → IsTrue (holds p x) → byte_at a.pieces x ≡ Some (piece_byte p x)
@@ -156,13 +140,13 @@ module _ (size : ℕ) (a : Asked) (byte : ℕ → Option ℕ) (reads : (a.comman
         let from : a.offset ≤ piece_offset d.1 = inside.0 in
         let end : piece_offset d.1 + piece_size d.1 ≤ a.offset + a.length = inside.1 in
         let same : byte_at a.pieces x ≡ Some (piece_byte d.1 x) = same_byte d.0 d.1 x d.3 d.4.0 in
-        let served = both_in (is_in a.offset a.length x) (in_part p x) (in_from a.offset a.length x (omega arith) (omega arith)) h.1 in
+        let served = and_from (is_in a.offset a.length x) (in_part p x) (in_from a.offset a.length x (omega arith) (omega arith)) h.1 in
         let gives : GivesByte (effect a) x = elim reads [ inl c ↦ inl c | inr k ↦ inr (k, ap is_some same) ] in
         (gives, well, served, (d.4.1.0, d.4.1.1, λ e. d.4.1.2 (sym same ∙ e)))
 
     from_wrong : (x : ℕ) → IsWrongIn p (effect a) byte x → DiffersHere x
     from_wrong x w =
-        let s = both (is_in a.offset a.length x) (in_part p x) w.2 in
+        let s = and_parts (is_in a.offset a.length x) (in_part p x) w.2 in
         let given : IsTrue (is_some (byte_at a.pieces x)) = elim w.0 [ inl c ↦ sound.covered c well x s.0 | inr k ↦ k.1 ] in
         let c : (i : ℕ) × (q : Piece) × (slice_get a.pieces i ≡ Some q) × IsTrue (holds q x) = holding a.pieces x given in
         ((c.0, c.1, slice_get_within a.pieces c.0 c.1 c.2, c.2, (c.3, (w.3.0, w.3.1, λ e. w.3.2 (same_byte c.0 c.1 x c.2 c.3 ∙ e)))), s.1)
@@ -175,9 +159,7 @@ module _ (size : ℕ) (a : Asked) (byte : ℕ → Option ℕ) (reads : (a.comman
 
 -- a piece that a list of references leads to
 pub at_reference : (ps : List (Bor Piece)) (i : ℕ) (p : Bor Piece) → i < length ps → p ≡ slice_index_or ps i p → slice_get (map (λ q. q.now) ps) i ≡ Some p.now
-at_reference [] i p l e = absurd (omega (arith, l))
-at_reference (q ∷ ps) zero p l e = ap (λ (r : Bor Piece). Some r.now) (sym e)
-at_reference (q ∷ ps) (suc i) p l e = at_reference ps i p (omega (arith, l)) e
+at_reference ps i p l e = slice_get-map (λ q. q.now) ps i ∙ ap (option_map (λ q. q.now)) (read_at ps i p l e)
 
 pub contained : (ps : List Piece) (i : ℕ) (p : Piece) → slice_get ps i ≡ Some p → Contains ps p
 contained ps i p e =

@@ -1,5 +1,6 @@
 -- A part that may be served lies in its request's range.
-use Rattle.std.proofs.Common.{◌≡◌, ℕ, zero, suc, ◌+◌, ◌<◌, ◌≤◌, ◌&&◌, inl, inr, List, refl, sym, ◌∙◌, ap, subst, take, Option, Some, None, Bool, true, false, arith, nat_lt, slice_get, ◌||◌, not, ◌==◌}
+use Rattle.std.proofs.Common.{◌≡◌, ℕ, ◌+◌, ◌-◌, ◌<◌, ◌≤◌, ◌&&◌, inl, inr, List, refl, sym, ◌∙◌, ap, subst, take, Option, Some, None, Bool, true, false, arith, nat_lt, slice_get, ◌||◌, not, ◌==◌}
+use Rattle.std.proofs.lemmas.Bool.{and_parts, cases_eq}
 use Rattle.nbd_wire.specs.declared.entry.Entry.{Entry}
 use Rattle.nbd_wire.specs.declared.entry.Part.{Part}
 use Rattle.nbd_wire.specs.protocol.Entries.{IsMisplaced, inside, inside_of}
@@ -9,16 +10,16 @@ use Rattle.nbd_wire.specs.declared.commands.TheConstants as commands
 use Rattle.nbd_wire.specs.protocol.Pieces.{is_in}
 use Rattle.nbd_wire.specs.protocol.Reports.{Asked, Report, asked_at, inside_asked, inside_in}
 use Rattle.nbd_judge.specs.internal.Servable.{IsPartIn}
-use Rattle.nbd_judge.proofs.contents.CompareLemmas.{both, from_in, in_from}
+use Rattle.nbd_judge.proofs.contents.CompareLemmas.{from_in, in_from}
 
 -- what lies inside a request lies in its range
 inside_range : (export : Option Exporting) (a : Asked) (x : ℕ) → inside_of a.proper export a.command a.offset a.length x ≡ true → (a.offset ≤ x) × (x < a.offset + a.length)
-inside_range export a x h = go export (both (a.proper || not (a.command == commands.BLOCK_STATUS)) (inside export a.command a.offset a.length x) h).1
+inside_range export a x h = go export (and_parts (a.proper || not (a.command == commands.BLOCK_STATUS)) (inside export a.command a.offset a.length x) h).1
   where
     go : (export : Option Exporting) → inside export a.command a.offset a.length x ≡ true → (a.offset ≤ x) × (x < a.offset + a.length)
     go (Some export) h =
-        let b = both (has_range a.command) (is_in a.offset a.length x && nat_lt x export.size) h in
-        from_in a.offset a.length x (both (is_in a.offset a.length x) (nat_lt x export.size) b.1).0
+        let b = and_parts (has_range a.command) (is_in a.offset a.length x && nat_lt x export.size) h in
+        from_in a.offset a.length x (and_parts (is_in a.offset a.length x) (nat_lt x export.size) b.1).0
     go None h = absurd (let q : false ≡ true = h in cc)
 
 pub well_placed : (r : Report) (order : List Entry) (i : ℕ) (e : Entry) → slice_get order i ≡ Some e → (a : Asked) → asked_at e.request r.asked ≡ Some a → (IsBadPart (inside_in r) order i → ⊥) → IsPartIn e.part a
@@ -33,12 +34,11 @@ well_placed r order i e at a told well = go e.part refl
 
     go : (p : Option Part) → e.part ≡ p → IsPartIn p a
     go None q = tt
-    go (Some p) q = sized p.length refl
-      where
-        sized : (n : ℕ) → p.length ≡ n → (a.offset ≤ p.offset) × (p.offset + p.length ≤ a.offset + a.length)
-        sized zero empty = absurd (well (e, at, subst (λ o. IsMisplaced (inside_in r e.request) (take i order) e.request o) (sym q) (inl empty)))
-        sized (suc n) long =
-            let first = lies p q p.offset (omega arith) (omega arith) in
-            let last = lies p q (p.offset + n) (omega arith) (omega arith) in
-            let hi : p.offset + n < a.offset + a.length = last.1 in
-            (first.0, omega arith)
+    go (Some p) q = elim (cases_eq p.length 0) [
+      | inl empty ↦ absurd (well (e, at, subst (λ o. IsMisplaced (inside_in r e.request) (take i order) e.request o) (sym q) (inl empty)))
+      | inr some ↦
+          (let first = lies p q p.offset (omega arith) (omega arith) in
+          let last = lies p q (p.offset + (p.length - 1)) (omega arith) (omega arith) in
+          let hi = last.1 in
+          (first.0, omega (arith, hi)))
+    ]

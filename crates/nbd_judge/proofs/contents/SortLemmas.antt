@@ -1,10 +1,11 @@
 -- Pieces in the order of their offsets, and those that meet a part.
 use Rattle.std.proofs.Common.{◌≡◌, ℕ, zero, suc, ◌+◌, ◌-◌, ◌<◌, ◌≤◌, inl, inr, List, [], ◌∷◌, length, max, refl, sym, ◌∙◌, ap, subst, Option, Some, None, Bool, true, false, arith, nat_le, nat_lt, cond, slice_get, slice_index_or, IsTrue, map, Bor, take, drop, filter, sum_by}
-use Rattle.std.proofs.lemmas.Bool.{leb-true, leb-false, lt-ltb, ltb-false, ltb-true}
-use Rattle.std.proofs.lemmas.List.{length-map}
+use Rattle.std.proofs.lemmas.Bool.{leb-true, leb-false, lt-ltb, ltb-false, ltb-true, cases_eq}
+use Rattle.std.proofs.lemmas.List.{length-drop, length-map, length-take-le}
 use Rattle.std.proofs.lemmas.List.Sums.{sum_by-cons}
 use Rattle.std.proofs.lemmas.List.Sorted.{Contains-permutation, IsPermutation-map, IsPermutation-sym, sum_by-IsPermutation}
-use Rattle.std.proofs.lemmas.Option.{get_or_from_slice_get, slice_get_within, slice_get-get_or}
+use Rattle.std.proofs.lemmas.Option.{get_or_from_slice_get, slice_get_within, slice_get-get_or, slice_get-map}
+use Rattle.std.specs.Option.{option_map}
 use Rattle.std.specs.BTreeMap.{BTreeMap, get}
 use Rattle.std.specs.Ordering.{nat_cmp}
 use Rattle.std.specs.List.{Contains}
@@ -17,17 +18,14 @@ use Rattle.nbd_wire.specs.protocol.Reports.{Asked, asked_at}
 use Rattle.nbd_export.specs.Ranges.{IsLeast}
 use Rattle.nbd_judge.specs.internal.Pieces.{AddsSorted, AreApart, AreInOrder, AreInside, AreSorted, AreThose, DiffersInOneOf, DiffersInOneWithin, IsOneOf, IsSortedAt}
 use Rattle.nbd_judge.proofs.contents.CompareLemmas.{contained, from_in, in_from, least_as}
-use Rattle.nbd_judge.proofs.contents.RangeLemmas.{drop_get, drop_length, take_get, take_length}
-use Rattle.nbd_judge.proofs.verdicts.DecisionLemmas.{same_or_not}
+use Rattle.nbd_judge.proofs.contents.RangeLemmas.{drop_get, take_get}
 
 -- the pieces behind references
 abbrev seen : List (Bor Piece) → List Piece
 seen ps = map (λ p. p.now) ps
 
 at_seen : (ps : List (Bor Piece)) (i : ℕ) (d : Bor Piece) → i < length ps → slice_get (seen ps) i ≡ Some (slice_index_or ps i d).now
-at_seen [] i d l = absurd (omega arith)
-at_seen (p ∷ ps) zero d l = refl
-at_seen (p ∷ ps) (suc i) d l = at_seen ps i d (omega arith)
+at_seen ps i d l = slice_get-map (λ p. p.now) ps i ∙ ap (option_map (λ p. p.now)) (slice_get-get_or ps i d l)
 
 from_seen : (ps : List (Bor Piece)) (i : ℕ) (p : Piece) → slice_get (seen ps) i ≡ Some p → (b : Bor Piece) × (slice_get ps i ≡ Some b) × (b.now ≡ p)
 from_seen [] i p e = absurd (let q : None ≡ Some p = e in cc)
@@ -35,24 +33,20 @@ from_seen (b ∷ ps) zero p e = (b, refl, cc)
 from_seen (b ∷ ps) (suc i) p e = from_seen ps i p e
 
 in_seen : (ps : List (Bor Piece)) (i : ℕ) (b : Bor Piece) → slice_get ps i ≡ Some b → slice_get (seen ps) i ≡ Some b.now
-in_seen [] i b e = absurd (let q : None ≡ Some b = e in cc)
-in_seen (p ∷ ps) zero b e = (let q : p ≡ b = cc in ap (λ (r : Bor Piece). Some r.now) q)
-in_seen (p ∷ ps) (suc i) b e = in_seen ps i b e
+in_seen ps i b e = slice_get-map (λ p. p.now) ps i ∙ ap (option_map (λ p. p.now)) e
 
 -- what a search over pieces in order asks
-pub ends_rise : (ps : List (Bor Piece)) → AreInOrder (seen ps) → IsNonDecreasingBy (λ (p : Bor Piece). piece_offset p.now + piece_size p.now) ps
-ends_rise ps h i j d le l = elim (same_or_not i j) [
-  | inl e ↦ (let s : slice_index_or ps i d ≡ slice_index_or ps j d = ap (λ k. slice_index_or ps k d) e in
-      let t : piece_offset (slice_index_or ps i d).now + piece_size (slice_index_or ps i d).now ≡ piece_offset (slice_index_or ps j d).now + piece_size (slice_index_or ps j d).now = ap (λ (p : Bor Piece). piece_offset p.now + piece_size p.now) s in omega (arith, t))
-  | inr ne ↦ (let a = h.apart i j (slice_index_or ps i d).now (slice_index_or ps j d).now (omega arith) (at_seen ps i d (omega arith)) (at_seen ps j d l) in omega (arith, a))
+rises : (f : Piece → ℕ) → ((p q : Piece) → piece_offset p + piece_size p ≤ piece_offset q → f p ≤ f q) → (ps : List (Bor Piece)) → AreInOrder (seen ps) → IsNonDecreasingBy (λ (p : Bor Piece). f p.now) ps
+rises f up ps h i j d le l = elim (cases_eq i j) [
+  | inl e ↦ (let t = ap (λ k. f (slice_index_or ps k d).now) e in omega (arith, t))
+  | inr ne ↦ up (slice_index_or ps i d).now (slice_index_or ps j d).now (h.apart i j _ _ (omega arith) (at_seen ps i d (omega arith)) (at_seen ps j d l))
 ]
 
+pub ends_rise : (ps : List (Bor Piece)) → AreInOrder (seen ps) → IsNonDecreasingBy (λ (p : Bor Piece). piece_offset p.now + piece_size p.now) ps
+ends_rise = rises (λ p. piece_offset p + piece_size p) (λ p q l. omega arith)
+
 pub begins_rise : (ps : List (Bor Piece)) (from : ℕ) → AreInOrder (seen ps) → IsNonDecreasingBy (λ (p : Bor Piece). piece_offset p.now - from) ps
-begins_rise ps from h i j d le l = elim (same_or_not i j) [
-  | inl e ↦ (let s : slice_index_or ps i d ≡ slice_index_or ps j d = ap (λ k. slice_index_or ps k d) e in
-      let t : piece_offset (slice_index_or ps i d).now - from ≡ piece_offset (slice_index_or ps j d).now - from = ap (λ (p : Bor Piece). piece_offset p.now - from) s in omega (arith, t))
-  | inr ne ↦ (let a = h.apart i j (slice_index_or ps i d).now (slice_index_or ps j d).now (omega arith) (at_seen ps i d (omega arith)) (at_seen ps j d l) in omega (arith, a))
-]
+begins_rise ps from = rises (λ p. piece_offset p - from) (λ p q l. omega arith) ps
 
 -- the pieces between two places
 module _ (ps : List (Bor Piece)) (before count : ℕ) (low : before ≤ length ps) (high : count ≤ length (take (length ps - before) (drop before ps))) where
@@ -60,7 +54,7 @@ module _ (ps : List (Bor Piece)) (before count : ℕ) (low : before ≤ length p
   rest = take (length ps - before) (drop before ps)
 
   rest_length : length rest ≡ length ps - before
-  rest_length = (let d : length (drop before ps) ≡ length ps - before = drop_length ps before in take_length (drop before ps) (length ps - before) (omega arith))
+  rest_length = (let d = length-drop before ps in length-take-le (length ps - before) (drop before ps) (omega arith))
 
   rest_get : (j : ℕ) → j < length ps - before → slice_get rest j ≡ slice_get ps (before + j)
   rest_get j l = take_get (drop before ps) (length ps - before) j l ∙ drop_get ps before j
@@ -77,13 +71,13 @@ module _ (ps : List (Bor Piece)) (before count : ℕ) (low : before ≤ length p
       among i p e =
           let b = from_seen (take count rest) i p e in
           let l : i < length (take count rest) = slice_get_within (take count rest) i b.0 b.1 in
-          let c : length (take count rest) ≡ count = take_length rest count high in
+          let c : length (take count rest) ≡ count = length-take-le count rest high in
           (before + i, in_seen ps (before + i) b.0 (sym (chosen_get i (omega (arith, l, c))) ∙ b.1) ∙ ap Some b.2)
 
       only : (i : ℕ) (p : Piece) → slice_get (seen (take count rest)) i ≡ Some p → (x : ℕ) × IsTrue (holds p x) × IsTrue (is_in part.offset part.length x)
       only i p e =
           let b = from_seen (take count rest) i p e in
-          let c : length (take count rest) ≡ count = take_length rest count high in
+          let c : length (take count rest) ≡ count = length-take-le count rest high in
           let l : i < length (take count rest) = slice_get_within (take count rest) i b.0 b.1 in
           let under : i < count = omega (arith, l, c) in
           let len = rest_length in
@@ -112,32 +106,19 @@ module _ (ps : List (Bor Piece)) (before count : ℕ) (low : before ≤ length p
           let within = from_in part.offset part.length x m in
           let from : part.offset ≤ x = within.0 in
           let below : x < part.offset + part.length = within.1 in
-          go b l lo hi from below (nat_lt i before) refl
-        where
-          go : (b : (b : Bor Piece) × (slice_get ps i ≡ Some b) × (b.now ≡ p)) → i < length ps → piece_offset p ≤ x → x < piece_offset p + piece_size p → part.offset ≤ x → x < part.offset + part.length
-              → (t : Bool) → nat_lt i before ≡ t → IsOneOf (seen (take count rest)) p
-          go b l lo hi from below true t =
-              (let is : slice_index_or ps i b.0 ≡ b.0 = get_or_from_slice_get ps i b.0 b.0 b.1 in
-              let ends : nat_le (piece_offset b.0.now + piece_size b.0.now) part.offset ≡ true =
-              subst (λ (r : Bor Piece). nat_le (piece_offset r.now + piece_size r.now) part.offset ≡ true) is (first.0 i b.0 (omega arith) (ltb-true i before t)) in
-              let bad : piece_offset p + piece_size p ≤ part.offset = leb-true (piece_offset p + piece_size p) part.offset (subst (λ (r : Piece). nat_le (piece_offset r + piece_size r) part.offset ≡ true) b.2 ends) in
-              absurd (omega arith))
-          go b l lo hi from below false t =
-              (let behind : before ≤ i = ltb-false i before t in
-              let place : before + (i - before) ≡ i = omega arith in
-              let len = rest_length in
-              let at : slice_get rest (i - before) ≡ Some b.0 = rest_get (i - before) (omega arith) ∙ ap (slice_get ps) place ∙ b.1 in
-              let is : slice_index_or rest (i - before) b.0 ≡ b.0 = get_or_from_slice_get rest (i - before) b.0 b.0 at in
-              by behind place len at is (nat_lt (i - before) count) refl)
-            where
-              by : before ≤ i → before + (i - before) ≡ i → length rest ≡ length ps - before → slice_get rest (i - before) ≡ Some b.0 → slice_index_or rest (i - before) b.0 ≡ b.0
-                  → (u : Bool) → nat_lt (i - before) count ≡ u → IsOneOf (seen (take count rest)) p
-              by behind place len at is true u = (i - before, in_seen (take count rest) (i - before) b.0 (take_get rest count (i - before) (ltb-true (i - before) count u) ∙ at) ∙ ap Some b.2)
-              by behind place len at is false u =
-                  (let past : nat_lt (piece_offset b.0.now - part.offset) part.length ≡ false =
-                  subst (λ (r : Bor Piece). nat_lt (piece_offset r.now - part.offset) part.length ≡ false) is (last.1 (i - before) b.0 (ltb-false (i - before) count u) (omega arith)) in
-                  let bad : part.length ≤ piece_offset p - part.offset = ltb-false (piece_offset p - part.offset) part.length (subst (λ (r : Piece). nat_lt (piece_offset r - part.offset) part.length ≡ false) b.2 past) in
-                  absurd (omega arith))
+          let met : i < before → ⊥ = λ t.
+          (let ends = subst (λ (r : Bor Piece). nat_le (piece_offset r.now + piece_size r.now) part.offset ≡ true) (get_or_from_slice_get ps i b.0 b.0 b.1) (first.0 i b.0 (omega arith) t) in
+          let bad = leb-true (piece_offset p + piece_size p) part.offset (subst (λ (r : Piece). nat_le (piece_offset r + piece_size r) part.offset ≡ true) b.2 ends) in
+          omega (arith, lo, hi, from, bad)) in
+          let behind : before ≤ i = omega (arith, met) in
+          let place : before + (i - before) ≡ i = omega (arith, behind) in
+          let len = rest_length in
+          let there : slice_get rest (i - before) ≡ Some b.0 = rest_get (i - before) (omega (arith, behind, l)) ∙ ap (slice_get ps) place ∙ b.1 in
+          let within_count : count ≤ i - before → ⊥ = λ u.
+          (let past = subst (λ (r : Bor Piece). nat_lt (piece_offset r.now - part.offset) part.length ≡ false) (get_or_from_slice_get rest (i - before) b.0 b.0 there) (last.1 (i - before) b.0 u (omega (arith, len, behind, l))) in
+          let bad = ltb-false (piece_offset p - part.offset) part.length (subst (λ (r : Piece). nat_lt (piece_offset r - part.offset) part.length ≡ false) b.2 past) in
+          omega (arith, lo, from, below, bad)) in
+          (i - before, in_seen (take count rest) (i - before) b.0 (take_get rest count (i - before) (omega (arith, within_count)) ∙ there) ∙ ap Some b.2)
 
 -- how many of the pieces hold an offset
 abbrev one : Bool → ℕ
@@ -232,18 +213,13 @@ module _ (pieces sorted : List Piece) (apart : AreApart pieces) (perm : IsPermut
   filled i p e = ltb-true 0 (piece_size p) (back i p e).1
 
   in_order : (i j : ℕ) (p q : Piece) → i < j → slice_get sorted i ≡ Some p → slice_get sorted j ≡ Some q → piece_offset p + piece_size p ≤ piece_offset q
-  in_order i j p q l e f = go (nat_le (piece_offset p + piece_size p) (piece_offset q)) refl
-    where
-      go : (b : Bool) → nat_le (piece_offset p + piece_size p) (piece_offset q) ≡ b → piece_offset p + piece_size p ≤ piece_offset q
-      go true t = leb-true (piece_offset p + piece_size p) (piece_offset q) t
-      go false t =
-          (let over : piece_offset q < piece_offset p + piece_size p = leb-false (piece_offset p + piece_size p) (piece_offset q) t in
-          let up : piece_offset p ≤ piece_offset q = rise i j p q l e f in
-          let size : 0 < piece_size q = filled j q f in
-          let two : 2 ≤ holders (piece_offset q) sorted =
-          two_held (piece_offset q) sorted i j p q l e f (in_from (piece_offset p) (piece_size p) (piece_offset q) up over) (in_from (piece_offset q) (piece_size q) (piece_offset q) (omega arith) (omega arith)) in
-          let few : holders (piece_offset q) sorted ≤ 1 = held_once (piece_offset q) in
-          absurd (omega arith))
+  in_order i j p q l e f =
+      let up : piece_offset p ≤ piece_offset q = rise i j p q l e f in
+      let size : 0 < piece_size q = filled j q f in
+      let few : holders (piece_offset q) sorted ≤ 1 = held_once (piece_offset q) in
+      let none : piece_offset q < piece_offset p + piece_size p → ⊥ = λ over.
+      (let two = two_held (piece_offset q) sorted i j p q l e f (in_from (piece_offset p) (piece_size p) (piece_offset q) up over) (in_from (piece_offset q) (piece_size q) (piece_offset q) (omega arith) (omega arith)) in omega arith) in
+      omega arith
 
   pub sorted_pieces : AreSorted pieces sorted
   sorted_pieces = record {

@@ -1,12 +1,13 @@
 -- A verdict depends on the bytes at first only below the export's size.
 use Rattle.std.proofs.Common.{◌≡◌, ℕ, ◌+◌, ◌<◌, ◌≤◌, List, refl, sym, ◌∙◌, ap, arith, Option, Some, None, Result, Ok, Err, IfOk, take, inl, inr, ◌⊎◌}
+use Rattle.std.proofs.lemmas.Bool.{and_parts}
 use Rattle.nbd_wire.specs.declared.commands.TheConstants as commands
 use Rattle.nbd_wire.specs.declared.profile.Profile.{Profile}
 use Rattle.nbd_wire.specs.declared.entry.Entry.{Entry}
 use Rattle.nbd_wire.specs.protocol.Entries.{in_part}
 use Rattle.nbd_wire.specs.protocol.Pieces.{is_in}
 use Rattle.nbd_wire.specs.protocol.ExportBytes.{Effect, IsWrong, effect, effect_if, effects, last_touch, byte_or_start, byte_before}
-use Rattle.nbd_wire.specs.protocol.Explains.{FitsImage, Start, Unknown, Zeroes, Image, start_byte}
+use Rattle.nbd_wire.specs.protocol.Explains.{FitsImage, Start, Image, start_byte}
 use Rattle.nbd_wire.specs.protocol.Reports.{Asked, Report, asked_at}
 use Rattle.nbd_wire.specs.protocol.Operations.{Exporting}
 use Rattle.nbd_export.specs.Ranges.{AreSameBelow}
@@ -21,7 +22,7 @@ use Rattle.nbd_judge.specs.internal.Beginnings.{image_length}
 use Rattle.nbd_judge.specs.Beginnings.{initial_of}
 use Rattle.nbd_judge.specs.Servable.{size_of}
 use Rattle.nbd_judge.specs.Verdicts.{HasWrongFrom, IsJudged, IsVerdict, FirstWrongFrom}
-use Rattle.nbd_judge.proofs.contents.CompareLemmas.{both, from_in, wrong_of, wrong_there}
+use Rattle.nbd_judge.proofs.contents.CompareLemmas.{from_in, wrong_of, wrong_there}
 use Rattle.nbd_judge.proofs.orders.FirstLemmas.{first_of}
 use Rattle.nbd_judge.proofs.verdicts.SoundLemmas.{servable}
 
@@ -44,7 +45,7 @@ module _ (r : Report) (sound : IsSoundReport r) (order : List Entry) (f g : ℕ 
       let reads : (a.0.command ≡ commands.READ) ⊎ (a.0.command ≡ commands.BLOCK_STATUS) = elim t.0 [ inl c ↦ inl (ap (λ (e : Effect). e.command) a.2 ∙ c) | inr c ↦ inr (ap (λ (e : Effect). e.command) a.2 ∙ c) ] in
       let well = ap (λ (e : Effect). e.succeeded) a.2 ∙ t.1 in
       let end : a.0.offset + a.0.length ≤ size_of r.export = served.read_inside reads well in
-      let lies = from_in w.0.offset w.0.length x (both (is_in w.0.offset w.0.length x) (in_part entry.part x) t.2).0 in
+      let lies = from_in w.0.offset w.0.length x (and_parts (is_in w.0.offset w.0.length x) (in_part entry.part x) t.2).0 in
       let hi : x < w.0.offset + w.0.length = lies.1 in
       let offset : a.0.offset ≡ w.0.offset = ap (λ (e : Effect). e.offset) a.2 in
       let len : a.0.length ≡ w.0.length = ap (λ (e : Effect). e.length) a.2 in
@@ -67,20 +68,15 @@ first_same r sound order f g same k x h = (
 pub judged_same : (profile : Profile) (r : Report) → IsSoundReport r → (order : List Entry) (f g : ℕ → Option ℕ) → AreSameBelow (size_of r.export) f g → (v : Verdict) → IsJudged profile r order f v → IsJudged profile r order g v
 judged_same profile r sound order f g same (verdict.Yes a b c) h =
     (h.0, (λ i x w. h.1 i x (wrong_same r sound order g f (λ y l. sym (same y l)) i x w)), h.2, h.3, h.4)
-judged_same profile r sound order f g same (verdict.Order e p) h = h
 judged_same profile r sound order f g same (verdict.Content k x) h = (h.0, (first_same r sound order f g same k x h.1.0, h.1.1))
 judged_same profile r sound order f g same (verdict.Status k x) h = (h.0, (first_same r sound order f g same k x h.1.0, h.1.1))
-judged_same profile r sound order f g same (verdict.Wire at fault) h = h
-judged_same profile r sound order f g same (verdict.Image i s) h = h
+judged_same profile r sound order f g same v h = h
 
 -- a judgement is the verdict, where the start fits
 fitting : (profile : Profile) (r : Report) (order : List Entry) (start : Start) → FitsImage r.export start → (v : Verdict) → IsJudged profile r order (start_byte start) v → IsVerdict profile r order start v
-fitting profile r order start fits (verdict.Yes a b c) h = (fits, h)
-fitting profile r order start fits (verdict.Order e p) h = (fits, h)
-fitting profile r order start fits (verdict.Content k x) h = (fits, h)
-fitting profile r order start fits (verdict.Status k x) h = (fits, h)
 fitting profile r order start fits (verdict.Wire at fault) h = h
 fitting profile r order start fits (verdict.Image i s) h = absurd h
+fitting profile r order start fits v h = (fits, h)
 
 pub report_of_conclusion : {E : Type 0} (profile : Profile) (r : Report) → IsSoundReport r → (order : List Entry) (f : ℕ → Option ℕ) (start : Start) → FitsImage r.export start → AreSameBelow (size_of r.export) f (start_byte start)
     → (o : Result Verdict E) → IfOk o (IsJudged profile r order f) → IfOk o (IsVerdict profile r order start)
@@ -97,10 +93,8 @@ no_export None h = refl
 no_export (Some e) h = absurd (let q : None ≡ Some (e.size, e.flags) = h in (cc))
 
 pub image_fits : (o : Option Exporting) (size : ℕ) (start : Start) → size_of o ≡ size → ((n : ℕ) → image_length start ≡ Some n → n ≡ size) → FitsImage o start
-image_fits None size start e h = tt
 image_fits (Some export) size (Image bytes) e h = h _ refl ∙ sym e
-image_fits (Some export) size Unknown e h = tt
-image_fits (Some export) size Zeroes e h = tt
+image_fits o size start e h = tt
 
 -- the byte at first of the program's start is that of the definitions'
 pub same_start : (start : contents_start.Start) (x : ℕ) → contents.start_byte start x ≡ start_byte (initial_of start) x

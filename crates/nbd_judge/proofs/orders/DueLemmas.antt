@@ -1,6 +1,5 @@
 -- When what an entry serves was due.
-use Rattle.std.proofs.Common.{◌≡◌, ℕ, ◌<◌, ◌≤◌, refl, sym, ◌∙◌, ap, subst, Option, Some, None, arith, Bool, true, false, IsTrue, if◌then◌else◌, nat_le}
-use Rattle.std.proofs.lemmas.Bool.{leb-true, leb-false}
+use Rattle.std.proofs.Common.{◌≡◌, ℕ, ◌⊎◌, inl, inr, refl, sym, ◌∙◌, ap, subst, Option, Some, None, arith, Bool, true, false, IsTrue, if◌then◌else◌}
 use Rattle.nbd_export.specs.Ranges.{IsLeast}
 use Rattle.nbd_state.specs.declared.span.Span.{Span}
 use Rattle.nbd_wire.specs.declared.entry.Entry.{Entry}
@@ -11,7 +10,7 @@ use Rattle.nbd_wire.specs.protocol.Pieces.{is_in}
 use Rattle.nbd_wire.specs.protocol.Reports.{Asked, Report, asked_at, due_by_chunk, due_in, due_of, first_shown, inside_in, lesser_of}
 use Rattle.nbd_judge.specs.internal.Dues.{IsFair, IsLeastDue, ServesDue, ShowsIn}
 use Rattle.nbd_wire.specs.protocol.Operations.{is_chunked}
-use Rattle.nbd_judge.proofs.contents.CompareLemmas.{in_from}
+use Rattle.nbd_judge.proofs.contents.CompareLemmas.{in_from, itself, least_as, least_lesser, one_least}
 
 -- by whether the profile serves the request by chunk
 pub due_whole : (profile : Profile) (within : ℕ → Bool) (a : Asked) (x : ℕ) → is_chunked profile a.command ≡ false → due_of profile within (Some a) x ≡ a.known_at
@@ -33,11 +32,10 @@ module _ (profile : Profile) (r : Report) (e : Entry) (a : Asked) (told : asked_
       go (Some p) q = (p.offset, in_from p.offset p.length p.offset (omega arith) (let l = (fair.part p q).0 in omega (arith, l)))
 
   pub least_whole : is_chunked profile a.command ≡ false → IsLeastDue (due_in profile r) e a.known_at
-  least_whole whole = go a.known_at (λ x. ap (λ o. due_of profile (inside_in r e.request) o x) told ∙ due_whole profile (inside_in r e.request) a x whole)
+  least_whole whole = least_as (λ n. a.known_at ≡ Some n) (ServesDue (due_in profile r) e) a.known_at (λ n q. (some_offset.0, some_offset.1, due some_offset.0 ∙ q)) (λ n (x, p, d). sym (due x) ∙ d) (itself a.known_at)
     where
-      go : (o : Option ℕ) → ((x : ℕ) → due_in profile r e.request x ≡ o) → IsLeast (ServesDue (due_in profile r) e) o
-      go None due = λ n (x, p, d). (let q : None ≡ Some n = sym (due x) ∙ d in (cc))
-      go (Some m) due = ((some_offset.0, some_offset.1, due some_offset.0), λ n l (x, p, d). (let q : Some m ≡ Some n = sym (due x) ∙ d in let s : m ≡ n = cc in omega (arith, l, s)))
+      due : (x : ℕ) → due_in profile r e.request x ≡ a.known_at
+      due x = ap (λ o. due_of profile (inside_in r e.request) o x) told ∙ due_whole profile (inside_in r e.request) a x whole
 
   module _ (chunked : is_chunked profile a.command ≡ true) (span : Span) (least : Option ℕ) (shown : IsLeast (ShowsIn a span) least)
       (into : (x : ℕ) → IsTrue (in_part e.part x) → IsTrue (inside_in r e.request x) → IsTrue (is_in span.offset span.size x))
@@ -60,64 +58,24 @@ module _ (profile : Profile) (r : Report) (e : Entry) (a : Asked) (told : asked_
     served : (n : ℕ) → ShowsIn a span n → (x : ℕ) × IsTrue (in_part e.part x) × (here x ≡ Some n)
     served n (x, i, f) = (let b = back x i in (x, b.0, ap (λ t. if t then first_shown a.shown x else None) b.1 ∙ f))
 
-    -- no offset was shown before the least count
-    not_before : (m : ℕ) → least ≡ Some m → (x n : ℕ) → IsTrue (in_part e.part x) → here x ≡ Some n → m ≤ n
-    not_before m q x n p h = (let f = subst (IsLeast (ShowsIn a span)) q shown in go (nat_le m n) refl (λ l. f.1 n l (shows x n p h)))
-      where
-        go : (b : Bool) → nat_le m n ≡ b → (n < m → ⊥) → m ≤ n
-        go true t f = leb-true m n t
-        go false t f = absurd (f (leb-false m n t))
+    -- what is due at x is the least of what is shown and what has ended
+    lesser_at : (x : ℕ) → IsLeast (λ n. (here x ≡ Some n) ⊎ (a.ended_at ≡ Some n)) (lesser_of (here x) a.ended_at)
+    lesser_at x = least_lesser (λ n. here x ≡ Some n) (λ n. a.ended_at ≡ Some n) (here x) a.ended_at (itself (here x)) (itself a.ended_at)
 
-    none_shown : least ≡ None → (x n : ℕ) → IsTrue (in_part e.part x) → here x ≡ Some n → ⊥
-    none_shown q x n p h = subst (IsLeast (ShowsIn a span)) q shown n (shows x n p h)
-
-    -- where something has ended and nothing was shown sooner
-    ended_first : (v : ℕ) → a.ended_at ≡ Some v → ((x n : ℕ) → IsTrue (in_part e.part x) → here x ≡ Some n → v ≤ n) → ServesDue (due_in profile r) e v
-    ended_first v q sooner = (some_offset.0, some_offset.1, due_is some_offset.0 ∙ ap (lesser_of (here some_offset.0)) q ∙ go (here some_offset.0) refl)
-      where
-        go : (o : Option ℕ) → here some_offset.0 ≡ o → lesser_of o (Some v) ≡ Some v
-        go None h = refl
-        go (Some n) h = at (nat_le n v) refl
-          where
-            at : (b : Bool) → nat_le n v ≡ b → Some (if b then n else v) ≡ Some v
-            at true t = (let l : v ≤ n = sooner some_offset.0 n some_offset.1 h in let u : n ≤ v = leb-true n v t in ap Some (omega (arith, l, u)))
-            at false t = refl
-
-    -- no offset was due before this count
-    none_sooner : (m : ℕ) → ((x n : ℕ) → IsTrue (in_part e.part x) → here x ≡ Some n → m ≤ n) → ((v : ℕ) → a.ended_at ≡ Some v → m ≤ v) → (n : ℕ) → n < m → ServesDue (due_in profile r) e n → ⊥
-    none_sooner m shows_late ends_late n l (x, p, d) = go (here x) a.ended_at refl refl (sym (due_is x) ∙ d)
-      where
-        go : (f g : Option ℕ) → here x ≡ f → a.ended_at ≡ g → lesser_of f g ≡ Some n → ⊥
-        go None g h q z = (let u : m ≤ n = ends_late n (q ∙ z) in omega (arith, l, u))
-        go (Some w) None h q z = (let u : m ≤ n = shows_late x n p (h ∙ z) in omega (arith, l, u))
-        go (Some w) (Some v) h q z = at (nat_le w v) z
-          where
-            at : (b : Bool) → Some (if b then w else v) ≡ Some n → ⊥
-            at true z = (let s : w ≡ n = cc in let u : m ≤ w = shows_late x w p h in omega (arith, l, u, s))
-            at false z = (let s : v ≡ n = cc in let u : m ≤ v = ends_late v q in omega (arith, l, u, s))
+    among : (n : ℕ) → ServesDue (due_in profile r) e n → ShowsIn a span n ⊎ (a.ended_at ≡ Some n)
+    among n (x, p, d) = elim (subst (IsLeast (λ n. (here x ≡ Some n) ⊎ (a.ended_at ≡ Some n))) (sym (due_is x) ∙ d) (lesser_at x)).0 [ inl h ↦ inl (shows x n p h) | inr q ↦ inr q ]
 
     pub least_chunked : IsLeastDue (due_in profile r) e (lesser_of least a.ended_at)
-    least_chunked = go least a.ended_at refl refl
+    least_chunked = go (lesser_of least a.ended_at) (least_lesser (ShowsIn a span) (λ n. a.ended_at ≡ Some n) least a.ended_at shown (itself a.ended_at))
       where
-        go : (f g : Option ℕ) → least ≡ f → a.ended_at ≡ g → IsLeast (ServesDue (due_in profile r) e) (lesser_of f g)
-        go None None q t = λ n (x, p, d). none_shown q x n p (at (here x) n (sym (due_is x ∙ ap (lesser_of (here x)) t) ∙ d))
+        go : (o : Option ℕ) → IsLeast (λ n. ShowsIn a span n ⊎ (a.ended_at ≡ Some n)) o → IsLeast (ServesDue (due_in profile r) e) o
+        go None h = λ n d. h n (among n d)
+        go (Some m) h = (elim h.0 [ inl s ↦ (let t = served m s in at t.0 t.1 (inl t.2)) | inr q ↦ at some_offset.0 some_offset.1 (inr q) ], λ n l d. h.1 n l (among n d))
           where
-            at : (o : Option ℕ) (n : ℕ) → lesser_of o None ≡ Some n → o ≡ Some n
-            at None n z = absurd (cc)
-            at (Some w) n z = z
-        go None (Some v) q t = (ended_first v t (λ x n p h. absurd (none_shown q x n p h)), none_sooner v (λ x n p h. absurd (none_shown q x n p h)) (λ w z. (let s : v ≡ w = (let y : Some v ≡ Some w = sym t ∙ z in cc) in omega (arith, s))))
-        go (Some u) None q t = (
-          (let s = served u (subst (IsLeast (ShowsIn a span)) q shown).0 in (s.0, s.1, due_is s.0 ∙ ap (lesser_of (here s.0)) t ∙ ap (λ o. lesser_of o None) s.2)),
-          none_sooner u (not_before u q) (λ w z. absurd (let y : None ≡ Some w = sym t ∙ z in (cc))),
-        )
-        go (Some u) (Some v) q t = by (nat_le u v) refl
-          where
-            by : (b : Bool) → nat_le u v ≡ b → IsLeast (ServesDue (due_in profile r) e) (Some (if b then u else v))
-            by true l = (
-              (let s = served u (subst (IsLeast (ShowsIn a span)) q shown).0 in (s.0, s.1, due_is s.0 ∙ ap (lesser_of (here s.0)) t ∙ ap (λ o. lesser_of o (Some v)) s.2 ∙ ap (λ b. Some (if b then u else v)) l)),
-              none_sooner u (not_before u q) (λ w z. (let s : v ≡ w = (let y : Some v ≡ Some w = sym t ∙ z in cc) in let k : u ≤ v = leb-true u v l in omega (arith, s, k))),
-            )
-            by false l = (
-              ended_first v t (λ x n p h. (let k : u ≤ n = not_before u q x n p h in let j : v < u = leb-false u v l in omega (arith, k, j))),
-              none_sooner v (λ x n p h. (let k : u ≤ n = not_before u q x n p h in let j : v < u = leb-false u v l in omega (arith, k, j))) (λ w z. (let s : v ≡ w = (let y : Some v ≡ Some w = sym t ∙ z in cc) in omega (arith, s))),
+            at : (x : ℕ) → IsTrue (in_part e.part x) → (here x ≡ Some m) ⊎ (a.ended_at ≡ Some m) → ServesDue (due_in profile r) e m
+            at x p one = (
+              x,
+              p,
+              due_is x ∙ one_least (λ n. (here x ≡ Some n) ⊎ (a.ended_at ≡ Some n)) (lesser_of (here x) a.ended_at) m (lesser_at x)
+                  (one, λ n l s. h.1 n l (elim s [ inl f ↦ inl (shows x n p f) | inr q ↦ inr q ])),
             )

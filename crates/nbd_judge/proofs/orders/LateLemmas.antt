@@ -1,6 +1,8 @@
 -- The pass from the end that keeps the least count at which something was due.
-use Rattle.std.proofs.Common.{◌≡◌, ℕ, zero, suc, ◌+◌, ◌<◌, ◌≤◌, ◌⊎◌, ◌==◌, ◌&&◌, ◌||◌, inl, inr, List, [], ◌∷◌, length, refl, sym, ◌∙◌, ap, subst, Option, Some, None, arith, Bool, true, false, IsTrue, MatchOption, drop, eq-eqb, eqb-true, slice_get}
-use Rattle.std.proofs.lemmas.Bool.{and_parts, ltb-true, ltb-false}
+use Rattle.std.proofs.Common.{◌≡◌, ℕ, suc, ◌+◌, ◌<◌, ◌≤◌, ◌⊎◌, ◌==◌, ◌&&◌, ◌||◌, inl, inr, List, ◌∷◌, refl, sym, ◌∙◌, ap, subst, Option, Some, None, arith, true, false, IsTrue, MatchOption, add-one, drop, drop-cons, eq-eqb, eqb-true, slice_get}
+use Rattle.std.proofs.lemmas.Option.{get_or_from_slice_get, slice_get_within}
+use Rattle.std.proofs.Math.Bool.{or-true}
+use Rattle.std.proofs.lemmas.Bool.{or_cases, and_parts, ltb-true, ltb-false, cases_eq}
 use Rattle.nbd_export.specs.Ranges.{IsLeast}
 use Rattle.nbd_wire.specs.declared.entry.Entry.{Entry}
 use Rattle.nbd_wire.specs.protocol.Entries.{in_part, is_served}
@@ -9,7 +11,6 @@ use Rattle.nbd_wire.specs.protocol.Reports.{lesser_of}
 use Rattle.nbd_judge.specs.internal.Dues.{ServesDue}
 use Rattle.nbd_judge.specs.internal.Lesser.{is_above}
 use Rattle.nbd_judge.proofs.contents.CompareLemmas.{least_as, least_lesser}
-use Rattle.nbd_judge.proofs.verdicts.DecisionLemmas.{same_or_not}
 
 -- an offset that one of the entries from i on serves was due when so many requests had completed
 abbrev pub ServedDueFrom : (due : ℕ → ℕ → Option ℕ) → List Entry → ℕ → ℕ → Type 0
@@ -21,31 +22,21 @@ IsFound due order i None = (j : ℕ) → i ≤ j → IsLate due order j → ⊥
 IsFound due order i (Some e) = (j : ℕ) × (e ≡ j + 1) × (i ≤ j) × IsLate due order j × ((m : ℕ) → i ≤ m → m < j → IsLate due order m → ⊥)
 
 drop_at : (order : List Entry) (at : ℕ) (e : Entry) → slice_get order at ≡ Some e → drop at order ≡ e ∷ drop (at + 1) order
-drop_at [] at e q = absurd (cc)
-drop_at (d ∷ order) zero e q = (let s : d ≡ e = cc in ap (λ z. z ∷ order) s)
-drop_at (d ∷ order) (suc at) e q = drop_at order at e q ∙ ap (λ n. e ∷ drop n (d ∷ order)) (next at)
-  where
-    next : (at : ℕ) → suc (at + 1) ≡ suc at + 1
-    next at = omega arith
+drop_at order at e q = drop-cons order at e (slice_get_within order at e q) ∙ ap (λ d. d ∷ drop (suc at) order) (get_or_from_slice_get order at e e q) ∙ ap (λ n. e ∷ drop n order) (sym (add-one at))
 
 module _ (due : ℕ → ℕ → Option ℕ) (order : List Entry) (i at : ℕ) (here : i ≡ at + 1) (e : Entry) (entry : slice_get order at ≡ Some e) where
   served_at : (k x : ℕ) → is_served (drop at order) k x ≡ (((e.request == k) && in_part e.part x) || is_served (drop i order) k x)
   served_at k x = ap (λ l. is_served l k x) (drop_at order at e entry) ∙ ap (λ j. ((e.request == k) && in_part e.part x) || is_served (drop j order) k x) (sym here)
 
   to : (n : ℕ) → ServedDueFrom due order i n ⊎ ServesDue due e n → ServedDueFrom due order at n
-  to n (inl (k, x, s, d)) = (k, x, served_at k x ∙ or_right ((e.request == k) && in_part e.part x) s, d)
-    where
-      or_right : (b : Bool) {c : Bool} → c ≡ true → (b || c) ≡ true
-      or_right true q = refl
-      or_right false q = q
+  to n (inl (k, x, s, d)) = (k, x, served_at k x ∙ ap (λ b. ((e.request == k) && in_part e.part x) || b) s ∙ or-true _, d)
   to n (inr (x, p, d)) = (e.request, x, served_at e.request x ∙ ap (λ b. (b && in_part e.part x) || is_served (drop i order) e.request x) (eq-eqb e.request e.request refl) ∙ ap (λ b. b || is_served (drop i order) e.request x) p, d)
 
   from : (n : ℕ) → ServedDueFrom due order at n → ServedDueFrom due order i n ⊎ ServesDue due e n
-  from n (k, x, s, d) = go ((e.request == k) && in_part e.part x) refl (sym (served_at k x) ∙ s)
-    where
-      go : (b : Bool) → ((e.request == k) && in_part e.part x) ≡ b → (b || is_served (drop i order) k x) ≡ true → ServedDueFrom due order i n ⊎ ServesDue due e n
-      go true q s = (let a = and_parts (e.request == k) (in_part e.part x) q in inr (x, a.1, ap (λ j. due j x) (eqb-true e.request k a.0) ∙ d))
-      go false q s = inl (k, x, s, d)
+  from n (k, x, s, d) = elim (or_cases ((e.request == k) && in_part e.part x) (is_served (drop i order) k x) (sym (served_at k x) ∙ s)) [
+    | inl q ↦ (let a = and_parts (e.request == k) (in_part e.part x) q in inr (x, a.1, ap (λ j. due j x) (eqb-true e.request k a.0) ∙ d))
+    | inr s ↦ inl (k, x, s, d)
+  ]
 
   pub least_step : (least found : Option ℕ) → IsLeast (ServedDueFrom due order i) least → IsLeast (ServesDue due e) found → IsLeast (ServedDueFrom due order at) (lesser_of least found)
   least_step least found a b =
@@ -68,23 +59,8 @@ module _ (due : ℕ → ℕ → Option ℕ) (order : List Entry) (i at : ℕ) (h
   found_now l = (at, refl, omega arith, l, λ m lo hi. absurd (omega arith))
 
   pub found_later : (found : Option ℕ) → (IsLate due order at → ⊥) → IsFound due order i found → IsFound due order at found
-  found_later None fresh f = λ j lo l. elim (same_or_not at j) [ inl s ↦ fresh (subst (IsLate due order) (sym s) l) | inr ne ↦ f j (omega arith) l ]
-  found_later (Some x) fresh f = (f.0, f.1, (let lo : i ≤ f.0 = f.2 in omega arith), f.3, λ m lo hi l. elim (same_or_not at m) [ inl s ↦ fresh (subst (IsLate due order) (sym s) l) | inr ne ↦ f.4 m (omega arith) hi l ])
-
-none_behind : (order : List Entry) → drop (length order) order ≡ []
-none_behind [] = refl
-none_behind (e ∷ order) = none_behind order
-
-pub least_end : (due : ℕ → ℕ → Option ℕ) (order : List Entry) → IsLeast (ServedDueFrom due order (length order)) None
-least_end due order n (k, x, s, d) = (let q : false ≡ true = ap (λ l. is_served l k x) (sym (none_behind order)) ∙ s in (cc))
-
-late_within : (due : ℕ → ℕ → Option ℕ) (order : List Entry) (j : ℕ) → length order ≤ j → IsLate due order j → ⊥
-late_within due [] j l (e, k, x, n, q, s, d, lt) = (cc)
-late_within due (y ∷ order) zero l h = omega (arith, l)
-late_within due (y ∷ order) (suc j) l h = late_within due order j (omega (arith, l)) h
-
-pub found_end : (due : ℕ → ℕ → Option ℕ) (order : List Entry) → IsFound due order (length order) None
-found_end due order j lo l = late_within due order j lo l
+  found_later None fresh f = λ j lo l. elim (cases_eq at j) [ inl s ↦ fresh (subst (IsLate due order) (sym s) l) | inr ne ↦ f j (omega arith) l ]
+  found_later (Some x) fresh f = (f.0, f.1, (let lo : i ≤ f.0 = f.2 in omega arith), f.3, λ m lo hi l. elim (cases_eq at m) [ inl s ↦ fresh (subst (IsLate due order) (sym s) l) | inr ne ↦ f.4 m (omega arith) hi l ])
 
 -- when the pass is through
 pub found_first : (due : ℕ → ℕ → Option ℕ) (order : List Entry) (i : ℕ) → i ≤ 0 → (o : Option ℕ) → IsFound due order i o → MatchOption o ((j : ℕ) → IsLate due order j → ⊥) (λ e. (j : ℕ) × (e ≡ j + 1) × IsFirst (IsLate due order) j)

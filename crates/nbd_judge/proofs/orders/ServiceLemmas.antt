@@ -1,6 +1,7 @@
 -- What entries serve of a request.
-use Rattle.std.proofs.Common.{◌≡◌, ℕ, zero, suc, ◌+◌, ◌-◌, ◌<◌, ◌≤◌, ◌==◌, ◌&&◌, ◌||◌, ◌⊎◌, inl, inr, List, [], ◌∷◌, ◌++◌, refl, sym, ◌∙◌, ap, subst, Option, Some, None, Bool, true, false, is_some, if◌then◌else◌, arith, nat_le, nat_lt, eqb-true, eq-eqb, append_assoc, append-nil}
-use Rattle.std.proofs.lemmas.Bool.{leb-true, leb-false, le-leb, lt-ltb, ltb-false, ltb-true}
+use Rattle.std.proofs.Common.{◌≡◌, ℕ, zero, suc, ◌+◌, ◌-◌, ◌<◌, ◌≤◌, ◌==◌, ◌&&◌, ◌||◌, ◌⊎◌, inl, inr, List, [], ◌∷◌, ◌++◌, refl, sym, ◌∙◌, ap, subst, Option, Some, None, Bool, true, false, is_some, if◌then◌else◌, arith, nat_le, eqb-true, eq-eqb, append_assoc, append-nil}
+use Rattle.std.proofs.lemmas.Bool.Decides.{nat_tests}
+use Rattle.std.proofs.lemmas.Bool.{cases_lt, cases_eq, and_parts, leb-true}
 use Rattle.nbd_wire.specs.declared.entry.Entry.{Entry}
 use Rattle.nbd_wire.specs.declared.entry.Part.{Part}
 use Rattle.nbd_wire.specs.declared.payloads.Piece.{Piece}
@@ -9,32 +10,13 @@ use Rattle.nbd_wire.specs.protocol.Entries.{HasBadPart, IsServedAt, MayServe, Na
 use Rattle.nbd_wire.specs.protocol.Pieces.{SharesNone, byte_at, holds, is_in, piece_byte, piece_offset, piece_size}
 use Rattle.nbd_wire.specs.protocol.Transmission.{is_apart, is_apart_from, total}
 use Rattle.nbd_laws.proofs.judge.CoverLemmas.{apart_from-shares, covered_total, full_total_covers, no_overlap, total_within}
-use Rattle.nbd_laws.proofs.requests.LaidLemmas.{AreApart, AreInside}
-use Rattle.nbd_laws.proofs.service.EntryLemmas.{same_number, whole_names}
+use Rattle.nbd_laws.proofs.requests.LaidLemmas.{AreApart, AreInside, apart_snoc}
+use Rattle.nbd_laws.proofs.service.EntryLemmas.{whole_names}
 use Rattle.nbd_state.specs.declared.span.Span.{Span}
 use Rattle.nbd_state.specs.Indexes.{HasMore, IsApart, IsBare, IsFree, IsHeld, IsIndex, Meets}
 use Rattle.nbd_state.proofs.IndexLemmas.{index-more, index-none}
+use Rattle.nbd_judge.proofs.contents.CompareLemmas.{from_in, in_from}
 use Rattle.nbd_judge.specs.internal.Services.{AreParts, IsSpanOf, LieApart, part_pieces, parts_of}
-
--- offsets of holes
-both : (a b : Bool) → (a && b) ≡ true → (a ≡ true) × (b ≡ true)
-both true b e = (refl, e)
-both false b e = absurd (let q : false ≡ true = e in (cc))
-
-in_from : (offset len x : ℕ) → offset ≤ x → x < offset + len → is_in offset len x ≡ true
-in_from offset len x lo hi = ap (λ b. b && nat_lt x (offset + len)) (le-leb offset x lo) ∙ lt-ltb x (offset + len) hi
-
-from_in : (offset len x : ℕ) → is_in offset len x ≡ true → (offset ≤ x) × (x < offset + len)
-from_in offset len x h =
-    let b = both (nat_le offset x) (nat_lt x (offset + len)) h in
-    (leb-true offset x b.0, ltb-true x (offset + len) b.1)
-
-outside : (offset len x : ℕ) → (offset ≤ x → x < offset + len → ⊥) → is_in offset len x ≡ false
-outside offset len x none = go (is_in offset len x) refl
-  where
-    go : (b : Bool) → is_in offset len x ≡ b → b ≡ false
-    go true e = (let i = from_in offset len x e in absurd (none i.0 i.1))
-    go false e = refl
 
 -- a test passes at each offset of a range, or fails at one
 pub all_or_one : (f : ℕ → Bool) (offset size : ℕ) → ((x : ℕ) → offset ≤ x → x < offset + size → f x ≡ true) ⊎ ((x : ℕ) × (offset ≤ x) × (x < offset + size) × (f x ≡ false))
@@ -44,13 +26,10 @@ all_or_one f offset (suc size) = go (f offset) refl (all_or_one f (suc offset) s
     go : (b : Bool) → f offset ≡ b → ((x : ℕ) → suc offset ≤ x → x < suc offset + size → f x ≡ true) ⊎ ((x : ℕ) × (suc offset ≤ x) × (x < suc offset + size) × (f x ≡ false)) →
         ((x : ℕ) → offset ≤ x → x < offset + suc size → f x ≡ true) ⊎ ((x : ℕ) × (offset ≤ x) × (x < offset + suc size) × (f x ≡ false))
     go false q rest = inr (offset, omega arith, omega arith, q)
-    go true q (inl all) = inl (λ x lo hi. elim (same_number offset x) [ inl s ↦ subst (λ y. f y ≡ true) s q | inr ne ↦ all x (omega arith) (omega arith) ])
+    go true q (inl all) = inl (λ x lo hi. elim (cases_eq offset x) [ inl s ↦ subst (λ y. f y ≡ true) s q | inr ne ↦ all x (omega arith) (omega arith) ])
     go true q (inr (x, lo, hi, none)) = inr (x, omega (arith, lo), omega (arith, hi), none)
 
 -- where no entry serves the request atomically, its served offsets are those of its parts
-has : List Piece → ℕ → Bool
-has ps x = is_some (byte_at ps x)
-
 pub served_parts : (es : List Entry) (k x : ℕ) → (NamesWhole es k → ⊥) → is_served es k x ≡ is_some (byte_at (parts_of es k) x)
 served_parts [] k x none = refl
 served_parts (e ∷ es) k x none = go (e.request == k) refl (served_parts es k x (λ n. none (inr n)))
@@ -101,24 +80,11 @@ are_apart span (p ∷ ps) l = (l.3, are_apart span ps l.4)
 laid_push : (span : Span) (ps : List Piece) (q : Piece) → LieApart span ps → span.offset ≤ piece_offset q → piece_offset q + piece_size q ≤ span.offset + span.size → 0 < piece_size q → SharesNone q ps → LieApart span (ps ++ q ∷ [])
 laid_push span [] q l lo hi some none = (lo, hi, some, (λ x h. refl), tt)
 laid_push span (p ∷ ps) q l lo hi some none =
-    (l.0, l.1, l.2, shares p ps q l.3 (λ x h. (first_none p ps x (none x h)).0), laid_push span ps q l.4 lo hi some (λ x h. (first_none p ps x (none x h)).1))
+    (l.0, l.1, l.2, (apart_snoc (p ∷ ps) q (are_apart span (p ∷ ps) l) none).0, laid_push span ps q l.4 lo hi some (λ x h. later x (holds p x) (none x h)))
   where
-    first_none : (p : Piece) (ps : List Piece) (x : ℕ) → byte_at (p ∷ ps) x ≡ None → (holds p x ≡ false) × (byte_at ps x ≡ None)
-    first_none p ps x e = go (holds p x) refl e
-      where
-        go : (b : Bool) → holds p x ≡ b → (if b then Some (piece_byte p x) else byte_at ps x) ≡ None → (b ≡ false) × (byte_at ps x ≡ None)
-        go true is e = absurd (cc)
-        go false is e = (refl, e)
-
-    shares : (p : Piece) (ps : List Piece) (q : Piece) → SharesNone p ps → ((x : ℕ) → holds q x ≡ true → holds p x ≡ false) → SharesNone p (ps ++ q ∷ [])
-    shares p [] q none apart x h = at (holds q x) refl
-      where
-        at : (b : Bool) → holds q x ≡ b → (if b then Some (piece_byte q x) else None) ≡ None
-        at true is = absurd (let z : true ≡ false = sym h ∙ apart x is in (cc))
-        at false is = refl
-    shares p (r ∷ ps) q none apart x h =
-        (let f = first_none r ps x (none x h) in
-        ap (λ b. if b then Some (piece_byte r x) else byte_at (ps ++ q ∷ []) x) f.0 ∙ shares p ps q (λ y i. (first_none r ps y (none y i)).1) apart x h)
+    later : (x : ℕ) (b : Bool) → (if b then Some (piece_byte p x) else byte_at ps x) ≡ None → byte_at ps x ≡ None
+    later x true e = absurd (cc)
+    later x false e = e
 
 total_push : (ps : List Piece) (q : Piece) → total (ps ++ q ∷ []) ≡ total ps + piece_size q
 total_push [] q = omega arith
@@ -143,40 +109,22 @@ shared span p (q ∷ ps) some l e = go (is_apart p q) refl e (shared span p ps s
         (o.0, o.1, ap (λ b. is_some (if b then Some (piece_byte q o.0) else byte_at ps o.0)) o.2))
 
 module _ (span : Span) (within : ℕ → Bool) (is_span : IsSpanOf span within) (before : List Entry) (k : ℕ) where
-  at_entry : Option Part → Entry
-  at_entry p = record { request = k; part = p }
-
-  -- after an entry that serves the request atomically
-  pub whole_named : NamesWhole (before ++ record { request = k; part = None } ∷ []) k
-  whole_named = go before
-    where
-      go : (es : List Entry) → NamesWhole (es ++ record { request = k; part = None } ∷ []) k
-      go [] = inl (refl, refl)
-      go (e ∷ es) = inr (go es)
-
   module _ (sizes : ℕ → Option ℕ) (left : ℕ) (h : AreParts sizes left span before k) where
-    parts_within : total (parts_of before k) ≤ span.size
-    parts_within = total_within span.offset span.size (parts_of before k) (are_inside span (parts_of before k) h.laid) (are_apart span (parts_of before k) h.laid)
-
-    none_left : left ≡ 0 → total (parts_of before k) ≡ span.size
-    none_left e = (let c : left ≡ span.size - total (parts_of before k) = h.count in let l : total (parts_of before k) ≤ span.size = parts_within in omega arith)
-
     pub full : Names before k → left ≡ 0 → (x : ℕ) → IsServedAt within before k x
     full named e x = record {
       named = named;
       covered = λ i.
           (let r = from_in span.offset span.size x (sym (is_span x) ∙ i) in
+          let count = h.count in
+          let within = total_within span.offset span.size (parts_of before k) (are_inside span (parts_of before k) h.laid) (are_apart span (parts_of before k) h.laid) in
           served_parts before k x h.in_parts
-          ∙ full_total_covers span.offset span.size (parts_of before k) (are_inside span (parts_of before k) h.laid) (are_apart span (parts_of before k) h.laid) (none_left e) x r.0 r.1);
+          ∙ full_total_covers span.offset span.size (parts_of before k) (are_inside span (parts_of before k) h.laid) (are_apart span (parts_of before k) h.laid) (omega arith) x r.0 r.1);
     }
-
-    all_served : total (parts_of before k) ≡ span.size → left ≡ 0
-    all_served e = (let c : left ≡ span.size - total (parts_of before k) = h.count in omega arith)
 
     pub not_full : (left ≡ 0 → ⊥) → (x : ℕ) × (IsServedAt within before k x → ⊥)
     not_full ne = elim (all_or_one (is_served before k) span.offset span.size) [
-      | inl all ↦ absurd (ne (all_served (covered_total span.offset span.size (parts_of before k) (are_inside span (parts_of before k) h.laid) (are_apart span (parts_of before k) h.laid)
-          (λ x lo hi. sym (served_parts before k x h.in_parts) ∙ all x lo hi))))
+      | inl all ↦ (let t = covered_total span.offset span.size (parts_of before k) (are_inside span (parts_of before k) h.laid) (are_apart span (parts_of before k) h.laid)
+          (λ x lo hi. sym (served_parts before k x h.in_parts) ∙ all x lo hi) in let count = h.count in absurd (ne (omega arith)))
       | inr (x, lo, hi, none) ↦ (x, λ w. (let q : false ≡ true = sym none ∙ w.covered (is_span x ∙ in_from span.offset span.size x lo hi) in (cc)))
     ]
 
@@ -199,12 +147,10 @@ module _ (span : Span) (within : ℕ → Bool) (is_span : IsSpanOf span within) 
         served_parts before k x h.in_parts ∙ ap (λ o. is_some o) (none x (in_from x 1 x (omega arith) (omega arith)))
       where
         apart : (j n : ℕ) → is_in j n x ≡ false → IsApart x 1 j n
-        apart j n out = go (nat_le j x) (nat_lt x (j + n)) refl refl out
-          where
-            go : (a b : Bool) → nat_le j x ≡ a → nat_lt x (j + n) ≡ b → (a && b) ≡ false → IsApart x 1 j n
-            go true true p q out = absurd (cc)
-            go true false p q out = inr (ltb-false x (j + n) q)
-            go false b p q out = inl (let l : x < j = leb-false j x p in omega arith)
+        apart j n out = elim (cases_lt x j) [
+          | inl l ↦ inl (omega arith)
+          | inr lo ↦ inr (let past : x < j + n → ⊥ = λ hi. (let q : true ≡ false = sym (in_from j n x lo hi) ∙ out in (cc)) in omega (arith, past))
+        ]
 
     pub covered_here : Names before k → (x : ℕ) → IsHeld sizes x → IsServedAt within before k x
     covered_here named x held = record { named = named; covered = λ i. served_held x held }
@@ -245,34 +191,24 @@ module _ (span : Span) (within : ℕ → Bool) (is_span : IsSpanOf span within) 
 
     -- a part that does not lie in the span, or meets another, is bad
     pub out_of_span : (p : Part) → (span.offset ≤ p.offset → p.offset + p.length ≤ span.offset + span.size → ⊥) → HasBadPart within before (record { request = k; part = Some p })
-    out_of_span p out = go p.length refl
-      where
-        go : (n : ℕ) → p.length ≡ n → HasBadPart within before (record { request = k; part = Some p })
-        go zero e = inl e
-        go (suc n) e = by (nat_le span.offset p.offset) refl
-          where
-            by : (b : Bool) → nat_le span.offset p.offset ≡ b → HasBadPart within before (record { request = k; part = Some p })
-            by false q =
-                (let l : p.offset < span.offset = leb-false span.offset p.offset q in
-                inr (inl (p.offset, in_from p.offset p.length p.offset (omega arith) (omega arith), is_span p.offset ∙ outside span.offset span.size p.offset (λ lo hi. omega arith))))
-            by true q =
-                (let l : span.offset ≤ p.offset = leb-true span.offset p.offset q in
-                let far : span.offset + span.size < p.offset + p.length = beyond (nat_le (p.offset + p.length) (span.offset + span.size)) refl l in
-                inr (inl (p.offset + n, in_from p.offset p.length (p.offset + n) (omega arith) (omega arith), is_span (p.offset + n) ∙ outside span.offset span.size (p.offset + n) (λ lo hi. omega arith))))
-              where
-                beyond : (b : Bool) → nat_le (p.offset + p.length) (span.offset + span.size) ≡ b → span.offset ≤ p.offset → span.offset + span.size < p.offset + p.length
-                beyond true r l = absurd (out l (leb-true (p.offset + p.length) (span.offset + span.size) r))
-                beyond false r l = leb-false (p.offset + p.length) (span.offset + span.size) r
+    out_of_span p out = elim (all_or_one (is_in span.offset span.size) p.offset p.length) [
+      | inl all ↦ elim (cases_eq p.length 0) [
+        | inl empty ↦ inl empty
+        | inr some ↦ absurd (
+            let first = from_in span.offset span.size p.offset (all p.offset (omega arith) (omega arith)) in
+            let last = from_in span.offset span.size (p.offset + (p.length - 1)) (all (p.offset + (p.length - 1)) (omega arith) (omega arith)) in
+            let end = last.1 in out first.0 (omega (arith, end)))
+      ]
+      | inr (x, lo, hi, none) ↦ inr (inl (x, in_from p.offset p.length x lo hi, is_span x ∙ none))
+    ]
 
     pub meets_part : (p : Part) → (p.length ≡ 0) ⊎ Meets sizes p.offset p.length → HasBadPart within before (record { request = k; part = Some p })
     meets_part p (inl empty) = inl empty
-    meets_part p (inr m) = go p.length refl
-      where
-        go : (n : ℕ) → p.length ≡ n → HasBadPart within before (record { request = k; part = Some p })
-        go zero e = inl e
-        go (suc n) e =
-            (let s = shared span (Hole p.offset p.length) (parts_of before k) (omega arith) h.laid (h.index.meets (Hole p.offset p.length) m.0 m.1 m.2 m.3) in
-            inr (inr (s.0, s.1, served_parts before k s.0 h.in_parts ∙ s.2)))
+    meets_part p (inr m) = elim (cases_eq p.length 0) [
+      | inl empty ↦ inl empty
+      | inr some ↦ (let s = shared span (Hole p.offset p.length) (parts_of before k) (omega arith) h.laid (h.index.meets (Hole p.offset p.length) m.0 m.1 m.2 m.3) in
+          inr (inr (s.0, s.1, served_parts before k s.0 h.in_parts ∙ s.2)))
+    ]
 
 -- a request of which nothing is served
 pub no_parts : (sizes : ℕ → Option ℕ) (span : Span) (before : List Entry) (k : ℕ) → ((n : ℕ) → sizes n ≡ None) → (Names before k → ⊥) → AreParts sizes span.size span before k
@@ -285,9 +221,7 @@ no_parts sizes span before k none unnamed = record {
 
 -- the spans' test, as bounds
 pub in_span : (span : Span) (p : Part) → (nat_le span.offset p.offset && nat_le (p.offset + p.length) (span.offset + span.size)) ≡ true → (span.offset ≤ p.offset) × (p.offset + p.length ≤ span.offset + span.size)
-in_span span p e = (let b = both (nat_le span.offset p.offset) (nat_le (p.offset + p.length) (span.offset + span.size)) e in (leb-true _ _ b.0, leb-true _ _ b.1))
+in_span span p e = (let b = and_parts (nat_le span.offset p.offset) (nat_le (p.offset + p.length) (span.offset + span.size)) e in (leb-true _ _ b.0, leb-true _ _ b.1))
 
 pub off_span : (span : Span) (p : Part) → (nat_le span.offset p.offset && nat_le (p.offset + p.length) (span.offset + span.size)) ≡ false → span.offset ≤ p.offset → p.offset + p.length ≤ span.offset + span.size → ⊥
-off_span span p e lo hi =
-    let q : true ≡ false = sym (ap (λ b. b && nat_le (p.offset + p.length) (span.offset + span.size)) (le-leb span.offset p.offset lo) ∙ le-leb (p.offset + p.length) (span.offset + span.size) hi) ∙ e in
-    absurd (cc)
+off_span span p e lo hi = grind (arith, nat_tests)

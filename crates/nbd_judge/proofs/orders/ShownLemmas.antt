@@ -1,6 +1,6 @@
 -- What of a READ the messages before the last one showed, and the least count at which a span was shown.
 use Rattle.std.proofs.Common.{◌≡◌, ℕ, zero, suc, ◌+◌, ◌<◌, ◌≤◌, ◌⊎◌, ◌&&◌, ◌==◌, Bor, inl, inr, List, [], ◌∷◌, length, refl, sym, ◌∙◌, ap, Option, Some, None, arith, Bool, true, false, IsTrue, if◌then◌else◌, slice_get}
-use Rattle.std.proofs.lemmas.Bool.{and_from, and_parts}
+use Rattle.std.proofs.lemmas.Bool.{and_from, and_parts, cases_eq}
 use Rattle.std.proofs.lemmas.Option.{slice_get_past, slice_get_read, slice_get_within}
 use Rattle.nbd_export.specs.Ranges.{IsLeast}
 use Rattle.nbd_state.specs.declared.span.Span.{Span}
@@ -15,27 +15,24 @@ use Rattle.nbd_wire.specs.protocol.Reports.{first_shown, lesser_of}
 use Rattle.nbd_wire.specs.protocol.States.{Shown}
 use Rattle.nbd_wire.specs.declared.entry.Entry.{Entry}
 use Rattle.nbd_judge.specs.declared.verdict.OrderFault.{OrderFault}
-use Rattle.nbd_judge.specs.declared.verdict.OrderFault.TheVariants.{NoSuchRequest, Twice, Late, Missing, BadPart, NotCovered}
+use Rattle.nbd_judge.specs.declared.verdict.OrderFault.TheVariants.{Missing, NotCovered}
 use Rattle.nbd_judge.specs.internal.Pieces.{AreApart}
 use Rattle.nbd_judge.specs.internal.Services.{IsFaultOfService, IsShownAt}
 use Rattle.nbd_judge.proofs.contents.CompareLemmas.{from_in, in_from, least_as, least_lesser}
-use Rattle.nbd_judge.proofs.verdicts.DecisionLemmas.{same_or_not}
 
 -- the range of a piece, with a count
 abbrev pub span_at : ℕ → Piece → Shown
 span_at n p = record { offset = piece_offset p; size = piece_size p; count = n }
 
 pub shown_one : (ps : List Piece) (cs : List ℕ) (i : ℕ) (p : Piece) (n : ℕ) → slice_get ps i ≡ Some p → slice_get cs i ≡ Some n → slice_get (with_counts ps cs) i ≡ Some (span_at n p)
-shown_one [] cs i p n e f = absurd (cc)
-shown_one (q ∷ ps) [] i p n e f = absurd (cc)
 shown_one (q ∷ ps) (m ∷ cs) zero p n e f = (let a : q ≡ p = cc in let b : m ≡ n = cc in (λ i. Some (span_at (b i) (a i))))
 shown_one (q ∷ ps) (m ∷ cs) (suc i) p n e f = shown_one ps cs i p n e f
+shown_one ps cs i p n e f = absurd (cc)
 
 pub shown_none : (ps : List Piece) (cs : List ℕ) (i : ℕ) → slice_get ps i ≡ None → slice_get (with_counts ps cs) i ≡ None
-shown_none [] cs i e = refl
-shown_none (q ∷ ps) [] i e = refl
 shown_none (q ∷ ps) (m ∷ cs) zero e = absurd (cc)
 shown_none (q ∷ ps) (m ∷ cs) (suc i) e = shown_none ps cs i e
+shown_none ps cs i e = refl
 
 -- the piece and the count of a range
 record IsOf (ps : List Piece) (cs : List ℕ) (i : ℕ) (s : Shown) : Type 0 where
@@ -46,10 +43,9 @@ record IsOf (ps : List Piece) (cs : List ℕ) (i : ℕ) (s : Shown) : Type 0 whe
   is : span_at count piece ≡ s
 
 range_of : (ps : List Piece) (cs : List ℕ) (i : ℕ) (s : Shown) → slice_get (with_counts ps cs) i ≡ Some s → IsOf ps cs i s
-range_of [] cs i s e = absurd (cc)
-range_of (q ∷ ps) [] i s e = absurd (cc)
 range_of (q ∷ ps) (m ∷ cs) zero s e = record { piece = q; count = m; at = refl; counted = refl; is = cc }
 range_of (q ∷ ps) (m ∷ cs) (suc i) s e = (let r = range_of ps cs i s e in record { piece = r.piece; count = r.count; at = r.at; counted = r.counted; is = r.is })
+range_of ps cs i s e = absurd (cc)
 
 -- one of the ranges has x, with this count
 pub record HasAt (ws : List Shown) (x n : ℕ) : Type 0 where
@@ -90,7 +86,7 @@ module _ (ws : List Shown) (span : Span) (i : ℕ) (least : Option ℕ) (before 
   -- there is no range at place i
   pub shown_past : slice_get ws i ≡ None → IsLeast (ShownBefore ws span (i + 1)) least
   shown_past none = least_as (ShownBefore ws span i) (ShownBefore ws span (i + 1)) least grown
-      (λ n (x, j, (h, l)). elim (same_or_not h.place i) [
+      (λ n (x, j, (h, l)). elim (cases_eq h.place i) [
         | inl q ↦ absurd (let z : None ≡ Some h.range = sym none ∙ ap (slice_get ws) (sym q) ∙ h.at in (cc))
         | inr ne ↦ (x, j, (h, omega (arith, l, ne)))
       ]) before
@@ -102,7 +98,7 @@ module _ (ws : List Shown) (span : Span) (i : ℕ) (least : Option ℕ) (before 
     -- the range at place i does not meet the span
     pub shown_apart : here.size ≡ 0 → IsLeast (ShownBefore ws span (i + 1)) least
     shown_apart empty = least_as (ShownBefore ws span i) (ShownBefore ws span (i + 1)) least grown
-        (λ n (x, j, (h, l)). elim (same_or_not h.place i) [
+        (λ n (x, j, (h, l)). elim (cases_eq h.place i) [
           | inl q ↦ absurd (let r = same_range h.range h.place q h.at in
               let b = from_in here.offset here.size x (meets x ∙ and_from (is_in s.offset s.size x) (is_in span.offset span.size x) (ap (λ (t : Shown). is_in t.offset t.size x) (sym r) ∙ h.has) j) in
               omega (arith, b.0, b.1, empty))
@@ -117,7 +113,7 @@ module _ (ws : List Shown) (span : Span) (i : ℕ) (least : Option ℕ) (before 
           | inr q ↦ (let both = and_parts (is_in s.offset s.size here.offset) (is_in span.offset span.size here.offset) (sym (meets here.offset) ∙ in_from here.offset here.size here.offset (omega arith) (omega (arith, some))) in
               (here.offset, both.1, (record { place = i; range = s; at = at; has = both.0; counts = sym q }, omega arith)))
         ])
-        (λ n (x, j, (h, l)). elim (same_or_not h.place i) [
+        (λ n (x, j, (h, l)). elim (cases_eq h.place i) [
           | inl q ↦ inr (sym h.counts ∙ ap (λ (t : Shown). t.count) (same_range h.range h.place q h.at))
           | inr ne ↦ inl (x, j, (h, omega (arith, l, ne)))
         ])
@@ -175,7 +171,4 @@ fault_from within entries k shown here all some fault f = (go fault f, λ other 
     go : (fault : OrderFault) → IsFaultOfService (λ x. IsTrue (is_in here.offset here.size x)) within entries k (Some fault) → IsFaultOfService (IsShownAt within shown) within entries k (Some fault)
     go Missing f = f
     go NotCovered f = ((f.0.0, all f.0.0 f.0.1, f.0.2), f.1)
-    go NoSuchRequest f = absurd f
-    go Twice f = absurd f
-    go Late f = absurd f
-    go BadPart f = absurd f
+    go fault f = absurd f

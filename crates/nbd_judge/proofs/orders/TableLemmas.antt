@@ -1,12 +1,14 @@
 -- The table of what an order serves of each request.
-use Rattle.std.proofs.lemmas.Option.{slice_get_within}
+use Rattle.std.proofs.lemmas.List.{get_or-replicate, length-replicate}
+use Rattle.std.proofs.lemmas.Option.{get_or_from_slice_get, slice_get_within}
+use Rattle.std.proofs.Math.Seq.{take-length}
 use Rattle.nbd_wire.specs.protocol.Verdicts.{IsFaultless}
-use Rattle.std.proofs.Common.{MatchOption, is_some, ◌≡◌, ℕ, zero, suc, ◌+◌, ◌-◌, ◌<◌, ◌≤◌, ◌==◌, ◌&&◌, ◌⊎◌, inl, inr, List, [], ◌∷◌, ◌++◌, length, refl, sym, ◌∙◌, ap, subst, Option, Some, None, Result, Ok, Err, Bool, true, false, if◌then◌else◌, arith, nat_le, nat_lt, min, eqb-true, slice_get, slice_set, take, replicate, add-one, ◌||◌, not, IsTrue}
-use Rattle.std.proofs.lemmas.Bool.{eqb-false, leb-false, leb-true, le-leb, lt-ltb, ltb-true, ltb-false}
+use Rattle.std.proofs.Common.{MatchOption, is_some, ◌≡◌, ℕ, zero, suc, ◌+◌, ◌-◌, ◌<◌, ◌≤◌, ◌==◌, ◌&&◌, inl, inr, List, [], ◌∷◌, ◌++◌, length, refl, sym, ◌∙◌, ap, subst, Option, Some, None, Result, Ok, Err, Bool, true, false, if◌then◌else◌, arith, nat_le, nat_lt, min, eqb-true, slice_get, slice_set, take, replicate, ◌||◌, not, IsTrue}
+use Rattle.std.proofs.lemmas.Bool.{ltb-true, ltb-false, cases_eq}
 use Rattle.nbd_wire.specs.declared.entry.Entry.{Entry}
 use Rattle.nbd_wire.specs.protocol.Entries.{HasBadPart, IsTwice, MayServe, NamesWhole, inside_of}
 use Rattle.nbd_wire.specs.declared.commands.TheConstants as commands
-use Rattle.nbd_wire.specs.protocol.Operations.{Exporting, has_range}
+use Rattle.nbd_wire.specs.protocol.Operations.{Exporting, has_range, is_chunked}
 use Rattle.nbd_wire.specs.protocol.Orders.{IsBad, IsDue, IsLate, IsUnserved, NamesNone}
 use Rattle.nbd_wire.specs.declared.entry.Part.{Part}
 use Rattle.nbd_wire.specs.declared.profile.Profile.{Profile}
@@ -20,71 +22,42 @@ use Rattle.nbd_state.specs.Sizes.{sizes_of}
 use Rattle.nbd_judge.specs.declared.service.Service.{Service}
 use Rattle.nbd_judge.specs.declared.service.Service.TheVariants.{Unnamed, Whole, InParts}
 use Rattle.nbd_judge.specs.declared.verdict.OrderFault.{OrderFault}
-use Rattle.nbd_judge.specs.declared.verdict.OrderFault.TheVariants.{NoSuchRequest, Twice, Late, Missing, BadPart, NotCovered}
+use Rattle.nbd_judge.specs.declared.verdict.OrderFault.TheVariants.{NoSuchRequest, Twice, Missing, BadPart, NotCovered}
 use Rattle.nbd_judge.specs.Orders.{IsOrderFault}
 use Rattle.nbd_judge.specs.internal.Services.{has_inside, AreServices, IsAllServed, IsBadAt, IsFaultAfter, IsFaultOf, IsFaultOfService, IsFirstBad, IsNext, IsServiceAfter, IsServiceOf, IsShownAt, IsSpanOf, IsUnservedBy, LieApart, TellsFaultOf, TellsUnserved, part_pieces, parts_of, span_if, span_of_asked}
 use Rattle.nbd_judge.specs.internal.Dues.{IsFair}
-use Rattle.nbd_wire.specs.protocol.Operations.{is_chunked}
+use Rattle.std.proofs.lemmas.Bool.Decides.{nat_tests}
+use Rattle.std.proofs.Math.Bool.{and-false, and_assoc}
 use Rattle.nbd_judge.proofs.orders.DueLemmas.{due_chunked, due_none, due_whole}
 use Rattle.nbd_judge.proofs.contents.EffectLemmas.{taken_one}
-use Rattle.nbd_judge.proofs.verdicts.DecisionLemmas.{same_or_not}
-
--- truth values that imply each other
-same_bool : (a b : Bool) → (a ≡ true → b ≡ true) → (b ≡ true → a ≡ true) → a ≡ b
-same_bool true b to back = sym (to refl)
-same_bool false true to back = back refl
-same_bool false false to back = refl
-
-both : (a b : Bool) → (a && b) ≡ true → (a ≡ true) × (b ≡ true)
-both true b e = (refl, e)
-both false b e = absurd (let q : false ≡ true = e in (cc))
-
-both_in : {a b : Bool} → a ≡ true → b ≡ true → (a && b) ≡ true
-both_in {a} {b} e f = ap (λ c. c && b) e ∙ f
-
-in_from : (offset len x : ℕ) → offset ≤ x → x < offset + len → is_in offset len x ≡ true
-in_from offset len x lo hi = both_in (le-leb offset x lo) (lt-ltb x (offset + len) hi)
-
-from_in : (offset len x : ℕ) → is_in offset len x ≡ true → (offset ≤ x) × (x < offset + len)
-from_in offset len x h = (let b = both (nat_le offset x) (nat_lt x (offset + len)) h in (leb-true offset x b.0, ltb-true x (offset + len) b.1))
 
 -- a range, as far as the export goes
 abbrev IsSame : (size offset len x : ℕ) → Bool → Span → Type 0
 IsSame size offset len x b span = (b && (is_in offset len x && nat_lt x size)) ≡ is_in span.offset span.size x
 
+cut_off : (size offset len x : ℕ) → offset < size → (is_in offset len x && nat_lt x size) ≡ is_in offset (min len (size - offset)) x
+cut_off size offset len x h = grind (arith, nat_tests)
+
+beyond : (size offset len x : ℕ) → size ≤ offset → (is_in offset len x && nat_lt x size) ≡ false
+beyond size offset len x h = grind (arith, nat_tests)
+
+nowhere : (x : ℕ) → is_in 0 0 x ≡ false
+nowhere x = grind (arith, nat_tests)
+
 span_is : (size : ℕ) (b : Bool) (offset len x : ℕ) → IsSame size offset len x b (span_if (b && nat_lt offset size) offset len size)
-span_is size false offset len x = same_bool false (is_in 0 0 x) (λ e. absurd (cc)) (λ e. (let i = from_in 0 0 x e in let hi : x < 0 = i.1 in absurd (omega arith)))
+span_is size false offset len x = sym (nowhere x)
 span_is size true offset len x = go (nat_lt offset size) refl
   where
     go : (c : Bool) → nat_lt offset size ≡ c → IsSame size offset len x true (span_if c offset len size)
-    go true e = same_bool (is_in offset len x && nat_lt x size) (is_in offset (min len (size - offset)) x)
-        (λ h. (let b = both (is_in offset len x) (nat_lt x size) h in let i = from_in offset len x b.0 in
-        let lo : offset ≤ x = i.0 in let hi : x < offset + len = i.1 in let in_size : x < size = ltb-true x size b.1 in
-        in_from offset (min len (size - offset)) x lo (omega arith)))
-        (λ h. (let i = from_in offset (min len (size - offset)) x h in
-        let lo : offset ≤ x = i.0 in let hi : x < offset + min len (size - offset) = i.1 in let begins : offset < size = ltb-true offset size e in
-        both_in (in_from offset len x lo (omega arith)) (lt-ltb x size (omega arith))))
-    go false e = same_bool (is_in offset len x && nat_lt x size) (is_in 0 0 x)
-        (λ h. (let b = both (is_in offset len x) (nat_lt x size) h in let i = from_in offset len x b.0 in
-        let lo : offset ≤ x = i.0 in let in_size : x < size = ltb-true x size b.1 in let far : size ≤ offset = ltb-false offset size e in absurd (omega arith)))
-        (λ h. (let i = from_in 0 0 x h in let hi : x < 0 = i.1 in absurd (omega arith)))
+    go true e = cut_off size offset len x (ltb-true offset size e)
+    go false e = beyond size offset len x (ltb-false offset size e) ∙ sym (nowhere x)
 
 span_of_inside : (export : Option Exporting) (a : Asked) → IsSpanOf (span_of_asked export a) (inside_of a.proper export a.command a.offset a.length)
-span_of_inside (Some export) a x = joined (a.proper || not (a.command == commands.BLOCK_STATUS)) (has_range a.command) _ ∙ span_is export.size (has_inside a) a.offset a.length x
+span_of_inside (Some export) a x = sym (and_assoc (a.proper || not (a.command == commands.BLOCK_STATUS)) (has_range a.command) _) ∙ span_is export.size (has_inside a) a.offset a.length x
+span_of_inside None a x = and-false (a.proper || not (a.command == commands.BLOCK_STATUS)) ∙ none (has_inside a) (span_is 0 (has_inside a) a.offset a.length x)
   where
-    joined : (p r t : Bool) → (p && (r && t)) ≡ ((p && r) && t)
-    joined true r t = refl
-    joined false r t = refl
-span_of_inside None a x = nothing (a.proper || not (a.command == commands.BLOCK_STATUS)) ∙ none (has_inside a) (span_is 0 (has_inside a) a.offset a.length x)
-  where
-    nothing : (p : Bool) → (p && false) ≡ false
-    nothing true = refl
-    nothing false = refl
-
     none : {c : Bool} (b : Bool) → (b && (is_in a.offset a.length x && nat_lt x 0)) ≡ c → false ≡ c
-    none b e = sym (same_bool (b && (is_in a.offset a.length x && nat_lt x 0)) false
-        (λ h. (let q = both b (is_in a.offset a.length x && nat_lt x 0) h in let r = both (is_in a.offset a.length x) (nat_lt x 0) q.1 in
-        let below : x < 0 = ltb-true x 0 r.1 in absurd (omega arith))) (λ h. absurd (cc))) ∙ e
+    none b e = sym (ap (λ t. b && t) (beyond 0 a.offset a.length x (omega arith)) ∙ and-false b) ∙ e
 
 pub span_of_request : (r : Report) (k : ℕ) (a : Asked) → asked_at k r.asked ≡ Some a → IsSpanOf (span_of_asked r.export a) (inside_in r k)
 span_of_request r k a at x = ap (λ o. inside_asked r.export o x) at ∙ span_of_inside r.export a x
@@ -92,35 +65,15 @@ span_of_request r k a at x = ap (λ o. inside_asked r.export o x) at ∙ span_of
 -- the place of a request
 pub request_within : (k : ℕ) (asked : List Asked) (a : Asked) → asked_at k asked ≡ Some a → (0 < k) × (k ≤ length asked) × (slice_get asked (k - 1) ≡ Some a)
 request_within zero asked a e = absurd (let q : None ≡ Some a = e in cc)
-request_within (suc k) asked a e = (omega arith, below asked k e, ap (slice_get asked) (omega arith) ∙ e)
-  where
-    below : (asked : List Asked) (k : ℕ) → slice_get asked k ≡ Some a → suc k ≤ length asked
-    below [] k e = absurd (let q : None ≡ Some a = e in cc)
-    below (x ∷ asked) zero e = omega arith
-    below (x ∷ asked) (suc k) e = (let l : suc k ≤ length asked = below asked k e in omega arith)
-
-pub no_request : (k : ℕ) (asked : List Asked) → asked_at k asked ≡ None → (k ≡ 0) ⊎ (length asked < k)
-no_request zero asked e = inl refl
-no_request (suc k) asked e = inr (above asked k e)
-  where
-    above : (asked : List Asked) (k : ℕ) → slice_get asked k ≡ None → length asked < suc k
-    above [] k e = omega arith
-    above (x ∷ asked) zero e = absurd (let q : Some x ≡ None = e in cc)
-    above (x ∷ asked) (suc k) e = (let l : length asked < suc k = above asked k e in omega arith)
+request_within (suc k) asked a e = (omega arith, slice_get_within asked k a e, ap (slice_get asked) (omega arith) ∙ e)
 
 -- a table of requests of which nothing is served
 replicated : {A : Type 0} (n k : ℕ) (x y : A) → slice_get (replicate n x) k ≡ Some y → x ≡ y
-replicated zero k x y e = absurd (let q : None ≡ Some y = e in cc)
-replicated (suc n) zero x y e = cc
-replicated (suc n) (suc k) x y e = replicated n k x y e
-
-many : {A : Type 0} (n : ℕ) (x : A) → length (replicate n x) ≡ n
-many zero x = refl
-many (suc n) x = ap suc (many n x)
+replicated n k x y e = sym (get_or-replicate n k x x (let l = slice_get_within (replicate n x) k y e in let m = length-replicate n x in omega arith)) ∙ get_or_from_slice_get (replicate n x) k y x e
 
 pub nothing_served : (r : Report) (order : List Entry) (n : ℕ) (table : List Service) → n ≡ length r.asked → table ≡ replicate n Unnamed → AreServices r order 0 table
 nothing_served r order n table e t = record {
-  len = ap length t ∙ many n Unnamed ∙ e;
+  len = ap length t ∙ length-replicate n Unnamed ∙ e;
   none_bad = λ i l. absurd (omega arith);
   each = λ k s a at told. (let q : Unnamed ≡ s = replicated n k Unnamed s (sym (ap (λ l. slice_get l k) t) ∙ at) in
       subst (λ s. IsServiceOf s (span_of_asked r.export a) [] (suc k)) q (λ h. h));
@@ -158,11 +111,9 @@ set_same (z ∷ xs) zero x y e = cc
 set_same (z ∷ xs) (suc i) x y e = set_same xs i x y e
 
 set_other : {A : Type 0} (xs : List A) (i j : ℕ) (x : A) → (j ≡ i → ⊥) → slice_get (slice_set xs i x) j ≡ slice_get xs j
-set_other [] i j x ne = refl
 set_other (z ∷ xs) zero zero x ne = absurd (ne refl)
-set_other (z ∷ xs) zero (suc j) x ne = refl
-set_other (z ∷ xs) (suc i) zero x ne = refl
 set_other (z ∷ xs) (suc i) (suc j) x ne = set_other xs i j x (λ e. ne (ap suc e))
+set_other xs i j x ne = refl
 
 set_length : {A : Type 0} (xs : List A) (i : ℕ) (x : A) → length (slice_set xs i x) ≡ length xs
 set_length [] i x = refl
@@ -197,11 +148,11 @@ module _ (r : Report) (order : List Entry) (i : ℕ) (e : Entry) (at : slice_get
   pub one_more_served : (s : Service) → IsServiceAfter old (span_of_asked r.export a) e.part (Ok s) → (other : Service) → AreServices r order (i + 1) (slice_set (slice_set table (e.request - 1) other) (e.request - 1) s)
   one_more_served s next other = record {
     len = set_length (slice_set table place other) place s ∙ set_length table place other ∙ h.len;
-    none_bad = λ j l b. elim (same_or_not j i) [
+    none_bad = λ j l b. elim (cases_eq j i) [
       | inl q ↦ none_here (subst (IsBad (length r.asked) (inside_in r) order) q b)
       | inr ne ↦ h.none_bad j (omega arith) b
     ];
-    each = λ j t c is asked. subst (λ l. IsServiceOf t (span_of_asked r.export c) l (suc j)) (sym taken) (elim (same_or_not j place) [
+    each = λ j t c is asked. subst (λ l. IsServiceOf t (span_of_asked r.export c) l (suc j)) (sym (taken_one order i e at)) (elim (cases_eq j place) [
       | inl q ↦ here j t c q is asked
       | inr ne ↦ service_other t (span_of_asked r.export c) (take i order) e (suc j) (λ z. ne (omega arith))
           (h.each j t c (sym (set_other (slice_set table place other) place j s ne ∙ set_other table place j other ne) ∙ is) asked)
@@ -210,9 +161,6 @@ module _ (r : Report) (order : List Entry) (i : ℕ) (e : Entry) (at : slice_get
     where
       told_ok : MayServe (inside_in r e.request) (take i order) e × IsServiceOf s (span_of_asked r.export a) (take i order ++ e ∷ []) e.request
       told_ok = told_next (Ok s) next
-
-      taken : take (i + 1) order ≡ take i order ++ e ∷ []
-      taken = ap (λ n. take n order) (add-one i) ∙ taken_one order i e at
 
       none_here : IsBad (length r.asked) (inside_in r) order i → ⊥
       none_here b = elim b [
@@ -240,22 +188,11 @@ module _ (r : Report) (order : List Entry) (i : ℕ) (e : Entry) (at : slice_get
       bad : (fault : OrderFault) → IsFaultAfter (inside_in r e.request) (take i order) e fault → IsBadAt r order i fault
       bad Twice f = (e, at, f)
       bad BadPart f = ((e, at, f.0), named, λ t. f.1 (subst (IsTwice (take i order)) (same_entry t.0 t.1) t.2))
-      bad NoSuchRequest f = absurd f
-      bad Late f = absurd f
-      bad Missing f = absurd f
-      bad NotCovered f = absurd f
-
--- an entry of no request
-pub first_unknown : (r : Report) (order : List Entry) (i : ℕ) (e : Entry) (table : List Service) → slice_get order i ≡ Some e → asked_at e.request r.asked ≡ None → AreServices r order i table → IsFirstBad r order (i + 1) NoSuchRequest
-first_unknown r order i e table at none h = (i, refl, (e, at, no_request e.request r.asked none), h.none_bad)
+      bad fault f = absurd f
 
 -- what is served where it was due has no fault
 pub not_unserved : (profile : Profile) (r : Report) (order : List Entry) (k : ℕ) → IsAllServed profile r order k → IsUnserved (length r.asked) (due_in profile r) (inside_in r) order k → ⊥
 not_unserved profile r order k served u = elim u [ inl m ↦ m.1 (served m.0.0 m.0.1).named | inr n ↦ n.0.2 (served n.0.0 n.0.1) ]
-
-take_all : {A : Type 0} (xs : List A) → take (length xs) xs ≡ xs
-take_all [] = refl
-take_all (x ∷ xs) = ap (λ l. x ∷ l) (take_all xs)
 
 pub some_of : (o : Option ℕ) → is_some o ≡ true → (n : ℕ) × (o ≡ Some n)
 some_of (Some n) e = (n, refl)
@@ -273,7 +210,7 @@ module _ (r : Report) (order : List Entry) (table : List Service) (h : AreServic
       let w = request_within k r.asked a told in
       let lo : 0 < k = w.0 in
       let same : suc (k - 1) ≡ k = omega arith in
-      subst (λ es. IsServiceOf s (span_of_asked r.export a) es k) (take_all order) (subst (IsServiceOf s (span_of_asked r.export a) (take (length order) order)) same (h.each (k - 1) s a cell w.2))
+      subst (λ es. IsServiceOf s (span_of_asked r.export a) es k) (take-length order) (subst (IsServiceOf s (span_of_asked r.export a) (take (length order) order)) same (h.each (k - 1) s a cell w.2))
 
   pub fault_here : (profile : Profile) (found : Option OrderFault) → TellsFaultOf profile a (span_of_asked r.export a) s found → IsFaultOf profile r order k found
   fault_here profile found tells = tells r order k told (span_of_request r k a told) service_at
@@ -288,10 +225,7 @@ pub fault_by : (profile : Profile) (r : Report) (order : List Entry) (k : ℕ) (
 fault_by profile r order k at None due from one f = λ x d. f x (from x d)
 fault_by profile r order k at (Some Missing) due from one f = (let o = one Missing refl in ((o.0, due o.0 o.1), f))
 fault_by profile r order k at (Some NotCovered) due from one f = ((f.0.0, due f.0.0 f.0.1, f.0.2), f.1)
-fault_by profile r order k at (Some NoSuchRequest) due from one f = absurd f
-fault_by profile r order k at (Some Twice) due from one f = absurd f
-fault_by profile r order k at (Some Late) due from one f = absurd f
-fault_by profile r order k at (Some BadPart) due from one f = absurd f
+fault_by profile r order k at found due from one f = absurd f
 
 module _ (profile : Profile) (r : Report) (order : List Entry) (k : ℕ) (a : Asked) (told : asked_at k r.asked ≡ Some a) where
   due_at : (x : ℕ) → due_in profile r k x ≡ due_of profile (inside_in r k) (Some a) x
@@ -326,24 +260,18 @@ module _ (profile : Profile) (r : Report) (order : List Entry) (k : ℕ) (a : As
       (λ x (lo, hi, (n, d)). shown x n (sym (due_at x ∙ due_chunked profile (inside_in r k) a x chunked ∙ ap (lesser_of (if inside_in r k x then first_shown a.shown x else None)) open_) ∙ d)) one f
     where
       shown : (x n : ℕ) → lesser_of (if inside_in r k x then first_shown a.shown x else None) None ≡ Some n → IsShownAt (inside_in r k) a.shown x
-      shown x n d = go (inside_in r k x) refl d
+      shown x n d = go (inside_in r k x) (first_shown a.shown x) refl refl d
         where
-          at : (o : Option ℕ) → lesser_of o None ≡ Some n → o ≡ Some n
-          at None z = absurd (cc)
-          at (Some w) z = z
-
-          go : (b : Bool) → inside_in r k x ≡ b → lesser_of (if b then first_shown a.shown x else None) None ≡ Some n → IsShownAt (inside_in r k) a.shown x
-          go true i d = (i, (n, at (first_shown a.shown x) d))
-          go false i d = absurd (cc)
+          go : (b : Bool) (o : Option ℕ) → inside_in r k x ≡ b → first_shown a.shown x ≡ o → lesser_of (if b then o else None) None ≡ Some n → IsShownAt (inside_in r k) a.shown x
+          go true (Some m) i s d = (i, (m, s))
+          go b o i s d = absurd (cc)
 
 -- the first bad entry is what the order is answered with
 pub answered_with : (profile : Profile) (r : Report) (order : List Entry) (entry : ℕ) (fault : OrderFault) → IsFirstBad r order entry fault → IsOrderFault profile r order entry fault
 answered_with profile r order entry NoSuchRequest h = h
 answered_with profile r order entry Twice h = h
 answered_with profile r order entry BadPart h = (h.0, h.1, h.2.0, h.2.1, h.2.2, h.3)
-answered_with profile r order entry Late h = absurd h.2
-answered_with profile r order entry Missing h = absurd h.2
-answered_with profile r order entry NotCovered h = absurd h.2
+answered_with profile r order entry fault h = absurd h.2
 
 bad_within : (r : Report) (order : List Entry) (i : ℕ) → IsBad (length r.asked) (inside_in r) order i → i < length order
 bad_within r order i b = elim b [
@@ -357,21 +285,15 @@ none_bad r order table h i b = h.none_bad i (bad_within r order i b) b
 -- an entry that is not bad is fair
 pub fair : (r : Report) (order : List Entry) → ((i : ℕ) → IsBad (length r.asked) (inside_in r) order i → ⊥) → (i : ℕ) (e : Entry) → slice_get order i ≡ Some e → IsFair r e
 fair r order none i e at = record {
-  named = named (e.request == 0) (nat_le e.request (length r.asked)) refl refl;
-  part = λ p q. (some p q p.length refl, λ x h. inside p q x h (inside_in r e.request x) refl);
+  named = (
+    (let some : e.request ≡ 0 → ⊥ = λ z. none i (inl (e, at, inl z)) in omega arith),
+    (let there : length r.asked < e.request → ⊥ = λ l. none i (inl (e, at, inr l)) in omega arith),
+  );
+  part = λ p q. ((let ne : p.length ≡ 0 → ⊥ = λ z. bad p q (inl z) in omega arith), λ x h. inside p q x h (inside_in r e.request x) refl);
 }
   where
-    named : (a b : Bool) → (e.request == 0) ≡ a → nat_le e.request (length r.asked) ≡ b → (0 < e.request) × (e.request ≤ length r.asked)
-    named true b z w = absurd (none i (inl (e, at, inl (eqb-true e.request 0 z))))
-    named false true z w = (let ne = eqb-false e.request 0 z in omega (arith, ne), leb-true e.request (length r.asked) w)
-    named false false z w = absurd (none i (inl (e, at, inr (leb-false e.request (length r.asked) w))))
-
     bad : (p : Part) → e.part ≡ Some p → HasBadPart (inside_in r e.request) (take i order) (record { request = e.request; part = Some p }) → ⊥
     bad p q h = none i (inr (inr (e, at, subst (λ o. HasBadPart (inside_in r e.request) (take i order) (record { request = e.request; part = o })) (sym q) h)))
-
-    some : (p : Part) → e.part ≡ Some p → (n : ℕ) → p.length ≡ n → 0 < p.length
-    some p q zero z = absurd (bad p q (inl z))
-    some p q (suc n) z = omega (arith, z)
 
     inside : (p : Part) → e.part ≡ Some p → (x : ℕ) → IsTrue (is_in p.offset p.length x) → (b : Bool) → inside_in r e.request x ≡ b → b ≡ true
     inside p q x h true z = refl
@@ -386,7 +308,4 @@ told_by_table profile r order table h late (Some p) tells = go p.1 (tells order 
     go : (fault : OrderFault) → IsUnservedBy profile r order p.0 fault × ((k : ℕ) → k < p.0 → IsUnserved (length r.asked) (due_in profile r) (inside_in r) order k → ⊥) → IsOrderFault profile r order p.0 fault
     go Missing t = ((none_bad r order table h, late, t.1), t.0)
     go NotCovered t = ((none_bad r order table h, late, t.1), t.0)
-    go NoSuchRequest t = absurd t.0
-    go Twice t = absurd t.0
-    go Late t = absurd t.0
-    go BadPart t = absurd t.0
+    go fault t = absurd t.0

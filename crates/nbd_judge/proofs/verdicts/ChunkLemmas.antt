@@ -1,5 +1,6 @@
 -- Chunks that a session has taken.
-use Rattle.std.proofs.Common.{◌≡◌, ℕ, zero, suc, ◌+◌, ◌<◌, ◌≤◌, List, [], ◌∷◌, ◌++◌, length, refl, sym, ◌∙◌, ap, subst, arith, take, get_or, add-one, length-append, append_assoc, Result, Ok, Err, IfOk, IfErr, IsErrAnd}
+use Rattle.std.proofs.Common.{◌≡◌, ℕ, ◌+◌, ◌<◌, ◌≤◌, List, [], ◌∷◌, ◌++◌, length, refl, sym, ◌∙◌, ap, subst, arith, take, drop, get_or, length-append, append-nil, append_assoc, Result, Ok, Err, IfOk, IfErr, IsErrAnd}
+use Rattle.std.proofs.lemmas.List.{take-append-drop, take_more}
 use Rattle.std.specs.declared.alloc.Global.{Global}
 use Rattle.std.specs.declared.vec.Vec.{Vec}
 use Rattle.nbd_wire.specs.declared.profile.Profile.{Profile}
@@ -10,54 +11,35 @@ use Rattle.nbd_wire.specs.protocol.Marks.{Item, pairs}
 use Rattle.nbd_wire.specs.protocol.Captures.{Pair, flat, side_pairs}
 use Rattle.nbd_wire.specs.protocol.Reports.{Report}
 use Rattle.nbd_wire.specs.protocol.Rules.{IsRunOf}
+use Rattle.nbd_session.proofs.judge.PieceLemmas.{length-sent}
 use Rattle.nbd_session.specs.declared.fault.SessionFault.{SessionFault}
 use Rattle.nbd_session.specs.declared.fault.SessionFault.TheVariants as session
 use Rattle.nbd_session.specs.Sessions.{IsReported, SessionView, pairs_of}
 use Rattle.nbd_judge.specs.declared.verdict.Verdict.{Verdict}
-use Rattle.nbd_judge.specs.declared.verdict.Verdict.TheVariants.{Yes, Wire, Image, Order, Content, Status}
+use Rattle.nbd_judge.specs.declared.verdict.Verdict.TheVariants.{Wire}
 use Rattle.nbd_judge.specs.Captures.{HasVerdict, IsChecked, IsFaultOf, records_of}
 use Rattle.nbd_judge.specs.internal.Captures.{HasReport}
 use Rattle.nbd_judge.specs.Conclusions.{Answers, IsConclusion, IsReportOf}
 use Rattle.nbd_judge.specs.Verdicts.{IsVerdict}
 
-pub length_sent : (s : Side) (bytes : List ℕ) → length (side_pairs s bytes) ≡ length bytes
-length_sent s [] = refl
-length_sent s (b ∷ bytes) = ap suc (length_sent s bytes)
+pub joined : (xs ys : List (Side × Vec ℕ Global)) → flat (records_of (xs ++ ys)) ≡ flat (records_of xs) ++ flat (records_of ys)
+joined [] ys = refl
+joined (x ∷ xs) ys = ap (λ r. side_pairs x.0 x.1.items ++ r) (joined xs ys) ∙ sym (append_assoc (side_pairs x.0 x.1.items) (flat (records_of xs)) (flat (records_of ys)))
 
 -- with one more chunk
-prefix_suc : (cs : List (Side × Vec ℕ Global)) (i : ℕ) (c : Side × Vec ℕ Global) → i < length cs → c ≡ get_or cs i c →
-    flat (records_of (take (suc i) cs)) ≡ flat (records_of (take i cs)) ++ side_pairs c.0 c.1.items
-prefix_suc [] i c w e = absurd (omega arith)
-prefix_suc (d ∷ cs) zero c w e = go d (sym e)
-  where
-    nil : (l : List Pair) → l ++ [] ≡ l
-    nil [] = refl
-    nil (x ∷ l) = ap (λ r. x ∷ r) (nil l)
-
-    go : (d : Side × Vec ℕ Global) → d ≡ c → side_pairs d.0 d.1.items ++ [] ≡ side_pairs c.0 c.1.items
-    go d e = nil (side_pairs d.0 d.1.items) ∙ ap (λ (q : Side × Vec ℕ Global). side_pairs q.0 q.1.items) e
-prefix_suc (d ∷ cs) (suc i) c w e = ap (λ r. side_pairs d.0 d.1.items ++ r) (prefix_suc cs i c (omega arith) e) ∙ sym (append_assoc (side_pairs d.0 d.1.items) (flat (records_of (take i cs))) (side_pairs c.0 c.1.items))
-
 pub prefix_more : (cs : List (Side × Vec ℕ Global)) (i : ℕ) (c : Side × Vec ℕ Global) → i < length cs → c ≡ get_or cs i c →
     flat (records_of (take (i + 1) cs)) ≡ flat (records_of (take i cs)) ++ side_pairs c.0 c.1.items
-prefix_more cs i c w e = ap (λ n. flat (records_of (take n cs))) (add-one i) ∙ prefix_suc cs i c w e
+prefix_more cs i c w e =
+    ap (λ l. flat (records_of l)) (take_more cs i c w ∙ ap (λ d. take i cs ++ d ∷ []) (sym e))
+    ∙ joined (take i cs) (c ∷ []) ∙ ap (λ ps. flat (records_of (take i cs)) ++ ps) (append-nil (side_pairs c.0 c.1.items))
 
 -- no prefix is longer than the whole
 pub prefix_within : (cs : List (Side × Vec ℕ Global)) (i : ℕ) → length (flat (records_of (take i cs))) ≤ length (flat (records_of cs))
-prefix_within [] zero = omega arith
-prefix_within [] (suc i) = omega arith
-prefix_within (d ∷ cs) zero = omega arith
-prefix_within (d ∷ cs) (suc i) =
-    let ih = prefix_within cs i in
-    let a = length-append (side_pairs d.0 d.1.items) (flat (records_of (take i cs))) in
-    let b = length-append (side_pairs d.0 d.1.items) (flat (records_of cs)) in
+prefix_within cs i =
+    let whole = ap (λ l. length (flat (records_of l))) (take-append-drop i cs) in
+    let parts = ap length (joined (take i cs) (drop i cs)) in
+    let sum = length-append (flat (records_of (take i cs))) (flat (records_of (drop i cs))) in
     omega arith
-
-pub prefix_whole : (cs : List (Side × Vec ℕ Global)) (i : ℕ) → length cs ≤ i → take i cs ≡ cs
-prefix_whole [] zero w = refl
-prefix_whole [] (suc i) w = refl
-prefix_whole (d ∷ cs) zero w = absurd (omega arith)
-prefix_whole (d ∷ cs) (suc i) w = ap (λ r. d ∷ r) (prefix_whole cs i (omega arith))
 
 -- what a finished session states is told of its bytes
 pub told_of : {profile : Profile} (r : SessionView) (capture : List Pair) (told : Report) → r.profile ≡ profile → pairs_of r ≡ capture → IsReported r told → HasReport profile capture told
@@ -87,11 +69,7 @@ checked profile capture order initial (Ok r) v told within is answers = go v is 
 
     go : (v : Verdict) → IsVerdict profile r order initial v → Answers profile (pairs told.items) order initial v → IsChecked profile capture order initial v
     go (Wire at fault) is says = absurd is
-    go (Yes a b c) is says = verdict (Yes a b c) is says
-    go (Image i s) is says = verdict (Image i s) is says
-    go (Order e f) is says = verdict (Order e f) is says
-    go (Content k x) is says = verdict (Content k x) is says
-    go (Status k x) is says = verdict (Status k x) is says
+    go v is says = verdict v is says
 
 -- the bytes of one more chunk
 pub grown_by : (cs : List (Side × Vec ℕ Global)) (i : ℕ) (c : Side × Vec ℕ Global) → i < length cs → c ≡ get_or cs i c →
@@ -99,7 +77,7 @@ pub grown_by : (cs : List (Side × Vec ℕ Global)) (i : ℕ) (c : Side × Vec �
 grown_by cs i c w e =
     let more = ap length (prefix_more cs i c w e) in
     let grown = length-append (flat (records_of (take i cs))) (side_pairs c.0 c.1.items) in
-    let len = length_sent c.0 c.1.items in
+    let len = length-sent c.0 c.1.items in
     omega arith
 
 -- the next piece fits, where the whole does

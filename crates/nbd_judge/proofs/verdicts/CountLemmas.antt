@@ -1,8 +1,9 @@
 -- One more request of those that are counted.
-use Rattle.std.proofs.Common.{◌≡◌, ℕ, zero, suc, ◌+◌, ◌<◌, List, [], ◌∷◌, length, sym, ◌∙◌, ap, arith, add-one, Option, Some, None, Bool, true, false, take, slice_get, count_by}
+use Rattle.std.proofs.Common.{◌≡◌, ℕ, ◌+◌, ◌<◌, List, length, sym, ◌∙◌, ap, arith, add-one, Option, Some, None, Bool, true, false, take, slice_get, count_by}
 use Rattle.std.proofs.lemmas.List.Sums.{count_by_more_no, count_by_more_yes}
 use Rattle.std.proofs.lemmas.Option.{get_or_from_slice_get, slice_get_within}
 use Rattle.nbd_wire.specs.protocol.Reports.{Asked, asked_at}
+use Rattle.nbd_judge.proofs.orders.FirstLemmas.{past}
 
 -- request number i + 1 of these stands at i
 there : (asked : List Asked) (i : ℕ) (o : Option Asked) → asked_at (i + 1) asked ≡ o → slice_get asked i ≡ o
@@ -15,10 +16,5 @@ module _ (p : Asked → Bool) (asked : List Asked) (i : ℕ) (a : Asked) (at : a
   pub one_passed : p a ≡ false → count_by p (take (i + 1) asked) ≡ count_by p (take i asked)
   one_passed e = count_by_more_no p asked i a (slice_get_within asked i a (there asked i (Some a) at)) (ap p (get_or_from_slice_get asked i a a (there asked i (Some a) at)) ∙ e)
 
-none_at : (asked : List Asked) (i : ℕ) → i < length asked → slice_get asked i ≡ None → ⊥
-none_at [] i w e = absurd (omega arith)
-none_at (a ∷ asked) zero w e = (let q : Some a ≡ None = e in absurd (cc))
-none_at (a ∷ asked) (suc i) w e = none_at asked i (omega arith) e
-
 pub none_there : (asked : List Asked) (i : ℕ) → i < length asked → asked_at (i + 1) asked ≡ None → ⊥
-none_there asked i w e = none_at asked i w (there asked i None e)
+none_there asked i w e = (let l = past asked i (there asked i None e) in omega arith)

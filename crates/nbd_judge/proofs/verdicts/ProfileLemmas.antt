@@ -14,8 +14,8 @@ use Rattle.nbd_wire.specs.declared.profile.Profile.{Profile}
 use Rattle.nbd_wire.specs.protocol.Captures.{ArePairs, Pair}
 use Rattle.nbd_wire.specs.protocol.Encoding.{AreBytes, enc, head, tail}
 use Rattle.nbd_wire.specs.protocol.Explains.{Start}
-use Rattle.nbd_wire.specs.protocol.Marks.{Item, pairs}
-use Rattle.nbd_wire.specs.protocol.Reports.{Report, report}
+use Rattle.nbd_wire.specs.protocol.Marks.{Item, pairs, without_service}
+use Rattle.nbd_wire.specs.protocol.Reports.{Report, report, due_in, inside_in}
 use Rattle.nbd_wire.specs.protocol.Rules.{IsRunOf, Obeys}
 use Rattle.nbd_wire.specs.protocol.Sendable.{IsSendable}
 use Rattle.nbd_wire.specs.protocol.Places.{IsPlaceOf, IsUnderWayOf}
@@ -24,15 +24,12 @@ use Rattle.nbd_laws.specs.Profiles.{NothingParts}
 use Rattle.nbd_wire.specs.protocol.Reading.{by_tests, Both, fresh_of, get, reads}
 use Rattle.nbd_laws.proofs.reading.ReaderLemmas.{Busy, Idle, Loose, Open, Walk, ended, final, loose, middle, opening, serving}
 use Rattle.nbd_laws.proofs.runs.AgreeLemmas.{dues_agree, nothing_before, places_agree, runs_agree, under_way_in}
-use Rattle.nbd_laws.proofs.runs.FollowLemmas.{pairs_unserved}
-use Rattle.nbd_wire.specs.protocol.Marks.{without_service}
+use Rattle.nbd_laws.proofs.runs.FollowLemmas.{pairs_unserved, each_with}
 use Rattle.nbd_wire.specs.protocol.Orders.{FirstLate, HasNoOrderFault, LeastMissing, LeastNotCovered}
-use Rattle.nbd_wire.specs.protocol.Reports.{due_in, inside_in}
-use Rattle.nbd_wire.specs.protocol.Verdicts.{IsFaultless}
+use Rattle.nbd_wire.specs.protocol.Verdicts.{IsFaultless, improper_count}
 use Rattle.nbd_judge.specs.Orders.{IsOrderFault}
 use Rattle.nbd_judge.specs.declared.verdict.OrderFault.{OrderFault}
-use Rattle.nbd_judge.specs.declared.verdict.OrderFault.TheVariants.{BadPart, Late, Missing, NoSuchRequest, NotCovered, Twice}
-use Rattle.nbd_laws.proofs.runs.FollowLemmas.{each_with}
+use Rattle.nbd_judge.specs.declared.verdict.OrderFault.TheVariants.{Late, Missing, NotCovered}
 use Rattle.nbd_laws.proofs.runs.PlaceLemmas.{but_last, places_begin_no_run, read_no_place}
 use Rattle.nbd_laws.proofs.runs.RunLemmas.{walk_of}
 use Rattle.nbd_laws.proofs.service.ExplainingLemmas.{explained_passes, passing_is_explained}
@@ -42,11 +39,10 @@ use Rattle.nbd_session.specs.Refusals.{IsOpenEndOf, IsRefusalOf, IsWireFaultOf, 
 use Rattle.nbd_wire.specs.protocol.Within.{CompletesExactlyOf}
 use Rattle.nbd_session.proofs.judge.RefusalLemmas.{completes_exactly}
 use Rattle.nbd_judge.specs.declared.verdict.Verdict.{Verdict}
-use Rattle.nbd_judge.specs.declared.verdict.Verdict.TheVariants.{Yes, Wire, Image, Order, Content, Status}
+use Rattle.nbd_judge.specs.declared.verdict.Verdict.TheVariants.{Yes, Wire, Image, Order}
 use Rattle.nbd_judge.specs.Captures.{HasVerdict}
 use Rattle.nbd_judge.specs.Conclusions.{Answers}
 use Rattle.nbd_judge.specs.Profiles.{AnswersAtOnceIn, NothingPartsIn, with_improper, VerdictsAgree}
-use Rattle.nbd_wire.specs.protocol.Verdicts.{improper_count}
 use Rattle.nbd_judge.specs.Verdicts.{IsVerdict}
 use Rattle.nbd_judge.proofs.verdicts.AnswerLemmas.{answers_runs}
 
@@ -129,12 +125,10 @@ place_refuses profile ps messages fault place = record {
 
 -- where the same is due, an order has the same fault
 same_fault : (p q : Profile) (r : Report) (order : List Entry) (entry : ℕ) (fault : OrderFault) → due_in p r ≡ due_in q r → IsOrderFault p r order entry fault → IsOrderFault q r order entry fault
-same_fault p q r order entry NoSuchRequest same h = h
-same_fault p q r order entry Twice same h = h
-same_fault p q r order entry BadPart same h = h
 same_fault p q r order entry Late same h = subst (λ due. FirstLate (length r.asked) due (inside_in r) order entry) same h
 same_fault p q r order entry Missing same h = subst (λ due. LeastMissing (length r.asked) due (inside_in r) order entry) same h
 same_fault p q r order entry NotCovered same h = subst (λ due. LeastNotCovered (length r.asked) due (inside_in r) order entry) same h
+same_fault p q r order entry fault same h = h
 
 same_faultless : (p q : Profile) (r : Report) (order : List Entry) → due_in p r ≡ due_in q r → IsFaultless p r order → IsFaultless q r order
 same_faultless p q r order same h = subst (λ due. HasNoOrderFault (length r.asked) due (inside_in r) order) same h
@@ -143,10 +137,9 @@ same_faultless p q r order same h = subst (λ due. HasNoOrderFault (length r.ask
 other_count : (p q : Profile) (r : Report) (order : List Entry) (initial : Start) (v : Verdict) → due_in p r ≡ due_in q r → IsVerdict p r order initial v → IsVerdict q r order initial (with_improper (improper_count q r) v)
 other_count p q r order initial (Yes a b c) same h = (h.0, (same_faultless p q r order same h.1.0, h.1.1, h.1.2, h.1.3, refl))
 other_count p q r order initial (Order e f) same h = (h.0, same_fault p q r order e f same h.1)
-other_count p q r order initial (Content k x) same h = (h.0, (same_faultless p q r order same h.1.0, h.1.1))
-other_count p q r order initial (Status k x) same h = (h.0, (same_faultless p q r order same h.1.0, h.1.1))
 other_count p q r order initial (Image i s) same h = h
 other_count p q r order initial (Wire at fault) same h = h
+other_count p q r order initial v same h = (h.0, (same_faultless p q r order same h.1.0, h.1.1))
 
 -- items with the same marks, but for those of service, have the same bytes
 same_pairs : (items other : List Item) → without_service other ≡ without_service items → pairs other ≡ pairs items
@@ -198,7 +191,4 @@ module _ (p q : Profile) (capture : List Pair) (tells : NothingPartsIn capture) 
 pub verdicts_agree : VerdictsAgree
 verdicts_agree p q capture order initial (Wire at fault) tells once c = (0, (c.0, same_wire_fault p q capture tells once c.0 at fault c.1))
 verdicts_agree p q capture order initial (Yes a b c) tells once h = (improper_count q (report h.items), same_verdict p q capture tells once order initial (Yes a b c) h)
-verdicts_agree p q capture order initial (Image image size) tells once h = (0, same_verdict p q capture tells once order initial (Image image size) h)
-verdicts_agree p q capture order initial (Order entry fault) tells once h = (0, same_verdict p q capture tells once order initial (Order entry fault) h)
-verdicts_agree p q capture order initial (Content request offset) tells once h = (0, same_verdict p q capture tells once order initial (Content request offset) h)
-verdicts_agree p q capture order initial (Status request offset) tells once h = (0, same_verdict p q capture tells once order initial (Status request offset) h)
+verdicts_agree p q capture order initial v tells once h = (0, same_verdict p q capture tells once order initial v h)

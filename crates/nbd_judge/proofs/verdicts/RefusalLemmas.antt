@@ -1,5 +1,6 @@
 -- A session over chunks that ends in a fault.
-use Rattle.std.proofs.Common.{◌≡◌, ℕ, zero, suc, ◌<◌, List, [], ◌∷◌, ◌++◌, length, refl, sym, ◌∙◌, ap, subst, arith, take, drop, get_or, append_assoc, inl, Result, Ok, Err, IfOk, IfErr, Vec}
+use Rattle.std.proofs.Common.{◌≡◌, ℕ, suc, ◌<◌, List, ◌∷◌, ◌++◌, length, sym, ◌∙◌, ap, subst, take, drop, drop-cons, get_or, append_assoc, inl, Result, Ok, Err, IfOk, IfErr, Vec}
+use Rattle.std.proofs.lemmas.List.{take-append-drop}
 use Rattle.std.specs.declared.alloc.Global.{Global}
 use Rattle.nbd_wire.specs.declared.profile.Profile.{Profile}
 use Rattle.nbd_wire.specs.declared.entry.Entry.{Entry}
@@ -10,27 +11,20 @@ use Rattle.nbd_session.specs.declared.fault.SessionFault.{SessionFault}
 use Rattle.nbd_session.specs.declared.fault.SessionFault.TheVariants.{Memory, Wire}
 use Rattle.nbd_session.specs.Refusals.{EndsIn, IsRefusalOf, IsWireFaultOf, Refuses}
 use Rattle.nbd_session.specs.Sessions.{AddsPrefix, IsAtEnd, SessionView, pairs_of}
+use Rattle.nbd_session.proofs.pushed.PushLemmas.{sent-append}
 use Rattle.nbd_session.proofs.judge.RefusalLemmas.{no_run_of}
 use Rattle.nbd_judge.specs.declared.verdict.Verdict.{Verdict}
 use Rattle.nbd_judge.specs.declared.verdict.Verdict.TheVariants as verdict
+use Rattle.nbd_judge.proofs.verdicts.ChunkLemmas.{joined}
 use Rattle.nbd_judge.specs.Captures.{IsChecked, IsFaultOf, SaysYes, records_of}
 use Rattle.std.specs.Prelude.{◌↔◌}
-
-sent_both : (s : Side) (a b : List ℕ) → side_pairs s (a ++ b) ≡ side_pairs s a ++ side_pairs s b
-sent_both s [] b = refl
-sent_both s (x ∷ a) b = ap (λ ps. record { from = s; byte = x } ∷ ps) (sent_both s a b)
 
 -- before a chunk, the chunk, and after it
 split_at : (cs : List (Side × Vec ℕ Global)) (i : ℕ) (c : Side × Vec ℕ Global) → i < length cs → c ≡ get_or cs i c →
     flat (records_of cs) ≡ flat (records_of (take i cs)) ++ (side_pairs c.0 c.1.items ++ flat (records_of (drop (suc i) cs)))
-split_at [] i c w e = absurd (omega arith)
-split_at (d ∷ cs) zero c w e = go d e
-  where
-    go : (d : Side × Vec ℕ Global) → c ≡ d → side_pairs d.0 d.1.items ++ flat (records_of cs) ≡ side_pairs c.0 c.1.items ++ flat (records_of cs)
-    go d e = ap (λ (q : Side × Vec ℕ Global). side_pairs q.0 q.1.items ++ flat (records_of cs)) (sym e)
-split_at (d ∷ cs) (suc i) c w e =
-    ap (λ r. side_pairs d.0 d.1.items ++ r) (split_at cs i c (omega arith) e)
-    ∙ sym (append_assoc (side_pairs d.0 d.1.items) (flat (records_of (take i cs))) (side_pairs c.0 c.1.items ++ flat (records_of (drop (suc i) cs))))
+split_at cs i c w e =
+    ap (λ l. flat (records_of l)) (sym (take-append-drop i cs)) ∙ joined (take i cs) (drop i cs)
+    ∙ ap (λ l. flat (records_of (take i cs)) ++ flat (records_of l)) (drop-cons cs i c w ∙ ap (λ d. d ∷ drop (suc i) cs) (sym e))
 
 -- a fault in a chunk is that of the capture
 pub fault_in : {profile : Profile} (cs : List (Side × Vec ℕ Global)) (i : ℕ) (c : Side × Vec ℕ Global) (piece : List ℕ) (old new : SessionView) (fault : SessionFault) → i < length cs → c ≡ get_or cs i c → piece ≡ c.1.items →
@@ -39,7 +33,7 @@ fault_in cs i c piece old new Memory w e same p took prefix is refuses = tt
 fault_in cs i c piece old new (Wire at fault) w e same p took prefix is refuses =
     let added = prefix.1 in
     let behind : List Pair = flat (records_of (drop (suc i) cs)) in
-    let whole : side_pairs c.0 added.prefix ++ side_pairs c.0 prefix.0 ≡ side_pairs c.0 c.1.items = sym (sent_both c.0 added.prefix prefix.0) ∙ ap (side_pairs c.0) (added.parts ∙ same) in (
+    let whole : side_pairs c.0 added.prefix ++ side_pairs c.0 prefix.0 ≡ side_pairs c.0 c.1.items = sym (sent-append c.0 added.prefix prefix.0) ∙ ap (side_pairs c.0) (added.parts ∙ same) in (
       new.messages,
       inl (record {
         prefix = pairs_of new;
@@ -69,10 +63,8 @@ says_exactly : (profile : Profile) (capture : List Pair) (order : List Entry) (i
     → SaysYes v ↔ IsExplainedOf profile capture order initial
 says_exactly profile capture order initial (verdict.Yes a b c) is = ((λ y. is.answers.explained), λ x. tt)
 says_exactly profile capture order initial (verdict.Wire at fault) is = ((λ y. absurd y), λ x. no_run_of capture is.0 at fault is.1 x.items x.is_run x.has_pairs)
-says_exactly profile capture order initial (verdict.Image i s) is = ((λ y. absurd y), λ x. is.answers x)
 says_exactly profile capture order initial (verdict.Order e f) is = ((λ y. absurd y), λ x. is.answers.0 x)
-says_exactly profile capture order initial (verdict.Content k x) is = ((λ y. absurd y), λ x. is.answers x)
-says_exactly profile capture order initial (verdict.Status k x) is = ((λ y. absurd y), λ x. is.answers x)
+says_exactly profile capture order initial v is = ((λ y. absurd y), λ x. is.answers x)
 
 pub answers_exactly : {E : Type 0} (profile : Profile) (capture : List Pair) (order : List Entry) (initial : Start) (o : Result Verdict E) → IfOk o (IsChecked profile capture order initial)
     → IfOk o (λ v. SaysYes v ↔ IsExplainedOf profile capture order initial)

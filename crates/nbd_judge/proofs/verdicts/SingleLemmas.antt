@@ -1,5 +1,5 @@
 -- The cases of the definitions of a verdict exclude each other.
-use Rattle.std.proofs.Common.{◌≡◌, ℕ, ◌+◌, ◌<◌, ◌⊎◌, inl, inr, List, length, sym, ◌∙◌, ap, subst, Option, Some, None, slice_get, take, arith}
+use Rattle.std.proofs.Common.{◌≡◌, ℕ, ◌+◌, ◌<◌, ◌⊎◌, inl, inr, List, length, refl, sym, ◌∙◌, ap, subst, Option, Some, None, slice_get, take, arith}
 use Rattle.nbd_wire.specs.declared.entry.Entry.{Entry}
 use Rattle.nbd_wire.specs.declared.entry.Part.{Part}
 use Rattle.nbd_wire.specs.protocol.Entries.{IsAgain, Names}
@@ -14,19 +14,13 @@ use Rattle.nbd_wire.specs.protocol.Operations.{Exporting}
 use Rattle.nbd_wire.specs.protocol.Verdicts.{IsFaultless}
 use Rattle.nbd_judge.specs.declared.verdict.OrderFault.{OrderFault}
 use Rattle.nbd_judge.specs.declared.verdict.OrderFault.TheVariants.{NoSuchRequest, Twice, Late, Missing, BadPart, NotCovered}
+use Rattle.nbd_judge.specs.declared.verdict.Verdict.{Verdict}
 use Rattle.nbd_judge.specs.declared.verdict.Verdict.TheVariants.{Yes, Wire, Image, Order, Content, Status}
 use Rattle.nbd_judge.specs.Images.{IsOtherSize}
 use Rattle.nbd_judge.specs.Orders.{IsOrderFault}
 use Rattle.nbd_judge.specs.Uniqueness.{OneJudgement, OneVerdict}
-use Rattle.nbd_judge.specs.Verdicts.{FirstWrongFrom, HasNoneWrongFrom, HasWrongFrom, FirstWrongOf}
-use Rattle.nbd_judge.proofs.verdicts.DecisionLemmas.{before_or_behind}
-use Rattle.nbd_judge.proofs.orders.FirstLemmas.{place_before}
-
-one_first : (P : ℕ → Type 0) (m n : ℕ) → IsFirst P m → IsFirst P n → m ≡ n
-one_first P m n p q = elim (before_or_behind m n) [
-  | inl l ↦ absurd (q.1 m l p.0)
-  | inr r ↦ elim r [ inl l ↦ absurd (p.1 n l q.0) | inr e ↦ e ]
-]
+use Rattle.nbd_judge.specs.Verdicts.{FirstWrongFrom, HasNoneWrongFrom, HasWrongFrom, FirstWrongOf, IsJudged, IsVerdict}
+use Rattle.nbd_judge.proofs.orders.FirstLemmas.{one_first, place_before}
 
 module _ (profile : Profile) (r : Report) (order : List Entry) where
   abbrev Bad : ℕ → Type 0
@@ -143,74 +137,49 @@ module _ (r : Report) (order : List Entry) (initial : ℕ → Option ℕ) where
       sym v.1.2 ∙ ap (λ (z : Asked). z.command) same ∙ w.1.2
 
 pub one_judgement : OneJudgement
+one_judgement profile r order initial (Wire at fault) u v w = absurd v
+one_judgement profile r order initial (Image image size) u v w = absurd v
 one_judgement profile r order initial (Yes a b c) (Yes d e f) v w = (let p : a ≡ d = v.2 ∙ sym w.2 in let q : b ≡ e = v.3 ∙ sym w.3 in let s : c ≡ f = v.4 ∙ sym w.4 in cc)
 one_judgement profile r order initial (Yes a b c) (Order e p) v w = absurd (has_fault profile r order e p w v.0)
 one_judgement profile r order initial (Yes a b c) (Content k x) v w = absurd (has_wrong r order initial k x w.1.0 v.1)
 one_judgement profile r order initial (Yes a b c) (Status k x) v w = absurd (has_wrong r order initial k x w.1.0 v.1)
-one_judgement profile r order initial (Yes a b c) (Wire at fault) v w = absurd w
-one_judgement profile r order initial (Yes a b c) (Image image size) v w = absurd w
 one_judgement profile r order initial (Order e p) (Yes a b c) v w = absurd (has_fault profile r order e p v w.0)
 one_judgement profile r order initial (Order d p) (Order e q) v w = one_fault profile r order d e p q v w
 one_judgement profile r order initial (Order e p) (Content k x) v w = absurd (has_fault profile r order e p v w.0)
 one_judgement profile r order initial (Order e p) (Status k x) v w = absurd (has_fault profile r order e p v w.0)
-one_judgement profile r order initial (Order e p) (Wire at fault) v w = absurd w
-one_judgement profile r order initial (Order e p) (Image image size) v w = absurd w
 one_judgement profile r order initial (Content k x) (Yes a b c) v w = absurd (has_wrong r order initial k x v.1.0 w.1)
 one_judgement profile r order initial (Content k x) (Order e p) v w = absurd (has_fault profile r order e p w v.0)
 one_judgement profile r order initial (Content j x) (Content k y) v w = let one = one_wrong r order initial j k x y v.1.0 w.1.0 in (λ i. Content (one.0 i) (one.1 i))
 one_judgement profile r order initial (Content j x) (Status k y) v w = absurd (let q = one_command r order initial j k x y _ _ v.1 w.1 in omega (arith, q))
-one_judgement profile r order initial (Content k x) (Wire at fault) v w = absurd w
-one_judgement profile r order initial (Content k x) (Image image size) v w = absurd w
 one_judgement profile r order initial (Status k x) (Yes a b c) v w = absurd (has_wrong r order initial k x v.1.0 w.1)
 one_judgement profile r order initial (Status k x) (Order e p) v w = absurd (has_fault profile r order e p w v.0)
 one_judgement profile r order initial (Status j x) (Content k y) v w = absurd (let q = one_command r order initial j k x y _ _ v.1 w.1 in omega (arith, q))
 one_judgement profile r order initial (Status j x) (Status k y) v w = let one = one_wrong r order initial j k x y v.1.0 w.1.0 in (λ i. Status (one.0 i) (one.1 i))
-one_judgement profile r order initial (Status k x) (Wire at fault) v w = absurd w
-one_judgement profile r order initial (Status k x) (Image image size) v w = absurd w
-one_judgement profile r order initial (Wire at fault) u v w = absurd v
-one_judgement profile r order initial (Image image size) u v w = absurd v
+one_judgement profile r order initial t u v w = absurd w
 
 one_image : (o : Option Exporting) (start : Start) (i j s t : ℕ) → IsOtherSize o start i s → IsOtherSize o start j t → Image i s ≡ Image j t
 one_image (Some export) (starts.Image bytes) i j s t v w = (let p : i ≡ j = v.0 ∙ sym w.0 in let q : s ≡ t = v.1 ∙ sym w.1 in cc)
-one_image (Some export) starts.Unknown i j s t v w = absurd v
-one_image (Some export) starts.Zeroes i j s t v w = absurd v
-one_image None start i j s t v w = absurd v
+one_image o start i j s t v w = absurd v
 
 pub fits_not : (o : Option Exporting) (start : Start) (i s : ℕ) → FitsImage o start → IsOtherSize o start i s → ⊥
 fits_not (Some export) (starts.Image bytes) i s fits other = other.2 fits
-fits_not (Some export) starts.Unknown i s fits other = other
-fits_not (Some export) starts.Zeroes i s fits other = other
-fits_not None start i s fits other = other
+fits_not o start i s fits other = other
+
+-- a verdict is on the image, or a judgement where the image fits
+abbrev Parts : Profile → Report → List Entry → Start → Verdict → Type 0
+Parts profile r order initial v =
+    ((i s : ℕ) × (v ≡ Image i s) × IsOtherSize r.export initial i s) ⊎ (FitsImage r.export initial × IsJudged profile r order (start_byte initial) v)
+
+parts : (profile : Profile) (r : Report) (order : List Entry) (initial : Start) (v : Verdict) → IsVerdict profile r order initial v → Parts profile r order initial v
+parts profile r order initial (Image i s) h = inl (i, s, refl, h)
+parts profile r order initial (Wire at fault) h = absurd h
+parts profile r order initial v h = inr h
 
 pub one_verdict : OneVerdict
-one_verdict profile r order initial (Image i s) (Image j t) v w = one_image r.export initial i j s t v w
-one_verdict profile r order initial (Image i s) (Yes a b c) v w = absurd (fits_not r.export initial i s w.0 v)
-one_verdict profile r order initial (Image i s) (Order e p) v w = absurd (fits_not r.export initial i s w.0 v)
-one_verdict profile r order initial (Image i s) (Content k x) v w = absurd (fits_not r.export initial i s w.0 v)
-one_verdict profile r order initial (Image i s) (Status k x) v w = absurd (fits_not r.export initial i s w.0 v)
-one_verdict profile r order initial (Image i s) (Wire at fault) v w = absurd w
-one_verdict profile r order initial (Yes a b c) (Image i s) v w = absurd (fits_not r.export initial i s v.0 w)
-one_verdict profile r order initial (Yes a b c) (Wire at fault) v w = absurd w
-one_verdict profile r order initial (Yes a b c) (Yes d e f) v w = one_judgement profile r order (start_byte initial) (Yes a b c) (Yes d e f) v.1 w.1
-one_verdict profile r order initial (Yes a b c) (Order e p) v w = one_judgement profile r order (start_byte initial) (Yes a b c) (Order e p) v.1 w.1
-one_verdict profile r order initial (Yes a b c) (Content k x) v w = one_judgement profile r order (start_byte initial) (Yes a b c) (Content k x) v.1 w.1
-one_verdict profile r order initial (Yes a b c) (Status k x) v w = one_judgement profile r order (start_byte initial) (Yes a b c) (Status k x) v.1 w.1
-one_verdict profile r order initial (Order e p) (Image i s) v w = absurd (fits_not r.export initial i s v.0 w)
-one_verdict profile r order initial (Order e p) (Wire at fault) v w = absurd w
-one_verdict profile r order initial (Order e p) (Yes a b c) v w = one_judgement profile r order (start_byte initial) (Order e p) (Yes a b c) v.1 w.1
-one_verdict profile r order initial (Order d p) (Order e q) v w = one_judgement profile r order (start_byte initial) (Order d p) (Order e q) v.1 w.1
-one_verdict profile r order initial (Order e p) (Content k x) v w = one_judgement profile r order (start_byte initial) (Order e p) (Content k x) v.1 w.1
-one_verdict profile r order initial (Order e p) (Status k x) v w = one_judgement profile r order (start_byte initial) (Order e p) (Status k x) v.1 w.1
-one_verdict profile r order initial (Content k x) (Image i s) v w = absurd (fits_not r.export initial i s v.0 w)
-one_verdict profile r order initial (Content k x) (Wire at fault) v w = absurd w
-one_verdict profile r order initial (Content k x) (Yes a b c) v w = one_judgement profile r order (start_byte initial) (Content k x) (Yes a b c) v.1 w.1
-one_verdict profile r order initial (Content k x) (Order e p) v w = one_judgement profile r order (start_byte initial) (Content k x) (Order e p) v.1 w.1
-one_verdict profile r order initial (Content j x) (Content k y) v w = one_judgement profile r order (start_byte initial) (Content j x) (Content k y) v.1 w.1
-one_verdict profile r order initial (Content j x) (Status k y) v w = one_judgement profile r order (start_byte initial) (Content j x) (Status k y) v.1 w.1
-one_verdict profile r order initial (Status k x) (Image i s) v w = absurd (fits_not r.export initial i s v.0 w)
-one_verdict profile r order initial (Status k x) (Wire at fault) v w = absurd w
-one_verdict profile r order initial (Status k x) (Yes a b c) v w = one_judgement profile r order (start_byte initial) (Status k x) (Yes a b c) v.1 w.1
-one_verdict profile r order initial (Status k x) (Order e p) v w = one_judgement profile r order (start_byte initial) (Status k x) (Order e p) v.1 w.1
-one_verdict profile r order initial (Status j x) (Content k y) v w = one_judgement profile r order (start_byte initial) (Status j x) (Content k y) v.1 w.1
-one_verdict profile r order initial (Status j x) (Status k y) v w = one_judgement profile r order (start_byte initial) (Status j x) (Status k y) v.1 w.1
-one_verdict profile r order initial (Wire at fault) u v w = absurd v
+one_verdict profile r order initial v w p q = go (parts profile r order initial v p) (parts profile r order initial w q)
+  where
+    go : Parts profile r order initial v → Parts profile r order initial w → v ≡ w
+    go (inl (i, s, e, h)) (inl (j, t, f, k)) = e ∙ one_image r.export initial i j s t h k ∙ sym f
+    go (inl (i, s, e, h)) (inr (fits, k)) = absurd (fits_not r.export initial i s fits h)
+    go (inr (fits, h)) (inl (j, t, f, k)) = absurd (fits_not r.export initial j t fits k)
+    go (inr (fits, h)) (inr (ok, k)) = one_judgement profile r order (start_byte initial) v w h k

@@ -13,7 +13,7 @@ use Rattle.nbd_session.specs.declared.fault.SessionFault.TheVariants as session
 use Rattle.nbd_session.specs.Refusals.{IsOpenEndOf, IsRefusedAtOf}
 use Rattle.nbd_session.proofs.judge.RefusalLemmas.{no_run_of}
 use Rattle.nbd_judge.specs.declared.verdict.Verdict.{Verdict}
-use Rattle.nbd_judge.specs.declared.verdict.Verdict.TheVariants.{Yes, Wire, Image, Order, Content, Status}
+use Rattle.nbd_judge.specs.declared.verdict.Verdict.TheVariants.{Wire}
 use Rattle.nbd_judge.specs.Captures.{HasVerdict, IsChecked, IsFaultOf}
 use Rattle.nbd_judge.specs.Uniqueness.{OneAnswer, OneWireFault}
 use Rattle.nbd_judge.proofs.verdicts.SingleLemmas.{one_verdict}
@@ -53,31 +53,24 @@ one_wire_fault profile capture messages more at place fault other (inr a) (inr b
     (a.1 ∙ sym b.1, a.0 ∙ sym b.0, under_way_agree profile capture messages more a.2.accepted.under_way b.2.accepted.under_way)
 
 -- an answer is a wire fault or the verdict on a run
-record IsRefusing (profile : Profile) (capture : List Pair) (v : Verdict) : Type 0 where
-  pub at : ℕ
-  pub fault : WireFault
-  pub is : v ≡ Wire at fault
-  pub of_capture : IsFaultOf profile capture (session.Wire at fault)
+abbrev IsRefusing : Profile → List Pair → Verdict → Type 0
+IsRefusing profile capture v = (at : ℕ) × (fault : WireFault) × (v ≡ Wire at fault) × IsFaultOf profile capture (session.Wire at fault)
 
 parts_of : {profile : Profile} (capture : List Pair) (order : List Entry) (initial : Start) (v : Verdict) → IsChecked profile capture order initial v
     → IsRefusing profile capture v ⊎ HasVerdict profile capture order initial v
-parts_of capture order initial (Wire at fault) c = inl (record { at = at; fault = fault; is = refl; of_capture = c })
-parts_of capture order initial (Yes a b c) h = inr h
-parts_of capture order initial (Image i s) h = inr h
-parts_of capture order initial (Order e f) h = inr h
-parts_of capture order initial (Content k x) h = inr h
-parts_of capture order initial (Status k x) h = inr h
+parts_of capture order initial (Wire at fault) c = inl (at, fault, refl, c)
+parts_of capture order initial v h = inr h
 
 pub one_answer : OneAnswer
 one_answer profile capture order initial v w p q = go (parts_of {profile = profile} capture order initial v p) (parts_of {profile = profile} capture order initial w q)
   where
     no_both : (u : Verdict) → IsRefusing profile capture u → (x : Verdict) → HasVerdict profile capture order initial x → ⊥
-    no_both u r x h = no_run_of capture r.of_capture.0 r.at r.fault r.of_capture.1 h.items h.is_run h.has_pairs
+    no_both u (at, fault, is, of) x h = no_run_of capture of.0 at fault of.1 h.items h.is_run h.has_pairs
 
     go : IsRefusing profile capture v ⊎ HasVerdict profile capture order initial v → IsRefusing profile capture w ⊎ HasVerdict profile capture order initial w → v ≡ w
-    go (inl a) (inl b) =
-        let one = one_wire_fault profile capture a.of_capture.0 b.of_capture.0 a.at b.at a.fault b.fault a.of_capture.1 b.of_capture.1 in
-        a.is ∙ ap (λ at. Wire at a.fault) one.0 ∙ ap (Wire b.at) one.1 ∙ sym b.is
+    go (inl (at, fault, is, of)) (inl (place, other, has, to)) =
+        let one = one_wire_fault profile capture of.0 to.0 at place fault other of.1 to.1 in
+        is ∙ ap (λ at. Wire at fault) one.0 ∙ ap (Wire place) one.1 ∙ sym has
     go (inl a) (inr h) = absurd (no_both v a w h)
     go (inr h) (inl b) = absurd (no_both w b v h)
     go (inr h) (inr k) = one_verdict profile (report h.items) order initial v w (h.is_verdict h.items h.is_run h.has_pairs) (k.is_verdict h.items h.is_run h.has_pairs)

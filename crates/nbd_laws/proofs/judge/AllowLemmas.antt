@@ -2,11 +2,11 @@
 use Rattle.nbd_laws.proofs.requests.LaidLemmas.{AreApart, AreInside}
 use Rattle.nbd_laws.specs.Allowed.{AreClientFlags, FitsLimit, IsChunk, IsContent, IsFreshFor, IsInfo, IsSimpleReply, IsStatus, MayAcknowledge, MayAnswer, MayAsk, MayEnd, MayTell}
 use Rattle.nbd_wire.specs.protocol.Decisions.{answer}
-use Rattle.nbd_wire.specs.protocol.Negotiation.{answer_fault, answer_head_fault, client_flags_fault, greeting_fault, sets_more, export_fault, ack_fault, abort_fault, answers_option, is_followed, info_fault, success_fault, is_good_info, is_bad_payload, payload_fault, is_on_contexts, extends, earlier_to, is_good_context, is_wide, answer_last_fault}
+use Rattle.nbd_wire.specs.protocol.Negotiation.{answer_fault, answer_head_fault, client_flags_fault, greeting_fault, export_fault, ack_fault, abort_fault, answers_option, is_followed, info_fault, success_fault, is_good_info, is_bad_payload, payload_fault, extends, earlier_to, is_good_context, is_wide, answer_last_fault}
 use Rattle.nbd_wire.specs.protocol.Tests.{fault_if}
-use Rattle.nbd_wire.specs.protocol.Transmission.{cookie_fault, extended_request_fault, request_fault, is_none_yet, chunk_fault, content_fault, done_fault, finish_fault, fits_failure, fits_read, is_apart_from, is_inside, is_no_piece, total, lacks_status, fits_status, status_if, fits_range, read_as, status_kind}
+use Rattle.nbd_wire.specs.protocol.Transmission.{cookie_fault, extended_request_fault, request_fault, is_none_yet, chunk_fault, content_fault, done_fault, fits_failure, fits_read, is_no_piece, total, fits_status, status_if, read_as, status_kind}
 use Rattle.nbd_wire.specs.declared.message.Message.TheVariants.{Chunk, ExtendedChunk, Simple}
-use Rattle.std.proofs.Common.{◌≡◌, ◌≢◌, ℕ, ◌<◌, ◌≤◌, ◌⊎◌, ◌+◌, ◌==◌, List, [], ◌∷◌, length, refl, sym, ◌∙◌, ap, subst, inl, inr, Option, Some, None, Bool, true, false, not, ◌&&◌, ◌||◌, nat_le, nat_lt, eqb-true, is_some, arith, IsTrue, if◌then◌else◌}
+use Rattle.std.proofs.Common.{◌≡◌, ◌≢◌, ℕ, ◌≤◌, ◌⊎◌, ◌==◌, List, [], ◌∷◌, length, refl, sym, ◌∙◌, ap, subst, inl, inr, Option, Some, None, Bool, true, false, not, ◌&&◌, ◌||◌, nat_le, nat_lt, eqb-true, is_some, arith, IsTrue, if◌then◌else◌}
 use Rattle.std.proofs.lemmas.Bool.{ltb-false, eq-eqb, leb-true, leb-false, ltb-true, ne_eqb}
 use Rattle.nbd_wire.specs.declared.answers.TheConstants as answers
 use Rattle.nbd_wire.specs.declared.handshake.TheConstants as handshake
@@ -14,28 +14,26 @@ use Rattle.nbd_wire.specs.declared.limits.TheConstants.{EXPORT_SIZE}
 use Rattle.nbd_wire.specs.declared.message.Message.{Message}
 use Rattle.nbd_wire.specs.declared.options.TheConstants as options
 use Rattle.nbd_wire.specs.declared.payloads.Info.{Info}
-use Rattle.nbd_wire.specs.declared.payloads.Info.TheVariants.{Export, BlockSize, Other}
+use Rattle.nbd_wire.specs.declared.payloads.Info.TheVariants.{Other}
 use Rattle.nbd_wire.specs.declared.transmission.TheConstants as transmission
-use Rattle.nbd_wire.specs.protocol.Sizes.{are_allowed}
 use Rattle.nbd_wire.specs.protocol.Options.{is_error, is_proper_option, takes_contexts}
 use Rattle.nbd_wire.specs.protocol.Payloads.{info_of, is_listed, context_of, content_of, failure_of, status_of}
-use Rattle.nbd_wire.specs.protocol.Operations.{Exporting, Covers, Operation, has_failed, is_proper, pieces, asks_status}
-use Rattle.nbd_wire.specs.protocol.Flags.{has, has_only}
+use Rattle.nbd_wire.specs.protocol.Operations.{Exporting, Covers, Operation, has_failed, is_proper, pieces}
+use Rattle.nbd_wire.specs.protocol.Flags.{has}
 use Rattle.nbd_wire.specs.protocol.States.{Core, target, with_reply}
 use Rattle.nbd_wire.specs.declared.fault.WireFault.{WireFault}
-use Rattle.nbd_wire.specs.declared.fault.WireFault.TheVariants.{NotFixedNewstyle, BadClientFlags, WrongOption, BadReplyKind, BadReplyPayload, ExportTooLarge, SuccessOfImproper, SimpleForbidden, ChunkForbidden, BadChunk, BadContent, IncompleteRead, IncompleteStatus, CookieInUse, BadDisconnect, OutOfProfile}
+use Rattle.nbd_wire.specs.declared.fault.WireFault.TheVariants.{NotFixedNewstyle, WrongOption, BadReplyKind, SuccessOfImproper, BadContent, CookieInUse, BadDisconnect, OutOfProfile}
 use Rattle.nbd_laws.proofs.judge.BoolLemmas.{not_false, or_false, or_true, and_true, and_false, fault_none, not_true}
 use Rattle.nbd_wire.specs.declared.profile.Profile.{Profile}
-use Rattle.nbd_wire.specs.protocol.Contexts.{Selection, Context, has_id, Status, reach}
+use Rattle.nbd_wire.specs.protocol.Contexts.{Selection, Context, has_id, Status}
 use Rattle.nbd_wire.specs.declared.profile.Profile.TheVariants.{Wide, Base}
-use Rattle.nbd_wire.specs.protocol.Statuses.{are_settled, but_last, is_settled}
+use Rattle.nbd_wire.specs.protocol.Statuses.{are_settled, is_settled}
 use Rattle.nbd_wire.specs.declared.chunks.TheConstants as chunks
-use Rattle.nbd_wire.specs.declared.command_flags.TheConstants as command_flags
 use Rattle.nbd_wire.specs.declared.commands.TheConstants as commands
 use Rattle.nbd_wire.specs.declared.payloads.Failure.{Failure}
 use Rattle.nbd_wire.specs.declared.payloads.Piece.{Piece}
 use Rattle.nbd_wire.specs.protocol.Rules.{MayReply}
-use Rattle.nbd_wire.specs.protocol.Pieces.{is_in, piece_offset, piece_size}
+use Rattle.nbd_wire.specs.protocol.Pieces.{is_in}
 use Rattle.nbd_laws.proofs.judge.KindLemmas.{kind_content, kind_status}
 use Rattle.nbd_laws.proofs.judge.CoverLemmas.{full_total_covers, apart_from-shares}
 
@@ -44,26 +42,17 @@ no_length [] e = refl
 no_length (x ∷ xs) e = absurd (omega arith)
 
 pub flags_allow : (offered flags : ℕ) → client_flags_fault offered flags ≡ None → AreClientFlags offered flags
-flags_allow offered flags e =
-    let f : (not (has flags handshake.C_FIXED_NEWSTYLE) ≡ false) × (fault_if (sets_more offered flags) BadClientFlags None ≡ None) = fault_none _ _ _ e in
-    let g : (sets_more offered flags ≡ false) × (None ≡ None) = fault_none _ BadClientFlags None f.1 in
-    let h : (not (has_only flags (handshake.C_FIXED_NEWSTYLE + handshake.C_NO_ZEROES)) ≡ false) × ((has flags handshake.C_NO_ZEROES && not (has offered handshake.NO_ZEROES)) ≡ false) = or_false _ _ g.0 in
-    (not_false _ f.0, not_false _ h.0, λ q. not_false _ (and_false _ _ h.1 q))
+flags_allow offered flags e = grind (arith, fault_none, or_false, not_false, and_false)
 
 pub greeting_allow : (flags : ℕ) → greeting_fault flags ≡ None → IsTrue (has flags handshake.FIXED_NEWSTYLE)
 greeting_allow flags e = not_false _ (fault_none _ NotFixedNewstyle None e).0
 
 pub export_allow : (size flags : ℕ) → export_fault size flags ≡ None → (has flags transmission.HAS_FLAGS ≡ true) × (size ≤ EXPORT_SIZE)
-export_allow size flags e =
-    let f : (not (has flags transmission.HAS_FLAGS) ≡ false) × (fault_if (nat_lt EXPORT_SIZE size) ExportTooLarge None ≡ None) = fault_none _ _ _ e in
-    let g : (nat_lt EXPORT_SIZE size ≡ false) × (None ≡ None) = fault_none _ ExportTooLarge None f.1 in
-    (not_false _ f.0, ltb-false EXPORT_SIZE size g.0)
+export_allow size flags e = grind (arith, nat_lt, fault_none, not_false, ltb-false)
 
 -- an ACK is empty
 ack_empty : (kind : ℕ) (payload : List ℕ) (next : Option WireFault) → (kind == answers.ACK) ≡ true → ack_fault kind (length payload) next ≡ None → (payload ≡ []) × (next ≡ None)
-ack_empty kind payload next k e =
-    let h : (((kind == answers.ACK) && not (length payload == 0)) ≡ false) × (next ≡ None) = fault_none _ BadReplyPayload next e in
-    (no_length payload (eqb-true _ _ (not_false _ (and_false _ _ h.0 k))), h.1)
+ack_empty kind payload next k e = grind (arith, fault_none, no_length, eqb-true, not_false, and_false)
 
 pub abort_allow : (option kind : ℕ) (payload : List ℕ) → answer_fault options.ABORT option (abort_fault kind (length payload)) ≡ None → MayEnd option kind payload
 abort_allow option kind payload e =
@@ -115,37 +104,18 @@ info_at : (option : ℕ) (info : Option Exporting) → (option ≡ options.INFO)
 info_at option None (inl s) e = absurd (let e' : info_fault options.INFO true None ≡ None = subst (λ o. info_fault o true None ≡ None) s e in (cc))
 info_at option None (inr s) e = absurd (let e' : info_fault options.GO true None ≡ None = subst (λ o. info_fault o true None ≡ None) s e in (cc))
 info_at option (Some export) (inl s) e = inl (s, refl)
-info_at option (Some export) (inr s) e =
-    let e' : fault_if (nat_lt EXPORT_SIZE export.size) ExportTooLarge None ≡ None = subst (λ o. info_fault o true (Some export) ≡ None) s e in
-    inr (s, (export, refl, ltb-false EXPORT_SIZE export.size (fault_none _ ExportTooLarge None e').0))
+info_at option (Some export) (inr s) e = grind (arith, nat_lt, ltb-false, fault_none)
 
 info_or_go : (option : ℕ) → ((option == options.INFO) || (option == options.GO)) ≡ true → (option ≡ options.INFO) ⊎ (option ≡ options.GO)
 info_or_go option e = elim (or_true (option == options.INFO) (option == options.GO) e) [ inl h ↦ inl (eqb-true option options.INFO h) | inr h ↦ inr (eqb-true option options.GO h) ]
 
 good_info : (profile : Profile) (payload : List ℕ) (o : Option Info) → info_of payload ≡ o → is_good_info profile o ≡ true → IsInfo profile payload
 good_info profile payload None is e = absurd (cc)
-good_info profile payload (Some (Export size flags)) is e =
-    (Export size flags, is, λ s f q. (let r : flags ≡ f = cc in subst (λ x. has x transmission.HAS_FLAGS ≡ true) r e), λ w s q. absurd (cc))
-good_info profile payload (Some (BlockSize x y z)) is e = (
-  BlockSize x y z,
-  is,
-  λ s f q. absurd (cc),
-  λ w s q. (
-      let allowed : are_allowed (record { least = x; preferred = y; largest = z }) ≡ true = subst (λ p. (not (is_wide p) || are_allowed (record { least = x; preferred = y; largest = z })) ≡ true) w e in
-      let same : record { least = x; preferred = y; largest = z } ≡ s = cc in
-      subst (λ t. are_allowed t ≡ true) same allowed
-      ),
-)
 good_info profile payload (Some (Other k)) is e = (Other k, is, λ s f q. absurd (cc), λ w s q. absurd (cc))
+good_info profile payload o is e = grind arith
 
 extending : (option : ℕ) → extends option ≡ true → (option ≡ options.LIST_META_CONTEXT) ⊎ (option ≡ options.SET_META_CONTEXT) ⊎ (option ≡ options.EXTENDED_HEADERS)
-extending option e = elim (or_true (is_on_contexts option) (option == options.EXTENDED_HEADERS) e) [
-  | inl h ↦ elim (or_true (option == options.LIST_META_CONTEXT) (option == options.SET_META_CONTEXT) h) [
-    | inl h ↦ inl (eqb-true option options.LIST_META_CONTEXT h)
-    | inr h ↦ inr (inl (eqb-true option options.SET_META_CONTEXT h))
-  ]
-  | inr h ↦ inr (inr (eqb-true option options.EXTENDED_HEADERS h))
-]
+extending option e = grind (arith, or_true, eqb-true)
 
 is_wide_one : (profile : Profile) → is_wide profile ≡ true → profile ≡ Wide
 is_wide_one Base e = absurd (cc)
@@ -158,19 +128,7 @@ IsOneOf profile option =
     ⊎ (profile ≡ Wide) × ((option ≡ options.LIST_META_CONTEXT) ⊎ (option ≡ options.SET_META_CONTEXT) ⊎ (option ≡ options.EXTENDED_HEADERS))
 
 followed_cases : (profile : Profile) (option : ℕ) → is_followed profile option ≡ true → IsOneOf profile option
-followed_cases profile option e = elim (or_true _ _ e) [
-  | inl h ↦ inl (inl (eqb-true option options.LIST h))
-  | inr h ↦ elim (or_true (option == options.INFO) _ h) [
-    | inl h ↦ inl (inr (inr (inl (eqb-true option options.INFO h))))
-    | inr h ↦ elim (or_true (option == options.GO) _ h) [
-      | inl h ↦ inl (inr (inr (inr (eqb-true option options.GO h))))
-      | inr h ↦ elim (or_true (option == options.STRUCTURED_REPLY) _ h) [
-        | inl h ↦ inl (inr (inl (eqb-true option options.STRUCTURED_REPLY h)))
-        | inr h ↦ (let q : (is_wide profile ≡ true) × (extends option ≡ true) = and_true _ _ h in inr (is_wide_one profile q.0, extending option q.1))
-      ]
-    ]
-  ]
-]
+followed_cases profile option e = grind (arith, or_true, eqb-true, and_true, is_wide_one, extending)
 
 may_acknowledge : (option : ℕ) (info : Option Exporting) → info_fault option true info ≡ None →
     (option ≡ options.LIST) ⊎ (option ≡ options.STRUCTURED_REPLY) ⊎ (option ≡ options.INFO) ⊎ (option ≡ options.GO) → MayAcknowledge option info
@@ -180,21 +138,13 @@ may_acknowledge option info e (inr (inr o)) = inr (inr (info_at option info o e)
 
 -- an option that takes contexts is on contexts, and no other
 takes_on_contexts : (option : ℕ) (given : List ℕ) → takes_contexts option given ≡ true → (option ≡ options.LIST_META_CONTEXT) ⊎ (option ≡ options.SET_META_CONTEXT)
-takes_on_contexts option given e = elim (or_true (option == options.LIST_META_CONTEXT) _ e) [
-  | inl h ↦ inl (eqb-true option options.LIST_META_CONTEXT h)
-  | inr h ↦ inr (eqb-true option options.SET_META_CONTEXT (and_true (option == options.SET_META_CONTEXT) _ h).0)
-]
+takes_on_contexts option given e = grind (arith, or_true, eqb-true, and_true)
 
 no_others : (option : ℕ) → (option ≡ options.LIST_META_CONTEXT) ⊎ (option ≡ options.SET_META_CONTEXT) →
     (option ≡ options.LIST) ⊎ (option ≡ options.STRUCTURED_REPLY) ⊎ (option ≡ options.INFO) ⊎ (option ≡ options.GO) → ⊥
 no_others option (inl a) (inl b) = absurd (omega arith)
-no_others option (inl a) (inr (inl b)) = absurd (omega arith)
-no_others option (inl a) (inr (inr (inl b))) = absurd (omega arith)
-no_others option (inl a) (inr (inr (inr b))) = absurd (omega arith)
 no_others option (inr a) (inl b) = absurd (omega arith)
-no_others option (inr a) (inr (inl b)) = absurd (omega arith)
-no_others option (inr a) (inr (inr (inl b))) = absurd (omega arith)
-no_others option (inr a) (inr (inr (inr b))) = absurd (omega arith)
+no_others option x x' = absurd (omega arith)
 
 good_context : (option : ℕ) (selection : Selection) (answer : List ℕ) → is_good_context (earlier_to option selection) (context_of answer) ≡ true →
     (context : Context) × (context_of answer ≡ Some context) × IsFreshFor option selection context
@@ -270,28 +220,14 @@ no_message (m ∷ ms) e = absurd (cc)
 
 pub simple_allow : (profile : Profile) (structured : Bool) (export : Exporting) (e : Operation) (error cookie : ℕ) (payload : List ℕ) → MayReply profile structured export e (Simple error cookie payload) → IsSimpleReply structured export e error payload
 unfolding MayReply
-simple_allow profile structured export e error cookie payload (l, at_head, at_last) =
-    let h : (not (is_none_yet e.replies) ≡ false) × ((((e.command == commands.READ) && structured) || (asks_status e && (error == 0))) ≡ false) = or_false _ _ (fault_none _ SimpleForbidden None at_head).0 in
-    let r : (((e.command == commands.READ) && structured) ≡ false) × ((asks_status e && (error == 0)) ≡ false) = or_false _ _ h.1 in
-    let g : ((error == 0) && not (is_proper export e)) ≡ false = (fault_none _ SuccessOfImproper None at_last).0 in
-    (no_message e.replies (not_false _ h.0), (λ c. and_false _ _ r.0 (eq-eqb e.command commands.READ c)), (λ s z. (let q : true ≡ false = sym (eq-eqb _ _ z) ∙ and_false _ _ r.1 s in absurd (cc))), l, (λ z. not_false _ (and_false _ _ g (eq-eqb _ _ z))))
+simple_allow profile structured export e error cookie payload (l, at_head, at_last) = grind (arith, or_false, fault_none, is_proper, no_message, not_false, and_false, eq-eqb)
 
 no_piece : (ps : List Piece) → is_no_piece ps ≡ true → ps ≡ []
 no_piece [] e = refl
 no_piece (p ∷ ps) e = absurd (cc)
 
 pub fits : (export : Exporting) (e : Operation) (piece : Piece) → fits_read export e piece ≡ true → IsContent export e piece
-fits export e piece h =
-    let a : ((e.command == commands.READ) ≡ true) × (_ ≡ true) = and_true (e.command == commands.READ) _ h in
-    let b : (is_inside e piece ≡ true) × (_ ≡ true) = and_true (is_inside e piece) _ a.1 in
-    let c : (is_apart_from piece (pieces e) ≡ true) × ((not (is_proper export e && has e.flags command_flags.DF) || is_no_piece (pieces e)) ≡ true) = and_true (is_apart_from piece (pieces e)) _ b.1 in
-    let i : (nat_le e.offset (piece_offset piece) ≡ true) × (nat_le (piece_offset piece + piece_size piece) (e.offset + e.length) ≡ true) = and_true (nat_le e.offset (piece_offset piece)) _ b.0 in (
-      eqb-true e.command commands.READ a.0,
-      leb-true e.offset (piece_offset piece) i.0,
-      leb-true (piece_offset piece + piece_size piece) (e.offset + e.length) i.1,
-      apart_from-shares piece (pieces e) c.0,
-      λ df. elim (or_true _ _ c.1) [ inl n ↦ absurd (let q : (is_proper export e && has e.flags command_flags.DF) ≡ false = not_true _ n in (cc)) | inr n ↦ no_piece (pieces e) n ],
-    )
+fits export e piece h = grind (arith, and_true, is_proper, nat_le, eqb-true, leb-true, apart_from-shares, or_true, not_true, no_piece)
 
 pub in_range : (e : Operation) (o : Option ℕ) → fits_failure e o ≡ true → (x : ℕ) → o ≡ Some x → IsTrue (is_in e.offset e.length x)
 in_range e None q x is = absurd (cc)
@@ -311,41 +247,13 @@ told_if extended contexts kind payload status e = go (kind == status_kind extend
     go true q (c ∷ cs) n e = record { kind_is = eqb-true kind (status_kind extended) q; some_in_force = λ h. (let r : c ∷ cs ≡ [] = sym n ∙ h in (cc)); is = sym (ap (λ b. if not b then status_of extended payload else None) (ne_eqb (length (c ∷ cs)) 0 (λ q. omega arith))) ∙ e }
     go false q cs n e = absurd (cc)
 
-pub status_if-some : (extended : Bool) (contexts : List Context) (kind : ℕ) (payload : List ℕ) (status : Status) → kind ≡ status_kind extended → contexts ≢ [] → status_of extended payload ≡ Some status → status_if extended contexts kind payload ≡ Some status
-status_if-some extended [] kind payload status k n is = absurd (n refl)
-status_if-some extended (c ∷ contexts) kind payload status k n is =
-    ap (λ b. if b && not (length (c ∷ contexts) == 0) then status_of extended payload else None) (eq-eqb kind (status_kind extended) k)
-    ∙ ap (λ b. if not b then status_of extended payload else None) (ne_eqb (length (c ∷ contexts)) 0 (λ q. omega arith)) ∙ is
-
 pub fits_it : (e : Operation) (status : Status) → fits_status e status ≡ true → IsStatus e status
-fits_it e status h =
-    let a : ((e.command == commands.BLOCK_STATUS) ≡ true) × (_ ≡ true) = and_true (e.command == commands.BLOCK_STATUS) _ h in
-    let b : (has_id e.contexts status.id ≡ true) × (_ ≡ true) = and_true (has_id e.contexts status.id) _ a.1 in
-    let c : (not (is_settled e status.id) ≡ true) × (((e.length == 0) || fits_range e status.extents) ≡ true) = and_true (not (is_settled e status.id)) _ b.1 in (
-      eqb-true e.command commands.BLOCK_STATUS a.0,
-      b.0,
-      not_true _ c.0,
-      λ n. elim (or_true _ _ c.1) [ inl z ↦ absurd (n (eqb-true e.length 0 z)) | inr r ↦ in_its_range r ],
-    )
-  where
-    in_its_range : fits_range e status.extents ≡ true → (reach (but_last status.extents) < e.length) × (IsTrue (has e.flags command_flags.REQ_ONE) → (length status.extents ≡ 1) × (reach status.extents ≤ e.length))
-    in_its_range h =
-        let a : (not (nat_le e.length (reach (but_last status.extents))) ≡ true) × (_ ≡ true) = and_true (not (nat_le e.length (reach (but_last status.extents)))) _ h in
-        let short = leb-false e.length (reach (but_last status.extents)) (not_true _ a.0) in (
-          omega (arith, short),
-          λ one. elim (or_true _ _ a.1) [
-            | inl n ↦ absurd (let q : true ≡ false = sym one ∙ not_true _ n in (cc))
-            | inr r ↦ (let b : ((length status.extents == 1) ≡ true) × (nat_le (reach status.extents) e.length ≡ true) = and_true (length status.extents == 1) _ r in (eqb-true (length status.extents) 1 b.0, leb-true (reach status.extents) e.length b.1))
-          ],
-        )
+fits_it e status h = grind (arith, and_true, eqb-true, not_true, or_true, nat_le, leb-false, leb-true)
 
 -- a chunk's form, and what is left to judge of its reply's end
 pub form_of : (extended : Bool) (profile : Profile) (export : Exporting) (e f : Operation) (flags kind : ℕ) (payload : List ℕ) (z : Bool) → (kind == chunks.NONE) ≡ z → chunk_fault extended z export e f flags (read_as profile kind) payload ≡ None →
     IsChunk profile extended export e flags kind payload × (done_fault (has flags chunks.DONE) export f ≡ None)
-form_of extended profile export e f flags kind payload true z h =
-    let a : ((not (length payload == 0) || not (has flags chunks.DONE)) ≡ false) × (done_fault (has flags chunks.DONE) export f ≡ None) = fault_none _ BadChunk _ h in
-    let b : (not (length payload == 0) ≡ false) × (not (has flags chunks.DONE) ≡ false) = or_false _ _ a.0 in
-    (inl (eqb-true _ _ z, no_length payload (eqb-true _ _ (not_false _ b.0)), not_false _ b.1), a.1)
+form_of extended profile export e f flags kind payload true z h = grind (arith, fault_none, or_false, eqb-true, no_length, not_false)
 form_of extended profile export e f flags kind payload false z h =
     go (content_of (read_as profile kind) payload) (failure_of (read_as profile kind) payload) (status_if extended e.contexts (read_as profile kind) payload) (sym (kind_content profile kind payload)) refl
     (sym (kind_status profile extended e.contexts kind payload)) h
@@ -366,32 +274,18 @@ form_of extended profile export e f flags kind payload false z h =
 pub chunk_allow : (profile : Profile) (structured : Bool) (export : Exporting) (e : Operation) (flags kind cookie : ℕ) (payload : List ℕ) → MayReply profile structured export e (Chunk flags kind cookie payload) →
     (structured ≡ true) × IsChunk profile false export e flags kind payload × (done_fault (has flags chunks.DONE) export (with_reply e (Chunk flags kind cookie payload)) ≡ None)
 unfolding MayReply
-chunk_allow profile structured export e flags kind cookie payload (at_head, at_last) =
-    let form = form_of false profile export e (with_reply e (Chunk flags kind cookie payload)) flags kind payload (kind == chunks.NONE) refl at_last in
-    (not_false _ (fault_none _ ChunkForbidden None at_head).0, form.0, form.1)
+chunk_allow profile structured export e flags kind cookie payload (at_head, at_last) = grind (arith, form_of, not_false, fault_none)
 
 pub extended_allow : (profile : Profile) (structured : Bool) (export : Exporting) (e : Operation) (flags kind cookie at : ℕ) (payload : List ℕ) → MayReply profile structured export e (ExtendedChunk flags kind cookie at payload) →
     (structured ≡ true) × IsChunk profile true export e flags kind payload × (done_fault (has flags chunks.DONE) export (with_reply e (ExtendedChunk flags kind cookie at payload)) ≡ None) × (at ≡ e.offset)
 unfolding MayReply
-extended_allow profile structured export e flags kind cookie at payload (at_head, at_last, here) =
-    let form = form_of true profile export e (with_reply e (ExtendedChunk flags kind cookie at payload)) flags kind payload (kind == chunks.NONE) refl at_last in
-    (not_false _ (fault_none _ ChunkForbidden None at_head).0, form.0, form.1, here)
+extended_allow profile structured export e flags kind cookie at payload (at_head, at_last, here) = grind (arith, form_of, not_false, fault_none)
 
 -- at the end of a reply that states no failure
 pub finish_allow : (export : Exporting) (f : Operation) → has_failed f ≡ false → done_fault true export f ≡ None →
     IsTrue (is_proper export f) × (f.command ≡ commands.READ → total (pieces f) ≡ f.length) × (f.command ≡ commands.BLOCK_STATUS → f.length ≢ 0 → IsTrue (are_settled (is_settled f) f.contexts))
-finish_allow export f well e =
-    let h : finish_fault export f false (pieces f) ≡ None = subst (λ b. finish_fault export f b (pieces f) ≡ None) well e in
-    let a : (((f.command == commands.READ) && not (total (pieces f) == f.length)) ≡ false) × (_ ≡ None) = fault_none _ IncompleteRead _ h in
-    let b : (not (is_proper export f) ≡ false) × (_ ≡ None) = fault_none _ SuccessOfImproper _ a.1 in
-    let s : (lacks_status f ≡ false) × (None ≡ None) = fault_none _ IncompleteStatus None b.1 in (
-      not_false _ b.0,
-      (λ c. eqb-true _ _ (not_false _ (and_false _ _ a.0 (eq-eqb f.command commands.READ c)))),
-      λ c n. not_false _ (and_false _ _ (and_false _ _ s.0 (eq-eqb f.command commands.BLOCK_STATUS c)) (ap not (ne_eqb f.length 0 n))),
-    )
+finish_allow export f well e = grind (arith, fault_none, is_proper, not_false, eqb-true, and_false, eq-eqb, ne_eqb)
 
 -- pieces in a range that share no offset, and whose sizes add up to its length, cover it
 pub total_covers : (e : Operation) → AreInside e.offset e.length (pieces e) → AreApart (pieces e) → total (pieces e) ≡ e.length → Covers e (pieces e)
-total_covers e inside apart s x i =
-    let h : (nat_le e.offset x ≡ true) × (nat_lt x (e.offset + e.length) ≡ true) = and_true _ _ i in
-    full_total_covers e.offset e.length (pieces e) inside apart s x (leb-true _ _ h.0) (ltb-true _ _ h.1)
+total_covers e inside apart s x i = grind (arith, nat_le, nat_lt, and_true, full_total_covers, leb-true, ltb-true)

@@ -20,29 +20,21 @@ no_end (Some f) m e = (cc)
 no_end None m e = (cc)
 
 more_by : (low : Bool) (f : Option WireFault) (w : Bool) (last : Option WireFault) (m : Message) → staged_reading_by low f w (last_reading last m) ≡ More → (low ≡ true) ⊎ (low ≡ false) × (f ≡ None) × (w ≡ false)
-more_by true f w last m e = inl refl
 more_by false (Some f) w last m e = absurd (cc)
-more_by false None true last m e = absurd (no_end last m e)
-more_by false None false last m e = inr (refl, refl, refl)
+more_by low f w last m e = grind (arith, no_end)
 
 -- where the judge lets bytes go on, they lie in the head, or after a head without a fault
 abbrev pub GoesBy : Decision → List ℕ → Type 0
 GoesBy d bytes = (length bytes < d.head_length) ⊎ (d.head_length ≤ length bytes) × (d.head_fault ≡ None) × (length bytes ≢ d.head_length + d.payload_length)
 
 pub goes_by : (d : Decision) (bytes : List ℕ) → read_by d bytes ≡ More → GoesBy d bytes
-goes_by d bytes e = elim (more_by (nat_lt (length bytes) d.head_length) d.head_fault (length bytes == d.head_length + d.payload_length) d.last_fault d.message e) [
-  | inl low ↦ inl (ltb-true (length bytes) d.head_length low)
-  | inr h ↦ inr (ltb-false (length bytes) d.head_length h.0, h.1, eqb-false (length bytes) (d.head_length + d.payload_length) h.2)
-]
+goes_by d bytes e = grind (arith, more_by, nat_lt, ltb-true, ltb-false, eqb-false)
 
 pub in_head : (d : Decision) (bytes : List ℕ) → length bytes < d.head_length → read_by d bytes ≡ More
 in_head d bytes l = ap (λ b. staged_reading_by b d.head_fault (length bytes == d.head_length + d.payload_length) (last_reading d.last_fault d.message)) (lt-ltb (length bytes) d.head_length l)
 
 pub in_payload : (d : Decision) (bytes : List ℕ) → d.head_length ≤ length bytes → d.head_fault ≡ None → length bytes < d.head_length + d.payload_length → read_by d bytes ≡ More
-in_payload d bytes l clean low =
-    let a : nat_lt (length bytes) d.head_length ≡ false = le-ltb (length bytes) d.head_length l in
-    let b : (length bytes == d.head_length + d.payload_length) ≡ false = ne_eqb (length bytes) (d.head_length + d.payload_length) (λ e. omega (arith, low, e)) in
-    λ i. staged_reading_by (a i) (clean i) (b i) (last_reading d.last_fault d.message)
+in_payload d bytes l clean low = grind (arith, nat_lt, le-ltb, ne_eqb)
 
 awaited_head : (d : Decision) (bytes : List ℕ) → length bytes < d.head_length → awaited_length_by (Some d) bytes ≡ d.head_length
 awaited_head d bytes l = ap (λ (b : Bool). if b then d.head_length else d.head_length + d.payload_length) (lt-ltb (length bytes) d.head_length l)
@@ -52,17 +44,8 @@ awaited_all d bytes l = ap (λ (b : Bool). if b then d.head_length else d.head_l
 
 module _ (s : Side) (now : Core) (F : Core → List ℕ → Decision) (st : IsSteady s now F) where
   goes_further : (bytes : List ℕ) → GoesBy (F now bytes) bytes → (next : Core) → Later s now next → (more : List ℕ) → length (bytes ++ more) < awaited_length_by (Some (F now bytes)) bytes → read_by (F next (bytes ++ more)) (bytes ++ more) ≡ More
-  goes_further bytes (inl low) next l more short =
-      let n : awaited_length_by (Some (F now bytes)) bytes ≡ (F now bytes).head_length = awaited_head (F now bytes) bytes low in
-      let short' : length (bytes ++ more) < (F now bytes).head_length = omega (arith, short, n) in
-      let same : (F next (bytes ++ more)).head_length ≡ (F now bytes).head_length = st.below next l bytes more short' in
-      in_head (F next (bytes ++ more)) (bytes ++ more) (omega (arith, short', same))
-  goes_further bytes (inr (long, clean, ne)) next l more short =
-      let n : awaited_length_by (Some (F now bytes)) bytes ≡ (F now bytes).head_length + (F now bytes).payload_length = awaited_all (F now bytes) bytes long in
-      let same : IsSameHead (F now bytes) (F next (bytes ++ more)) = st.beyond next l bytes more long clean in
-      let h : (F next (bytes ++ more)).head_length ≡ (F now bytes).head_length = same.head_length_is in
-      let p : (F next (bytes ++ more)).payload_length ≡ (F now bytes).payload_length = same.payload_length_is in
-      in_payload (F next (bytes ++ more)) (bytes ++ more) (omega (arith, long, h, length-append bytes more)) (same.head_fault_is ∙ clean) (omega (arith, short, n, h, p))
+  goes_further bytes (inl low) next l more short = grind (arith, awaited_head, in_head)
+  goes_further bytes (inr (long, clean, ne)) next l more short = grind (arith, awaited_all, in_payload, length-append)
 
   short_first : (b : ℕ) → GoesBy (F now (b ∷ [])) (b ∷ []) → length (b ∷ []) < awaited_length_by (Some (F now (b ∷ []))) (b ∷ [])
   short_first b (inl low) = let n : awaited_length_by (Some (F now (b ∷ []))) (b ∷ []) ≡ (F now (b ∷ [])).head_length = awaited_head (F now (b ∷ [])) (b ∷ []) low in omega (arith, n, low)
@@ -70,20 +53,9 @@ module _ (s : Side) (now : Core) (F : Core → List ℕ → Decision) (st : IsSt
 
   short_next : (bytes : List ℕ) → GoesBy (F now bytes) bytes → length bytes < awaited_length_by (Some (F now bytes)) bytes → (next : Core) → Later s now next → (b : ℕ) → GoesBy (F next (bytes ++ b ∷ [])) (bytes ++ b ∷ []) →
       length (bytes ++ b ∷ []) < awaited_length_by (Some (F next (bytes ++ b ∷ []))) (bytes ++ b ∷ [])
-  short_next bytes g short next l b (inl low) =
-      let n : awaited_length_by (Some (F next (bytes ++ b ∷ []))) (bytes ++ b ∷ []) ≡ (F next (bytes ++ b ∷ [])).head_length = awaited_head (F next (bytes ++ b ∷ [])) (bytes ++ b ∷ []) low in
-      omega (arith, n, low)
-  short_next bytes (inl before) short next l b (inr (long, clean, ne)) =
-      let n : awaited_length_by (Some (F next (bytes ++ b ∷ []))) (bytes ++ b ∷ []) ≡ (F next (bytes ++ b ∷ [])).head_length + (F next (bytes ++ b ∷ [])).payload_length = awaited_all (F next (bytes ++ b ∷ [])) (bytes ++ b ∷ []) long in
-      let grows : (F now bytes).head_length ≤ (F next (bytes ++ b ∷ [])).head_length = st.grows next l bytes (b ∷ []) in
-      omega (arith, n, before, grows, ne, long, length-append bytes (b ∷ []))
-  short_next bytes (inr (before, was_clean, was_ne)) short next l b (inr (long, clean, ne)) =
-      let n : awaited_length_by (Some (F next (bytes ++ b ∷ []))) (bytes ++ b ∷ []) ≡ (F next (bytes ++ b ∷ [])).head_length + (F next (bytes ++ b ∷ [])).payload_length = awaited_all (F next (bytes ++ b ∷ [])) (bytes ++ b ∷ []) long in
-      let n' : awaited_length_by (Some (F now bytes)) bytes ≡ (F now bytes).head_length + (F now bytes).payload_length = awaited_all (F now bytes) bytes before in
-      let same : IsSameHead (F now bytes) (F next (bytes ++ b ∷ [])) = st.beyond next l bytes (b ∷ []) before was_clean in
-      let h : (F next (bytes ++ b ∷ [])).head_length ≡ (F now bytes).head_length = same.head_length_is in
-      let p : (F next (bytes ++ b ∷ [])).payload_length ≡ (F now bytes).payload_length = same.payload_length_is in
-      omega (arith, n, n', h, p, ne, short, length-append bytes (b ∷ []))
+  short_next bytes g short next l b (inl low) = grind (arith, awaited_head)
+  short_next bytes (inl before) short next l b (inr (long, clean, ne)) = grind (arith, awaited_all, length-append)
+  short_next bytes (inr (before, was_clean, was_ne)) short next l b (inr (long, clean, ne)) = grind (arith, awaited_all, length-append)
 
   -- the awaited length is that of now
   awaited_stays : (bytes : List ℕ) → GoesBy (F now bytes) bytes → (next : Core) → Later s now next → awaited_length_by (Some (F next bytes)) bytes ≡ awaited_length_by (Some (F now bytes)) bytes
@@ -116,10 +88,7 @@ first_more (begun b lt r) m = (b, m)
 first_more (kept {now = now} {bytes = bytes} b lt k m l r) m' = first_more k m
 
 pub decision_of : {s : Side} {old now : Core} {bytes : List ℕ} → Kept by_tests s old now bytes → by_tests old now s bytes ≡ More → IsDeciding s old
-decision_of {s} {old} k m =
-    let f : (b : ℕ) × (by_tests old old s (b ∷ []) ≡ More) = first_more k m in
-    let d : (d : Decision) × (decision old.phase old old s (f.0 ∷ []) ≡ Some d) = some_decided (decision old.phase old old s (f.0 ∷ [])) (f.0 ∷ []) f.1 in
-    deciding old.phase s old (f.0 ∷ []) d.0 refl d.1
+decision_of {s} {old} k m = grind (arith, first_more, some_decided, deciding)
 
 module _ (s : Side) (old : Core) (d : IsDeciding s old) where
   goes_by_d : (now : Core) → Later s old now → (bytes : List ℕ) → by_tests old now s bytes ≡ More → GoesBy (d.F now bytes) bytes

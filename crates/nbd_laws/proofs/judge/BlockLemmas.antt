@@ -3,10 +3,9 @@ use Rattle.std.proofs.Common.{◌≡◌, ℕ, ◌<◌, ◌≤◌, List, [], ◌�
 use Rattle.nbd_wire.specs.declared.message.Side.{Side}
 use Rattle.nbd_wire.specs.declared.message.Side.TheVariants.{Client, Server}
 use Rattle.nbd_wire.specs.protocol.Captures.{Pair, side_pairs}
-use Rattle.nbd_wire.specs.protocol.Rules.{complete}
 use Rattle.nbd_wire.specs.protocol.States.{Core}
 use Rattle.nbd_wire.specs.declared.fault.WireFault.{WireFault}
-use Rattle.nbd_wire.specs.protocol.Reading.{Both, get, put, Rest, Reader, Reading, More, Whole, Bad, old_of, IsFilled, settle, Judge, rest_with, step, reads, on_ok}
+use Rattle.nbd_wire.specs.protocol.Reading.{Both, get, put, Rest, Reader, Reading, More, Whole, Bad, old_of, IsFilled, settle, Judge, step, reads, on_ok}
 use Rattle.nbd_laws.proofs.reading.ReaderLemmas.{get-put_same, old-filled, IsFilled-snoc, Later}
 
 -- no longer list of these bytes and more is judged before it has n of them
@@ -40,8 +39,7 @@ put-get p Server = refl
 
 settle_with : (reader : Reader) (s : Side) (rest next : Rest) (r : Reading) → settle (with_rest reader s rest) s next r ≡ settle reader s next r
 settle_with reader s rest next More = ap (λ rests. Ok (record reader { rests = rests })) (put-twice reader.rests s rest next)
-settle_with reader s rest next (Whole m) =
-    ap (λ rests. Ok (record { core = complete reader.core m; rests = rests; messages = reader.messages ++ m ∷ [] })) (put-twice reader.rests s rest (record next { bytes = [] }))
+settle_with reader s rest next (Whole m) = grind (arith, put-twice)
 settle_with reader s rest next (Bad f) = refl
 
 on_ok-Ok : (r : Result Reader WireFault) → on_ok r (λ next. Ok next) ≡ r
@@ -63,10 +61,7 @@ module _ (judge : Judge) (reader : Reader) (s : Side) (old : Core) (n : ℕ) whe
 
   one_step : (rest : Rest) (b : ℕ) → old_of reader.core rest ≡ old →
       step judge (with_rest reader s rest) s b ≡ settle reader s (next_rest rest (b ∷ [])) (judge old reader.core s (rest.bytes ++ b ∷ []))
-  one_step rest b o =
-      ap (λ r. settle (with_rest reader s rest) s (rest_with reader.core r b) (judge (rest_with reader.core r b).since reader.core s (rest_with reader.core r b).bytes)) (get-put_same reader.rests s rest)
-      ∙ settle_with reader s rest (rest_with reader.core rest b) (judge (rest_with reader.core rest b).since reader.core s (rest_with reader.core rest b).bytes)
-      ∙ ap (λ c. settle reader s (record { bytes = rest.bytes ++ b ∷ []; since = c }) (judge c reader.core s (rest.bytes ++ b ∷ []))) o
+  one_step rest b o = grind (arith, get-put_same, settle_with)
 
   in_one : (rest : Rest) (b : ℕ) (more : List ℕ) → old_of reader.core rest ≡ old → length (rest.bytes ++ b ∷ more) ≤ n → GoesOn judge old reader.core s rest.bytes n →
       reads judge (with_rest reader s rest) (side_pairs s (b ∷ more)) ≡ settle reader s (next_rest rest (b ∷ more)) (judge old reader.core s (rest.bytes ++ b ∷ more))
@@ -101,6 +96,4 @@ filled_right (x ∷ xs) ys f = tt
 pub reads_short : (judge : Judge) (reader : Reader) (s : Side) (n : ℕ) (more : List ℕ) → IsFilled more → length ((get reader.rests s).bytes ++ more) < n →
     GoesOn judge (old_of reader.core (get reader.rests s)) reader.core s (get reader.rests s).bytes n →
     reads judge reader (side_pairs s more) ≡ Ok (with_rest reader s (extended reader.core (get reader.rests s) more))
-reads_short judge reader s n more f l g =
-    reads_at_once judge reader s n more f (omega (arith, l)) g
-    ∙ ap (settle reader s (extended reader.core (get reader.rests s) more)) (g more (filled_right (get reader.rests s).bytes more f) l)
+reads_short judge reader s n more f l g = grind (arith, reads_at_once, filled_right)

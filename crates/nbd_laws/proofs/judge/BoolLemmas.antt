@@ -1,5 +1,5 @@
 -- Tests, and what their answers say.
-use Rattle.std.proofs.Common.{◌≡◌, ℕ, zero, suc, ◌⊎◌, ◌+◌, ◌==◌, List, [], ◌∷◌, length, replicate, refl, ◌∙◌, ap, inl, inr, Option, Some, None, Bool, true, false, not, ◌&&◌, ◌||◌, nat_lt, eqb-true, arith, if◌then◌else◌}
+use Rattle.std.proofs.Common.{◌≡◌, ℕ, zero, suc, ◌⊎◌, ◌+◌, ◌==◌, List, [], ◌∷◌, length, replicate, refl, ◌∙◌, ap, inl, inr, Option, Some, None, Bool, true, false, not, ◌&&◌, ◌||◌, nat_lt, eqb-true, arith}
 use Rattle.nbd_wire.specs.declared.message.Message.{Message}
 use Rattle.nbd_wire.specs.declared.fault.WireFault.{WireFault}
 use Rattle.nbd_wire.specs.protocol.Negotiation.{are_zeroes}
@@ -31,15 +31,11 @@ and_false true b e h = e
 and_false false b e h = absurd (cc)
 
 pub staged_whole : (b : Bool) (fault : Option WireFault) (w : Bool) (end : Reading) (m : Message) → staged_reading_by b fault w end ≡ Whole m → (fault ≡ None) × (w ≡ true) × (end ≡ Whole m)
-staged_whole true fault w end m e = absurd (cc)
 staged_whole false (Some f) w end m e = absurd (cc)
-staged_whole false None true end m e = (refl, refl, e)
-staged_whole false None false end m e = absurd (cc)
+staged_whole b fault w end m e = grind arith
 
 pub whole_at : (h p : ℕ) (bytes : List ℕ) (fault : Option WireFault) (end : Reading) (m : Message) → staged_reading h p bytes fault end ≡ Whole m → (length bytes ≡ h + p) × (fault ≡ None) × (end ≡ Whole m)
-whole_at h p bytes fault end m e =
-    let w : (fault ≡ None) × ((length bytes == h + p) ≡ true) × (end ≡ Whole m) = staged_whole (nat_lt (length bytes) h) fault (length bytes == h + p) end m e in
-    (eqb-true _ _ w.1, w.0, w.2)
+whole_at h p bytes fault end m e = grind (arith, staged_whole, nat_lt, eqb-true)
 
 pub fault_none : (c : Bool) (f : WireFault) (rest : Option WireFault) → fault_if c f rest ≡ None → (c ≡ false) × (rest ≡ None)
 fault_none true f rest e = absurd (cc)
@@ -48,10 +44,6 @@ fault_none false f rest e = (refl, e)
 pub ended_whole : (f : Option WireFault) (m n : Message) → last_reading f m ≡ Whole n → (f ≡ None) × (m ≡ n)
 ended_whole (Some f) m n e = absurd (cc)
 ended_whole None m n e = (refl, (cc))
-
-pub no_error : (f : Option WireFault) (b : Bool) → b ≡ false → (if b then None else f) ≡ None → f ≡ None
-no_error f true q e = absurd (cc)
-no_error f false q e = e
 
 pub are_zeroes-replicate : (n : ℕ) (bs : List ℕ) → length bs ≡ n → are_zeroes bs ≡ true → bs ≡ replicate n 0
 are_zeroes-replicate zero [] l e = refl

@@ -1,5 +1,5 @@
 -- Pieces inside a range that share no offset cover it exactly where their sizes add up to its length.
-use Rattle.std.proofs.Common.{◌≡◌, ℕ, zero, suc, ◌<◌, ◌≤◌, ◌≢◌, ◌+◌, ◌-◌, ◌==◌, List, [], ◌∷◌, min, max, refl, sym, ◌∙◌, ap, subst, inl, inr, Option, Some, None, Bool, true, false, ◌&&◌, if◌then◌else◌, nat_le, nat_lt, is_some, arith, IsTrue}
+use Rattle.std.proofs.Common.{◌≡◌, ℕ, zero, suc, ◌<◌, ◌≤◌, ◌≢◌, ◌+◌, ◌-◌, ◌==◌, List, [], ◌∷◌, min, max, refl, sym, ◌∙◌, ap, subst, Some, Bool, true, false, ◌&&◌, if◌then◌else◌, nat_le, nat_lt, is_some, arith, IsTrue}
 use Rattle.std.proofs.lemmas.Bool.{lt-ltb, eqb-true, eqb-false, le-ltb, ltb-false, leb-false, leb-true, ltb-true, le-leb, lt-leb}
 use Rattle.nbd_wire.specs.declared.payloads.Piece.{Piece}
 use Rattle.nbd_wire.specs.protocol.Pieces.{piece_offset, piece_size, piece_byte, byte_at, holds, is_in, SharesNone}
@@ -18,18 +18,11 @@ counted f a (suc n) = one_if (f a) + counted f (suc a) n
 
 counted-le : (f : ℕ → Bool) (a n : ℕ) → counted f a n ≤ n
 counted-le f a zero = omega arith
-counted-le f a (suc n) = let h : counted f (suc a) n ≤ n = counted-le f (suc a) n in go (f a) h
-  where
-    go : (b : Bool) → counted f (suc a) n ≤ n → one_if b + counted f (suc a) n ≤ suc n
-    go true h = omega arith
-    go false h = omega arith
+counted-le f a (suc n) = grind (arith, counted-le f (suc a) n)
 
 counted-all : (f : ℕ → Bool) (a n : ℕ) → ((x : ℕ) → a ≤ x → x < a + n → f x ≡ true) → counted f a n ≡ n
 counted-all f a zero h = refl
-counted-all f a (suc n) h =
-    let rest : counted f (suc a) n ≡ n = counted-all f (suc a) n (λ x l u. h x (omega arith) (omega arith)) in
-    let here : one_if (f a) ≡ 1 = ap one_if (h a (omega arith) (omega arith)) in
-    omega arith
+counted-all f a (suc n) h = grind (arith, counted-all f (suc a) n (λ x l u. h x (omega arith) (omega arith)))
 
 all-counted : (f : ℕ → Bool) (a n : ℕ) → counted f a n ≡ n → (x : ℕ) → a ≤ x → x < a + n → f x ≡ true
 all-counted f a zero e x l u = absurd (omega arith)
@@ -54,35 +47,21 @@ counted-sum f g h e a zero = refl
 counted-sum f g h e a (suc n) = let here : one_if (f a) ≡ one_if (g a) + one_if (h a) = e a in let rest : counted f (suc a) n ≡ counted g (suc a) n + counted h (suc a) n = counted-sum f g h e (suc a) n in omega arith
 
 one-in : (f s x : ℕ) → one_if (is_in f s x) ≡ min (suc x) (f + s) - max x f
-one-in f s x = go (nat_le f x) (nat_lt x (f + s)) refl refl
-  where
-    go : (b c : Bool) → nat_le f x ≡ b → nat_lt x (f + s) ≡ c → one_if (b && c) ≡ min (suc x) (f + s) - max x f
-    go true true h k = let l : f ≤ x = leb-true f x h in let u : x < f + s = ltb-true x (f + s) k in omega arith
-    go true false h k = let l : f ≤ x = leb-true f x h in let u : f + s ≤ x = ltb-false x (f + s) k in omega arith
-    go false c h k = let l : x < f = leb-false f x h in omega arith
+one-in f s x = grind (arith, nat_le, nat_lt, min, max, leb-true, ltb-true, ltb-false, leb-false)
 
 counted-in : (f s a n : ℕ) → counted (is_in f s) a n ≡ min (a + n) (f + s) - max a f
 counted-in f s a zero = omega arith
-counted-in f s a (suc n) =
-    let here : one_if (is_in f s a) ≡ min (suc a) (f + s) - max a f = one-in f s a in
-    let rest : counted (is_in f s) (suc a) n ≡ min (suc a + n) (f + s) - max (suc a) f = counted-in f s (suc a) n in
-    omega arith
+counted-in f s a (suc n) = grind (arith, min, max, one-in, counted-in f s (suc a) n)
 
 inside-counted : (offset len : ℕ) (p : Piece) → offset ≤ piece_offset p → piece_offset p + piece_size p ≤ offset + len → counted (holds p) offset len ≡ piece_size p
-inside-counted offset len p l u =
-    let h : counted (holds p) offset len ≡ min (offset + len) (piece_offset p + piece_size p) - max offset (piece_offset p) = counted-in (piece_offset p) (piece_size p) offset len in
-    omega arith
+inside-counted offset len p l u = grind (arith, min, max, counted-in (piece_offset p) (piece_size p) offset len)
 
 abbrev pub has_byte : List Piece → ℕ → Bool
 has_byte ps x = is_some (byte_at ps x)
 
 -- an offset lies in the first piece or in a later one, and not in both
 one-piece : (p : Piece) (ps : List Piece) → SharesNone p ps → (x : ℕ) → one_if (has_byte (p ∷ ps) x) ≡ one_if (holds p x) + one_if (has_byte ps x)
-one-piece p ps none x = go (holds p x) refl
-  where
-    go : (b : Bool) → holds p x ≡ b → one_if (is_some (if b then Some (piece_byte p x) else byte_at ps x)) ≡ one_if b + one_if (has_byte ps x)
-    go true is = ap (λ (o : Option ℕ). 1 + one_if (is_some o)) (sym (none x is))
-    go false is = omega arith
+one-piece p ps none x = grind arith
 
 total-counted : (offset len : ℕ) (ps : List Piece) → AreInside offset len ps → AreApart ps → counted (has_byte ps) offset len ≡ total ps
 total-counted offset len [] i a = none offset len
@@ -109,40 +88,13 @@ covered_total offset len ps i a c = sym (total-counted offset len ps i a) ∙ co
 
 -- ranges side by side share no offset
 apart-holds : (p q : Piece) → is_apart p q ≡ true → (x : ℕ) → holds p x ≡ true → holds q x ≡ false
-apart-holds p q e x h = elim (or_true _ _ e) [
-  | inl k ↦ (let a : piece_offset p + piece_size p ≤ piece_offset q = leb-true _ _ k in first_false _ (lt-leb (piece_offset q) x (omega (arith, l, u, a))))
-  | inr k ↦ (let a : piece_offset q + piece_size q ≤ piece_offset p = leb-true _ _ k in second_false (nat_le (piece_offset q) x) (le-ltb x (piece_offset q + piece_size q) (omega (arith, l, u, a))))
-]
-  where
-    l : piece_offset p ≤ x
-    l = leb-true (piece_offset p) x (and_true (nat_le (piece_offset p) x) (nat_lt x (piece_offset p + piece_size p)) h).0
-
-    u : x < piece_offset p + piece_size p
-    u = ltb-true x (piece_offset p + piece_size p) (and_true (nat_le (piece_offset p) x) (nat_lt x (piece_offset p + piece_size p)) h).1
-
-    first_false : {b : Bool} (c : Bool) → b ≡ false → (b && c) ≡ false
-    first_false c is = ap (λ y. y && c) is
-
-    second_false : (b : Bool) {c : Bool} → c ≡ false → (b && c) ≡ false
-    second_false true is = is
-    second_false false is = refl
+apart-holds p q e x h = grind (arith, or_true, leb-true, lt-leb, nat_le, le-ltb, and_true, nat_lt, ltb-true)
 
 pub apart_from-shares : (p : Piece) (qs : List Piece) → is_apart_from p qs ≡ true → SharesNone p qs
 apart_from-shares p [] e x h = refl
 apart_from-shares p (q ∷ qs) e x h =
     let b : (is_apart p q ≡ true) × (is_apart_from p qs ≡ true) = and_true _ _ e in
     ap (λ c. if c then Some (piece_byte q x) else byte_at qs x) (apart-holds p q b.0 x h) ∙ apart_from-shares p qs b.1 x h
-
-first_none : (q : Piece) (ps : List Piece) (x : ℕ) → byte_at (q ∷ ps) x ≡ None → (holds q x ≡ false) × (byte_at ps x ≡ None)
-first_none q ps x e = go (holds q x) refl e
-  where
-    go : (b : Bool) → holds q x ≡ b → (if b then Some (piece_byte q x) else byte_at ps x) ≡ None → (b ≡ false) × (byte_at ps x ≡ None)
-    go true is e = absurd (cc)
-    go false is e = (refl, e)
-
-abbrev pub ArePositive : List Piece → Type 0
-ArePositive [] = Unit {0}
-ArePositive (p ∷ ps) = (0 < piece_size p) × ArePositive ps
 
 pub no_overlap : (p q : Piece) → 0 < piece_size p → 0 < piece_size q → is_apart p q ≡ false → (x : ℕ) × (holds p x ≡ true) × (holds q x ≡ true)
 no_overlap p q lp lq h =
@@ -157,13 +109,3 @@ no_overlap p q lp lq h =
 
     is_held : (p : Piece) (x : ℕ) → piece_offset p ≤ x → x < piece_offset p + piece_size p → holds p x ≡ true
     is_held p x l u = both (le-leb (piece_offset p) x l) (lt-ltb x (piece_offset p + piece_size p) u)
-
--- pieces that are not empty share no offset only side by side
-pub shares-apart_from : (p : Piece) (qs : List Piece) → 0 < piece_size p → ArePositive qs → SharesNone p qs → is_apart_from p qs ≡ true
-shares-apart_from p [] lp ls n = refl
-shares-apart_from p (q ∷ qs) lp ls n = go (is_apart p q) refl (shares-apart_from p qs lp ls.1 (λ x h. (first_none q qs x (n x h)).1))
-  where
-    go : (b : Bool) → is_apart p q ≡ b → is_apart_from p qs ≡ true → (b && is_apart_from p qs) ≡ true
-    go true e rest = rest
-    go false e rest = let o : (x : ℕ) × (holds p x ≡ true) × (holds q x ≡ true) = no_overlap p q lp ls.0 e in
-        absurd (let y : holds q o.0 ≡ false = (first_none q qs o.0 (n o.0 o.1)).0 in let z : holds q o.0 ≡ true = o.2 in (cc))

@@ -1,8 +1,7 @@
 -- The judge is exact: it takes each message that the rules allow, at its last byte and not before.
-use Rattle.std.proofs.Common.{◌≡◌, ℕ, ◌+◌, ◌<◌, ◌≤◌, ◌⊎◌, ◌==◌, List, [], ◌∷◌, ◌++◌, length, refl, sym, ◌∙◌, ap, subst, inl, inr, Option, Some, None, Err, Bool, true, false, not, nat_lt, is_some, IsTrue, eq-eqb, arith, length-append}
+use Rattle.std.proofs.Common.{◌≡◌, ℕ, ◌+◌, ◌⊎◌, ◌==◌, List, [], ◌++◌, length, refl, sym, ◌∙◌, ap, subst, inl, inr, Option, Some, None, Err, Bool, true, false, nat_lt, is_some, IsTrue, eq-eqb, arith, length-append}
 use Rattle.std.proofs.lemmas.Bool.{le-ltb, ltb-false, ltb-true}
 use Rattle.nbd_wire.specs.declared.profile.Profile.{Profile}
-use Rattle.nbd_wire.specs.declared.handshake.TheConstants as handshake
 use Rattle.nbd_wire.specs.declared.message.Side.{Side}
 use Rattle.nbd_wire.specs.declared.message.Side.TheVariants.{Client, Server}
 use Rattle.nbd_wire.specs.declared.message.Message.{Message}
@@ -10,16 +9,15 @@ use Rattle.nbd_wire.specs.declared.message.Message.TheVariants.{Greeting, Client
 use Rattle.nbd_wire.specs.protocol.Encoding.{enc}
 use Rattle.nbd_wire.specs.protocol.Captures.{ArePairs, Pair}
 use Rattle.nbd_wire.specs.protocol.Marks.{Item, pairs}
-use Rattle.nbd_wire.specs.protocol.Options.{is_proper_option, turn, takes_contexts}
+use Rattle.nbd_wire.specs.protocol.Options.{turn}
 use Rattle.nbd_wire.specs.protocol.Payloads.{number_at}
 use Rattle.nbd_wire.specs.protocol.Operations.{Operation, Exporting}
-use Rattle.nbd_wire.specs.protocol.Flags.{has}
 use Rattle.nbd_wire.specs.protocol.Rules.{IsRunOf, MayComplete, MayStart, MayStartIn, is_extended, request_of_reply}
 use Rattle.nbd_wire.specs.protocol.Sendable.{IsSendable}
 use Rattle.nbd_wire.specs.protocol.Sides.{side}
 use Rattle.nbd_wire.specs.protocol.States.{Core, Phase, Greet, Flags, Choosing, Naming, Aborting, Answering, Transmission, operation, target}
 use Rattle.nbd_wire.specs.declared.fault.WireFault.{WireFault}
-use Rattle.nbd_wire.specs.protocol.Decisions.{Decision, abort_answer, answer, choice, client_flags, export_answer, greeting, chunk_to, extended_chunk_to, operation_if, operation_of, reply, reply_in, request, request_by, simple_to}
+use Rattle.nbd_wire.specs.protocol.Decisions.{Decision, abort_answer, choice, client_flags, greeting, chunk_to, extended_chunk_to, operation_of, reply, reply_in, request, request_by, simple_to}
 use Rattle.nbd_wire.specs.protocol.Reading.{decision, request_unless, by_tests, last_reading, reading_by_decision, read_by, staged_reading_by, IsFilled, More, Whole, reads, fresh_of}
 use Rattle.nbd_laws.proofs.judge.AwaitedLemmas.{in_head, in_payload}
 use Rattle.nbd_laws.proofs.judge.ExactNegotiationLemmas.{Accepts, HasHead, HasLast, abort_accepts, answer_accepts, choice_accepts, exported_accepts, flags_accepts, greeting_accepts}
@@ -27,7 +25,7 @@ use Rattle.nbd_laws.proofs.judge.ExactTransmissionLemmas.{chunk_accepts, chunk_b
 use Rattle.nbd_laws.proofs.reading.ReaderLemmas.{IsExact, Later, Later-trans}
 use Rattle.nbd_laws.proofs.judge.PhaseLemmas.{IsAppended, Later-appended, Later-extended, Later-disconnected, Later-transmission, Later-turn, target-append}
 use Rattle.nbd_laws.proofs.runs.RunLemmas.{no_run}
-use Rattle.nbd_laws.proofs.judge.SteadyLemmas.{IsDeciding, IsSameHead, IsSteady, deciding, is_chunk_reply, is_extended_reply, is_simple_reply, no_chunk}
+use Rattle.nbd_laws.proofs.judge.SteadyLemmas.{IsDeciding, IsSteady, deciding, is_chunk_reply, is_extended_reply, is_simple_reply, no_chunk}
 
 -- what is decided of an encoding takes the message
 record IsTaken (o : Option Decision) (core : Core) (m : Message) : Type 0 where
@@ -41,14 +39,7 @@ taken d core m a = record { d = d; is = refl; at_head = a.at_head; at_last = a.a
 
 -- the request that a reply answers, of those that had completed when it started
 same_target : (old now : Core) (cookie k : ℕ) (e : Operation) → IsAppended old now → IsTrue (is_some (target cookie old.entries)) → target cookie now.entries ≡ Some k → operation k now.entries ≡ Some e → operation_of old now cookie ≡ Some e
-same_target old now cookie k e a began at is = go (target cookie old.entries) refl began
-  where
-    go : (o : Option ℕ) → target cookie old.entries ≡ o → IsTrue (is_some o) → operation_if o now.entries ≡ Some e
-    go (Some j) q s =
-        let r : Some j ≡ Some k = sym (ap (target cookie) a.entries_are ∙ target-append cookie old.entries a.more j q) ∙ at in
-        let same : j ≡ k = cc in
-        ap (λ x. operation x now.entries) same ∙ is
-    go None q s = absurd (let w : false ≡ true = s in (cc))
+same_target old now cookie k e a began at is = grind (arith, target-append)
 
 -- what started before: a reply answers a request, a client had not disconnected
 abbrev Began : Phase → Core → Core → Message → Type 0
@@ -67,18 +58,11 @@ unfolding MayComplete IsSendable
 taken_in Greet old now (Greeting flags) sn b ok = taken (greeting (enc (Greeting flags))) now _ (greeting_accepts flags sn ok)
 taken_in Flags old now (ClientFlags flags) sn b ok = taken (client_flags now.offered (enc (ClientFlags flags))) now _ (flags_accepts now.offered flags sn ok)
 taken_in Choosing old now (Choice id payload) sn b ok = taken (choice (enc (Choice id payload))) now _ (choice_accepts id payload sn.0 sn.1.0)
-taken_in Naming old now (Exported size flags padded) sn b ok =
-    let no_zeroes : Bool = has now.client_flags handshake.C_NO_ZEROES in
-    subst (λ p. IsTaken (Some (export_answer no_zeroes (enc (Exported size flags p)))) now (Exported size flags p)) (sym ok.0)
-    (taken (export_answer no_zeroes (enc (Exported size flags (not no_zeroes)))) now _ (exported_accepts size flags no_zeroes sn.0 sn.1 ok.1))
+taken_in Naming old now (Exported size flags padded) sn b ok = grind (arith, taken, exported_accepts)
 taken_in Aborting old now (Answer option kind payload) sn b ok = taken (abort_answer (enc (Answer option kind payload))) now _ (abort_accepts option kind payload sn.0 sn.1 sn.2.0 ok)
-taken_in (Answering asked given info) old now (Answer option kind payload) sn b ok =
-    taken (answer now.profile asked (is_proper_option asked given) (takes_contexts asked given) info now.selection (enc (Answer option kind payload))) now _
-    (answer_accepts now.profile asked _ _ info now.selection option kind payload sn.0 sn.1 sn.2.0 ok.0 ok.1)
-taken_in (Transmission export) old now (Request flags command cookie offset len payload) sn b ok =
-    request_taken now now.disconnected false (enc (Request flags command cookie offset len payload)) _ (b.1 refl) b.2 (request_accepts now flags command cookie offset len payload sn ok.0 ok.1)
-taken_in (Transmission export) old now (ExtendedRequest flags command cookie offset len payload) sn b ok =
-    request_taken now now.disconnected true (enc (ExtendedRequest flags command cookie offset len payload)) _ (b.1 refl) b.2 (extended_request_accepts now flags command cookie offset len payload sn ok.0 ok.1)
+taken_in (Answering asked given info) old now (Answer option kind payload) sn b ok = grind (arith, taken, answer_accepts)
+taken_in (Transmission export) old now (Request flags command cookie offset len payload) sn b ok = grind (arith, request_taken, request_accepts)
+taken_in (Transmission export) old now (ExtendedRequest flags command cookie offset len payload) sn b ok = grind (arith, request_taken, extended_request_accepts)
 taken_in (Transmission export) old now (Simple error cookie payload) sn b (k, e, at, is, may) =
     let m : Message = Simple error cookie payload in
     let s : _ ≡ true = simple_begins error cookie payload in
@@ -113,7 +97,7 @@ taken_in (Transmission export) old now (ExtendedChunk flags kind cookie offset p
 taken_in phase old now m sn b ok = absurd ok
 
 -- a message that may start is decided on from its first byte
-deciding_of : (phase : Phase) (s : Side) (old : Core) (m : Message) → old.phase ≡ phase → MayStartIn phase old s m → IsDeciding s old
+pub deciding_of : (phase : Phase) (s : Side) (old : Core) (m : Message) → old.phase ≡ phase → MayStartIn phase old s m → IsDeciding s old
 unfolding MayStartIn
 deciding_of Greet Server old m p st = deciding Greet Server old [] _ p refl
 deciding_of Flags Client old m p st = deciding Flags Client old [] _ p refl
@@ -164,22 +148,7 @@ module _ (old now : Core) (m : Message) where
 -- a part of what is taken goes on
 part_goes_on : (s : Side) (now next : Core) (F : Core → List ℕ → Decision) → IsSteady s now F → Later s now next → (bytes left : List ℕ) → IsFilled left →
     length (bytes ++ left) ≡ (F next (bytes ++ left)).head_length + (F next (bytes ++ left)).payload_length → (F next (bytes ++ left)).head_fault ≡ None → read_by (F now bytes) bytes ≡ More
-part_goes_on s now next F st l bytes left f long clean = go (nat_lt (length bytes) (F now bytes).head_length) refl
-  where
-    some : (xs : List ℕ) → IsFilled xs → 0 < length xs
-    some [] f = absurd f
-    some (x ∷ xs) f = omega arith
-
-    go : (b : Bool) → nat_lt (length bytes) (F now bytes).head_length ≡ b → read_by (F now bytes) bytes ≡ More
-    go true e = in_head (F now bytes) bytes (ltb-true (length bytes) (F now bytes).head_length e)
-    go false e =
-        let behind_head : (F now bytes).head_length ≤ length bytes = ltb-false (length bytes) (F now bytes).head_length e in
-        let clean_now : (F now bytes).head_fault ≡ None = st.back next l bytes left behind_head clean in
-        let same : IsSameHead (F now bytes) (F next (bytes ++ left)) = st.beyond next l bytes left behind_head clean_now in
-        let h : (F next (bytes ++ left)).head_length ≡ (F now bytes).head_length = same.head_length_is in
-        let p : (F next (bytes ++ left)).payload_length ≡ (F now bytes).payload_length = same.payload_length_is in
-        let more : 0 < length left = some left f in
-        in_payload (F now bytes) bytes behind_head clean_now (omega (arith, long, h, p, more, length-append bytes left))
+part_goes_on s now next F st l bytes left f long clean = grind (arith, nat_lt, in_head, ltb-true, ltb-false, in_payload, length-append)
 
 read_whole : (d : Decision) (m : Message) → HasHead d m → HasLast d m → read_by d (enc m) ≡ Whole m
 read_whole d m a b =
@@ -189,18 +158,18 @@ read_whole d m a b =
     λ i. staged_reading_by (past i) (a.clean i) (there i) (last_reading (b.clean i) (b.is i))
 
 -- what is decided of an encoding, by the side's decisions
-record IsTakenBy (F : Core → List ℕ → Decision) (now : Core) (m : Message) : Type 0 where
-  at_head : HasHead (F now (enc m)) m
-  at_last : HasLast (F now (enc m)) m
+pub record IsTakenBy (F : Core → List ℕ → Decision) (now : Core) (m : Message) : Type 0 where
+  pub at_head : HasHead (F now (enc m)) m
+  pub at_last : HasLast (F now (enc m)) m
 
-taken_by : (old now : Core) (s : Side) (m : Message) (d : IsDeciding s old) → (l : Later s old now) → side m ≡ s → IsSendable m → MayStart old s m → MayComplete now now.phase m → IsTakenBy d.F now m
+pub taken_by : (old now : Core) (s : Side) (m : Message) (d : IsDeciding s old) → (l : Later s old now) → side m ≡ s → IsSendable m → MayStart old s m → MayComplete now now.phase m → IsTakenBy d.F now m
 taken_by old now s m d l sd sn st ok =
     let t : IsTaken (decision now.phase old now (side m) (enc m)) now m = taken_in now.phase old now m sn (began_at old now m s sd l st) ok in
     let q : Some t.d ≡ Some (d.F now (enc m)) = sym t.is ∙ ap (λ u. decision now.phase old now u (enc m)) sd ∙ d.decides now l (enc m) in
     let same : t.d ≡ d.F now (enc m) = cc in
     record { at_head = subst (λ x. HasHead x m) same t.at_head; at_last = subst (λ x. HasLast x m) same t.at_last }
 
-exact_more : (old now later : Core) (s : Side) (m : Message) (bytes left : List ℕ) → Later s old now → Later s now later →
+pub exact_more : (old now later : Core) (s : Side) (m : Message) (bytes left : List ℕ) → Later s old now → Later s now later →
     side m ≡ s → IsSendable m → MayStart old s m → MayComplete later later.phase m → enc m ≡ bytes ++ left → IsFilled left → by_tests old now s bytes ≡ More
 exact_more old now later s m bytes left l l' sd sn st ok e f =
     let d : IsDeciding s old = deciding_of old.phase s old m refl st in
@@ -210,17 +179,14 @@ exact_more old now later s m bytes left l l' sd sn st ok e f =
     let clean : (d.F later (bytes ++ left)).head_fault ≡ None = subst (λ bs. (d.F later bs).head_fault ≡ None) e t.at_head.clean in
     ap (λ o. reading_by_decision o bytes) (d.decides now l bytes) ∙ part_goes_on s now later d.F (d.steady now l) l' bytes left f long clean
 
-exact_whole : (old now : Core) (s : Side) (m : Message) → Later s old now → side m ≡ s → IsSendable m → MayStart old s m → MayComplete now now.phase m → by_tests old now s (enc m) ≡ Whole m
+pub exact_whole : (old now : Core) (s : Side) (m : Message) → Later s old now → side m ≡ s → IsSendable m → MayStart old s m → MayComplete now now.phase m → by_tests old now s (enc m) ≡ Whole m
 exact_whole old now s m l sd sn st ok =
     let d : IsDeciding s old = deciding_of old.phase s old m refl st in
     let t : IsTakenBy d.F now m = taken_by old now s m d l sd sn st ok in
     ap (λ o. reading_by_decision o (enc m)) (d.decides now l (enc m)) ∙ read_whole (d.F now (enc m)) m t.at_head t.at_last
 
 pub exact : IsExact by_tests
-exact = record {
-  more = λ old now later s m bytes left l l' sd sn st ok e fb fl k. exact_more old now later s m bytes left l l' sd sn st ok e fl;
-  whole = λ old now s m l sd sn st ok k. exact_whole old now s m l sd sn st ok;
-}
+exact = grind (arith, exact_more, exact_whole)
 
 -- no run's bytes begin with a list that the reader refuses
 pub none_refused : {profile : Profile} (items : List Item) → IsRunOf profile items → (ps more : List Pair) → ArePairs ps → pairs items ≡ ps ++ more → (fault : WireFault) → reads by_tests (fresh_of profile) ps ≡ Err fault → ⊥

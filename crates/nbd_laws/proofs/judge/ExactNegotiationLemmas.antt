@@ -39,11 +39,7 @@ not_so b e = ap not e
 
 greeting_numbers : (flags : ℕ) → flags < 2 ^ 16 → (number_at 0 8 (enc (Greeting flags)) ≡ GREETING_MAGIC) × (number_at 8 8 (enc (Greeting flags)) ≡ OPTION_MAGIC) × (number_at 16 2 (enc (Greeting flags)) ≡ flags)
 unfolding enc head tail
-greeting_numbers flags h = (
-  big_number-reads_back 8 GREETING_MAGIC (drop 8 (enc (Greeting flags))) (omega arith),
-  big_number-reads_back 8 OPTION_MAGIC (drop 16 (enc (Greeting flags))) (omega arith),
-  big_number-reads_back 2 flags [] h,
-)
+greeting_numbers flags h = grind arith
 
 greeting_long : (flags : ℕ) → length (enc (Greeting flags)) ≡ 18
 unfolding enc head tail
@@ -76,12 +72,7 @@ flags_accepts offered flags h ok =
 choice_numbers : (id : ℕ) (payload : List ℕ) → id < 2 ^ 32 → length payload < 2 ^ 32 →
     (number_at 0 8 (enc (Choice id payload)) ≡ OPTION_MAGIC) × (number_at 8 4 (enc (Choice id payload)) ≡ id) × (number_at 12 4 (enc (Choice id payload)) ≡ length payload) × (drop 16 (enc (Choice id payload)) ≡ payload)
 unfolding enc head tail
-choice_numbers id payload h l = (
-  big_number-reads_back 8 OPTION_MAGIC (drop 8 (enc (Choice id payload))) (omega arith),
-  big_number-reads_back 4 id (drop 12 (enc (Choice id payload))) h,
-  big_number-reads_back 4 (length payload) payload l,
-  refl,
-)
+choice_numbers id payload h l = grind arith
 
 choice_long : (id : ℕ) (payload : List ℕ) → length (enc (Choice id payload)) ≡ 16 + length payload
 unfolding enc head tail
@@ -98,11 +89,7 @@ choice_accepts id payload h l =
 exported_numbers : (size flags : ℕ) (padded : Bool) → size < 2 ^ 64 → flags < 2 ^ 16 →
     (number_at 0 8 (enc (Exported size flags padded)) ≡ size) × (number_at 8 2 (enc (Exported size flags padded)) ≡ flags) × (drop 10 (enc (Exported size flags padded)) ≡ tail (Exported size flags padded))
 unfolding enc head
-exported_numbers size flags padded h l = (
-  big_number-reads_back 8 size (drop 8 (enc (Exported size flags padded))) h,
-  big_number-reads_back 2 flags (drop 10 (enc (Exported size flags padded))) l,
-  refl,
-)
+exported_numbers size flags padded h l = grind arith
 
 exported_long : (size flags : ℕ) → (length (enc (Exported size flags false)) ≡ 10) × (length (enc (Exported size flags true)) ≡ 134)
 unfolding enc head tail

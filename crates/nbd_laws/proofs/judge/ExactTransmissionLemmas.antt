@@ -1,27 +1,23 @@
 -- The judge takes each message of transmission that the rules allow.
-use Rattle.std.proofs.Common.{◌≡◌, ℕ, ◌<◌, ◌≤◌, ◌≢◌, ◌+◌, ◌^◌, ◌==◌, List, [], ◌∷◌, ◌++◌, length, drop, refl, sym, ◌∙◌, ap, subst, Option, Some, None, Bool, true, false, not, ◌&&◌, if◌then◌else◌, nat_le, eq-eqb, arith, length-drop}
-use Rattle.std.proofs.lemmas.Bool.{eqb-false, le-leb, le-ltb, leb-true}
+use Rattle.std.proofs.Common.{◌≡◌, ℕ, ◌<◌, ◌≤◌, ◌+◌, ◌^◌, ◌==◌, List, length, drop, refl, sym, ◌∙◌, ap, Some, None, Bool, true, false, not, ◌&&◌, eq-eqb, arith}
+use Rattle.std.proofs.lemmas.Bool.{le-leb, le-ltb}
 use Rattle.byteorder.specs.Numbers.{big_number-reads_back}
 use Rattle.nbd_wire.specs.declared.chunks.TheConstants as chunks
 use Rattle.nbd_wire.specs.declared.magics.TheConstants.{EXTENDED_CHUNK_MAGIC, EXTENDED_REQUEST_MAGIC, REQUEST_MAGIC, SIMPLE_MAGIC, CHUNK_MAGIC}
 use Rattle.nbd_wire.specs.declared.limits.TheConstants.{LONGEST_PAYLOAD}
 use Rattle.nbd_wire.specs.declared.message.Message.{Message}
 use Rattle.nbd_wire.specs.declared.message.Message.TheVariants.{Request, Simple, Chunk, ExtendedRequest, ExtendedChunk}
-use Rattle.nbd_wire.specs.declared.payloads.Piece.{Piece}
-use Rattle.nbd_wire.specs.declared.payloads.Piece.TheVariants.{Bytes, Hole}
 use Rattle.nbd_wire.specs.protocol.Encoding.{enc, head, tail}
 use Rattle.nbd_wire.proofs.FieldLemmas.{chunk-cookie, chunk-flags, chunk-kind, chunk-length, chunk-magic, drop-chunk, length-chunk, length-request, extended_chunk_fields, extended_request_fields, request-command, request-cookie, request-length, request-magic, simple-cookie, simple-magic}
-use Rattle.nbd_wire.specs.protocol.Payloads.{number_at, content_of}
+use Rattle.nbd_wire.specs.protocol.Payloads.{number_at}
 use Rattle.nbd_wire.specs.protocol.Decisions.{begins, chunk_of, chunk_to, extended_chunk_of, extended_chunk_to, extended_request, short_request, simple_to}
 use Rattle.nbd_wire.specs.protocol.Tests.{fault_if}
 use Rattle.nbd_wire.specs.protocol.Transmission.{simple_length, chunk_fault, cookie_fault, request_fault, request_payload_length, simple_fault, simple_last_fault, read_as, chunk_head_fault, extended_head_fault, extended_payload_length, extended_request_fault, is_too_large, offset_fault}
 use Rattle.nbd_wire.specs.protocol.Rules.{MayReply}
-use Rattle.nbd_wire.specs.protocol.Operations.{Operation, Exporting, pieces_of}
-use Rattle.nbd_wire.specs.protocol.Pieces.{chunk_piece, piece_of, piece_size}
+use Rattle.nbd_wire.specs.protocol.Operations.{Operation, Exporting}
 use Rattle.nbd_wire.specs.protocol.Sendable.{IsSendable}
 use Rattle.nbd_wire.specs.protocol.States.{Core, target, with_reply}
 use Rattle.nbd_wire.specs.declared.fault.WireFault.TheVariants.{BadMagic, BadReplyOffset, OutOfProfile}
-use Rattle.nbd_laws.proofs.judge.CoverLemmas.{ArePositive}
 use Rattle.nbd_laws.proofs.judge.ExactNegotiationLemmas.{Accepts}
 
 record IsRequest (flags command cookie offset len : ℕ) (payload bytes : List ℕ) : Type 0 where
@@ -132,47 +128,6 @@ cookie_of_chunk flags kind cookie payload sn = chunk-cookie flags kind cookie pa
 
 pub chunk_begins : (flags kind cookie : ℕ) (payload : List ℕ) → begins CHUNK_MAGIC (enc (Chunk flags kind cookie payload)) ≡ true
 chunk_begins flags kind cookie payload = begins_with CHUNK_MAGIC (enc (Chunk flags kind cookie payload)) (omega (arith, length-chunk flags kind cookie payload)) (chunk-magic flags kind cookie payload)
-
--- pieces that are not empty
-
-pub content_positive : (kind : ℕ) (bytes : List ℕ) (piece : Piece) → content_of kind bytes ≡ Some piece → 0 < piece_size piece
-unfolding content_of
-content_positive kind bytes piece e = pick (kind == chunks.OFFSET_DATA) (nat_le 9 (length bytes)) (kind == chunks.OFFSET_HOLE) (length bytes == 12) (number_at 8 4 bytes == 0) refl refl e
-  where
-    pick : (a b c d z : Bool) → nat_le 9 (length bytes) ≡ b → (number_at 8 4 bytes == 0) ≡ z →
-        (if a then (if b then Some (Bytes (number_at 0 8 bytes) (drop 8 bytes)) else None) else if c && (d && not z) then Some (Hole (number_at 0 8 bytes) (number_at 8 4 bytes)) else None) ≡ Some piece → 0 < piece_size piece
-    pick true true c d z is_b is_z e =
-        let l : 9 ≤ length bytes = leb-true 9 (length bytes) is_b in
-        let q : Bytes (number_at 0 8 bytes) (drop 8 bytes) ≡ piece = cc in
-        subst (λ p. 0 < piece_size p) q (omega (arith, length-drop 8 bytes, l))
-    pick true false c d z is_b is_z e = absurd (cc)
-    pick false b true true false is_b is_z e =
-        let q : Hole (number_at 0 8 bytes) (number_at 8 4 bytes) ≡ piece = cc in
-        let n : number_at 8 4 bytes ≢ 0 = eqb-false _ _ is_z in
-        subst (λ p. 0 < piece_size p) q (omega (arith, n))
-    pick false b true true true is_b is_z e = absurd (cc)
-    pick false b true false z is_b is_z e = absurd (cc)
-    pick false b false d z is_b is_z e = absurd (cc)
-
-positive_append : (ps qs : List Piece) → ArePositive ps → ArePositive qs → ArePositive (ps ++ qs)
-positive_append [] qs h k = k
-positive_append (p ∷ ps) qs h k = (h.0, positive_append ps qs h.1 k)
-
-positive_chunk : (kind : ℕ) (bytes : List ℕ) (o : Option Piece) → content_of kind bytes ≡ o → ArePositive (chunk_piece o)
-positive_chunk kind bytes (Some piece) e = (content_positive kind bytes piece e, tt)
-positive_chunk kind bytes None e = tt
-
-piece_positive : (offset : ℕ) (m : Message) → ArePositive (piece_of offset m)
-unfolding piece_of
-piece_positive offset (Simple error cookie []) = tt
-piece_positive offset (Simple error cookie (b ∷ bs)) = (omega arith, tt)
-piece_positive offset (Chunk flags kind cookie bytes) = positive_chunk kind bytes (content_of kind bytes) refl
-piece_positive offset (ExtendedChunk flags kind cookie at bytes) = positive_chunk kind bytes (content_of kind bytes) refl
-piece_positive offset m = tt
-
-pub pieces_positive : (offset : ℕ) (ms : List Message) → ArePositive (pieces_of offset ms)
-pieces_positive offset [] = tt
-pieces_positive offset (m ∷ ms) = positive_append (piece_of offset m) (pieces_of offset ms) (piece_positive offset m) (pieces_positive offset ms)
 
 record IsChunkOf (flags kind cookie : ℕ) (payload bytes : List ℕ) : Type 0 where
   flags_is : number_at 4 2 bytes ≡ flags

@@ -4,10 +4,10 @@ use Rattle.nbd_wire.specs.declared.commands.TheConstants as commands
 use Rattle.nbd_wire.specs.declared.message.Side.{Side}
 use Rattle.nbd_wire.specs.declared.message.Side.TheVariants.{Client, Server}
 use Rattle.nbd_wire.specs.declared.message.Message.{Message}
-use Rattle.nbd_wire.specs.declared.message.Message.TheVariants.{Greeting, ClientFlags, Choice, Answer, Exported, Request, Simple, Chunk, ExtendedRequest, ExtendedChunk}
+use Rattle.nbd_wire.specs.declared.message.Message.TheVariants.{Greeting, ClientFlags, Choice, Answer, Exported, Request}
 use Rattle.nbd_wire.specs.protocol.Options.{turn}
 use Rattle.nbd_wire.specs.protocol.Operations.{Operation, Exporting, is_finished}
-use Rattle.nbd_wire.specs.protocol.Rules.{MayComplete, complete, core_with_request, reply_to, request_of_reply}
+use Rattle.nbd_wire.specs.protocol.Rules.{MayComplete, complete, core_with_request, reply_to}
 use Rattle.nbd_wire.specs.protocol.Sides.{side}
 use Rattle.nbd_wire.specs.protocol.States.{Phase, Greet, Flags, Choosing, Naming, Aborting, Answering, Transmission, Core, in_force, operation, is_awaiting, target, target_from}
 use Rattle.nbd_laws.proofs.reading.ReaderLemmas.{Later, at_once, behind}
@@ -39,11 +39,7 @@ phase-requested false core e = refl
 pub transmission_stays : (core : Core) (export : Exporting) (m : Message) → MayComplete core (Transmission export) m → (complete core m).phase ≡ core.phase
 unfolding MayComplete complete
 transmission_stays core export (Request flags command cookie offset len payload) h = phase-requested _ core _
-transmission_stays core export (ExtendedRequest flags command cookie offset len payload) h = phase-requested _ core _
-transmission_stays core export (Simple error cookie payload) h = phase-reply_to (request_of_reply core (Simple error cookie payload)) core (Simple error cookie payload)
-transmission_stays core export (Chunk flags kind cookie payload) h = phase-reply_to (request_of_reply core (Chunk flags kind cookie payload)) core (Chunk flags kind cookie payload)
-transmission_stays core export (ExtendedChunk flags kind cookie at payload) h = phase-reply_to (request_of_reply core (ExtendedChunk flags kind cookie at payload)) core (ExtendedChunk flags kind cookie at payload)
-transmission_stays core export m h = absurd h
+transmission_stays core export m h = grind (arith, phase-requested, phase-reply_to)
 
 pub Later-transmission : {s : Side} {old now : Core} → Later s old now → (export : Exporting) → old.phase ≡ Transmission export → now.phase ≡ Transmission export
 Later-transmission at_once export e = e
@@ -62,11 +58,7 @@ in_force-requested false core e = refl
 pub in_force_stays : (core : Core) (export : Exporting) (m : Message) → MayComplete core (Transmission export) m → in_force (complete core m) ≡ in_force core
 unfolding MayComplete complete
 in_force_stays core export (Request flags command cookie offset len payload) h = in_force-requested _ core _
-in_force_stays core export (ExtendedRequest flags command cookie offset len payload) h = in_force-requested _ core _
-in_force_stays core export (Simple error cookie payload) h = in_force-reply_to (request_of_reply core (Simple error cookie payload)) core (Simple error cookie payload)
-in_force_stays core export (Chunk flags kind cookie payload) h = in_force-reply_to (request_of_reply core (Chunk flags kind cookie payload)) core (Chunk flags kind cookie payload)
-in_force_stays core export (ExtendedChunk flags kind cookie at payload) h = in_force-reply_to (request_of_reply core (ExtendedChunk flags kind cookie at payload)) core (ExtendedChunk flags kind cookie at payload)
-in_force_stays core export m h = absurd h
+in_force_stays core export m h = grind (arith, in_force-requested, in_force-reply_to)
 
 pub extended-reply_to : (o : Option ℕ) (core : Core) (m : Message) → (reply_to o core m).extended ≡ core.extended
 extended-reply_to (Some k) core m = refl
@@ -80,11 +72,7 @@ extended-requested false core e = refl
 pub extended_stays : (core : Core) (export : Exporting) (m : Message) → MayComplete core (Transmission export) m → (complete core m).extended ≡ core.extended
 unfolding MayComplete complete
 extended_stays core export (Request flags command cookie offset len payload) h = extended-requested _ core _
-extended_stays core export (ExtendedRequest flags command cookie offset len payload) h = extended-requested _ core _
-extended_stays core export (Simple error cookie payload) h = extended-reply_to (request_of_reply core (Simple error cookie payload)) core (Simple error cookie payload)
-extended_stays core export (Chunk flags kind cookie payload) h = extended-reply_to (request_of_reply core (Chunk flags kind cookie payload)) core (Chunk flags kind cookie payload)
-extended_stays core export (ExtendedChunk flags kind cookie at payload) h = extended-reply_to (request_of_reply core (ExtendedChunk flags kind cookie at payload)) core (ExtendedChunk flags kind cookie at payload)
-extended_stays core export m h = absurd h
+extended_stays core export m h = grind (arith, extended-requested, extended-reply_to)
 
 pub Later-extended : {s : Side} {old now : Core} → Later s old now → (export : Exporting) → old.phase ≡ Transmission export → now.extended ≡ old.extended
 Later-extended at_once export e = refl
@@ -106,16 +94,8 @@ disconnected-replied None core m = refl
 
 disconnected_same : (core : Core) (m : Message) → (side m ≡ Client → ⊥) → (complete core m).disconnected ≡ core.disconnected
 unfolding complete
-disconnected_same core (Greeting flags) ne = refl
-disconnected_same core (ClientFlags flags) ne = refl
-disconnected_same core (Choice id payload) ne = refl
-disconnected_same core (Answer option kind payload) ne = refl
-disconnected_same core (Exported size flags padded) ne = refl
 disconnected_same core (Request flags command cookie offset len payload) ne = absurd (ne refl)
-disconnected_same core (ExtendedRequest flags command cookie offset len payload) ne = absurd (ne refl)
-disconnected_same core (Simple error cookie payload) ne = disconnected-replied (request_of_reply core (Simple error cookie payload)) core _
-disconnected_same core (Chunk flags kind cookie payload) ne = disconnected-replied (request_of_reply core (Chunk flags kind cookie payload)) core _
-disconnected_same core (ExtendedChunk flags kind cookie at payload) ne = disconnected-replied (request_of_reply core (ExtendedChunk flags kind cookie at payload)) core _
+disconnected_same core m ne = grind (arith, disconnected-replied)
 
 -- the server's messages do not disconnect the client
 pub Later-disconnected : {old now : Core} → Later Client old now → now.disconnected ≡ old.disconnected
@@ -150,11 +130,7 @@ appended-requested false core e = record { more = e ∷ []; entries_are = refl; 
 appended-complete : (core : Core) (export : Exporting) (m : Message) → (side m ≡ Server → ⊥) → MayComplete core (Transmission export) m → IsAppended core (complete core m)
 unfolding MayComplete complete
 appended-complete core export (Request flags command cookie offset len bytes) ne ok = appended-requested (command == commands.DISC) core _
-appended-complete core export (ExtendedRequest flags command cookie offset len bytes) ne ok = appended-requested (command == commands.DISC) core _
-appended-complete core export (Simple error cookie bytes) ne ok = absurd (ne refl)
-appended-complete core export (Chunk flags kind cookie bytes) ne ok = absurd (ne refl)
-appended-complete core export (ExtendedChunk flags kind cookie at bytes) ne ok = absurd (ne refl)
-appended-complete core export m ne ok = absurd ok
+appended-complete core export m ne ok = grind (arith, appended-requested)
 
 -- while the server is in a message, the client only adds requests
 pub Later-appended : {old now : Core} → Later Server old now → (export : Exporting) → old.phase ≡ Transmission export → IsAppended old now

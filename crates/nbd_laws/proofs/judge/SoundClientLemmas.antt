@@ -81,12 +81,7 @@ short_sound now export bytes m is_d x a e =
     let long : length bytes ≡ 28 + request_payload_length command len = w.long in
     let mg = magic_there (number_at 0 4 bytes) REQUEST_MAGIC _ w.at_head in
     subst (IsAsked now export bytes) w.is (record {
-      fit = record {
-        encodes = request_is bytes a (omega (arith, long)) mg.0;
-        sided = refl;
-        sendable = request_sendable bytes a long;
-        completes = (mg.1, w.at_last, x);
-      };
+      fit = grind (arith, request_is, request_sendable);
       asks = refl;
       headed = sym x;
       open_still = is_d;
@@ -100,12 +95,7 @@ extended_sound now export bytes m is_d x a e =
     let long : length bytes ≡ 32 + extended_payload_length (number_at 4 2 bytes) (number_at 6 2 bytes) len = w.long in
     let mg = magic_there (number_at 0 4 bytes) EXTENDED_REQUEST_MAGIC _ w.at_head in
     subst (IsAsked now export bytes) w.is (record {
-      fit = record {
-        encodes = extended_is bytes a (omega (arith, long)) mg.0;
-        sided = refl;
-        sendable = extended_sendable bytes a long mg.1;
-        completes = (mg.1, w.at_last, x);
-      };
+      fit = grind (arith, extended_is, extended_sendable);
       asks = refl;
       headed = sym x;
       open_still = is_d;

@@ -107,8 +107,7 @@ choice_sound now bytes m a e =
 
 exported_is : (bytes : List ℕ) (padded : Bool) → AreBytes bytes → 10 ≤ length bytes → drop 10 bytes ≡ tail (Exported (number_at 0 8 bytes) (number_at 8 2 bytes) padded) → bytes ≡ enc (Exported (number_at 0 8 bytes) (number_at 8 2 bytes) padded)
 unfolding enc head
-exported_is bytes padded a l t =
-    with_number 0 8 bytes (number_at 0 8 bytes) _ a (omega arith) refl (with_number 8 2 bytes (number_at 8 2 bytes) _ a (omega (arith, length-drop 8 bytes)) refl t)
+exported_is bytes padded a l t = grind (arith, with_number, length-drop)
 
 exported_sound : (now : Core) (c : Bool) (bytes : List ℕ) (m : Message) → has now.client_flags handshake.C_NO_ZEROES ≡ c → AreBytes bytes → read_by (export_answer c bytes) bytes ≡ Whole m → IsFit now Naming Server bytes m
 unfolding MayComplete IsSendable tail
@@ -146,9 +145,7 @@ stated bytes l = omega (arith, length-drop 20 bytes, l)
 
 answer_sendable : (bytes : List ℕ) → AreBytes bytes → length bytes ≡ 20 + number_at 16 4 bytes → IsSendable (answer_of bytes)
 unfolding IsSendable
-answer_sendable bytes a l =
-    let lt : number_at 16 4 bytes < 2 ^ 32 = number_at-lt 16 4 bytes a in
-    (number_at-lt 8 4 bytes a, number_at-lt 12 4 bytes a, (omega (arith, length-drop 20 bytes, l, lt), AreBytes-drop 20 bytes a))
+answer_sendable bytes a l = grind (arith, number_at-lt, length-drop)
 
 abort_sound : (now : Core) (bytes : List ℕ) (m : Message) → AreBytes bytes → read_by (abort_answer bytes) bytes ≡ Whole m → IsFit now Aborting Server bytes m
 unfolding MayComplete

@@ -1,7 +1,6 @@
 -- What the judge takes for a reply is one that the rules allow.
-use Rattle.std.proofs.Common.{◌≡◌, ℕ, ◌<◌, ◌≤◌, ◌+◌, ◌^◌, ◌==◌, List, length, drop, refl, sym, ◌∙◌, ap, subst, Option, Some, None, Bool, true, false, ◌&&◌, if◌then◌else◌, eqb-true, is_some, arith, length-drop, IsTrue, nat_le}
+use Rattle.std.proofs.Common.{◌≡◌, ℕ, ◌<◌, ◌≤◌, ◌+◌, ◌^◌, ◌==◌, List, length, drop, refl, sym, ◌∙◌, ap, subst, Option, Some, None, Bool, true, false, eqb-true, is_some, arith, length-drop, IsTrue, nat_le}
 use Rattle.std.proofs.lemmas.Bool.{leb-true, ltb-false}
-use Rattle.nbd_wire.specs.declared.commands.TheConstants as commands
 use Rattle.nbd_wire.specs.declared.magics.TheConstants.{EXTENDED_CHUNK_MAGIC, SIMPLE_MAGIC, CHUNK_MAGIC}
 use Rattle.nbd_wire.specs.declared.limits.TheConstants.{LONGEST_PAYLOAD}
 use Rattle.nbd_wire.specs.declared.fault.WireFault.{WireFault}
@@ -13,10 +12,9 @@ use Rattle.nbd_wire.specs.protocol.Payloads.{number_at}
 use Rattle.nbd_wire.specs.protocol.Decisions.{extended_chunk_of, extended_chunk_to, extended_last_fault, extended_reply_by, reply_in, chunk_last_fault, begins, chunk_of, chunk_to, operation_if, operation_of, no_reply, reply, reply_by, simple_of, simple_to}
 use Rattle.nbd_wire.specs.protocol.Reading.{read_by, Whole}
 use Rattle.nbd_wire.specs.protocol.Transmission.{is_too_large, offset_fault, simple_length, chunk_head_fault, simple_fault, simple_last_fault}
-use Rattle.nbd_wire.specs.protocol.Rules.{MayReply}
+use Rattle.nbd_wire.specs.protocol.Rules.{MayReply, MayComplete, is_extended, request_of_reply}
 use Rattle.nbd_wire.specs.declared.profile.Profile.{Profile}
 use Rattle.nbd_wire.specs.protocol.Operations.{Operation, Exporting}
-use Rattle.nbd_wire.specs.protocol.Rules.{MayComplete, is_extended, request_of_reply}
 use Rattle.nbd_wire.specs.protocol.Sendable.{IsSendable}
 use Rattle.nbd_wire.specs.protocol.States.{Transmission, Core, target, operation}
 use Rattle.nbd_wire.specs.declared.fault.WireFault.TheVariants.{BadMagic, BadReplyOffset, OutOfProfile, UnknownCookie}
@@ -52,11 +50,7 @@ simple_is bytes a l m =
     (with_number 8 8 bytes (number_at 8 8 bytes) (drop 16 bytes) a (omega (arith, length-drop 8 bytes)) refl refl))
 
 simple-short : {x : Bool} (e : Operation) (error : ℕ) → x ≡ false → IsTidy x e → simple_length e error < 2 ^ 32
-simple-short e error q t = go ((e.command == commands.READ) && (error == 0)) (t.short q)
-  where
-    go : (b : Bool) → e.length < 2 ^ 32 → (if b then e.length else 0) < 2 ^ 32
-    go true h = h
-    go false h = omega arith
+simple-short e error q t = grind arith
 
 simple_sendable : {x : Bool} (bytes : List ℕ) (e : Operation) → x ≡ false → AreBytes bytes → length bytes ≡ 16 + simple_length e (number_at 4 4 bytes) → IsTidy x e → IsSendable (simple_of bytes)
 unfolding IsSendable
@@ -103,9 +97,7 @@ chunk_is bytes a l m =
 
 chunk_sendable : (bytes : List ℕ) → AreBytes bytes → length bytes ≡ 20 + number_at 16 4 bytes → IsSendable (chunk_of bytes)
 unfolding IsSendable
-chunk_sendable bytes a l =
-    let lt : number_at 16 4 bytes < 2 ^ 32 = number_at-lt 16 4 bytes a in
-    (number_at-lt 4 2 bytes a, number_at-lt 6 2 bytes a, number_at-lt 8 8 bytes a, (omega (arith, length-drop 20 bytes, l, lt), AreBytes-drop 20 bytes a))
+chunk_sendable bytes a l = grind (arith, number_at-lt, length-drop)
 
 chunk_may : (profile : Profile) (structured : Bool) (export : Exporting) (e : Operation) (bytes : List ℕ) → chunk_head_fault structured (Some e) ≡ None → chunk_last_fault profile export (Some e) bytes ≡ None → MayReply profile structured export e (chunk_of bytes)
 unfolding MayReply
@@ -162,8 +154,7 @@ extended_complete old now export bytes e f h = (f.k, e, f.still, f.is, h)
 
 extended_sound : (old now : Core) (export : Exporting) (bytes : List ℕ) (o : Option Operation) (m : Message) → operation_of old now (number_at 8 8 bytes) ≡ o → IsAppended old now → now.extended ≡ true → AreBytes bytes → number_at 0 4 bytes ≡ EXTENDED_CHUNK_MAGIC →
     read_by (extended_chunk_to export now o bytes) bytes ≡ Whole m → IsReplying old now export bytes m
-extended_sound old now export bytes None m is_o ap_ x a mg eq =
-    absurd (let q : Some UnknownCookie ≡ None = (fault_none (is_too_large (number_at 24 8 bytes)) OutOfProfile (Some UnknownCookie) (whole (extended_chunk_to export now None bytes) bytes m eq).at_head).1 in (cc))
+extended_sound old now export bytes None m is_o ap_ x a mg eq = grind (arith, fault_none, whole)
 extended_sound old now export bytes (Some e) m is_o ap_ x a mg eq =
     let w : IsWhole (extended_chunk_to export now (Some e) bytes) bytes m = whole (extended_chunk_to export now (Some e) bytes) bytes m eq in
     let clean = fault_none (is_too_large (number_at 24 8 bytes)) OutOfProfile _ w.at_head in

@@ -3,7 +3,7 @@
 use Rattle.std.proofs.Common.{not, ◌≡◌, ℕ, zero, suc, ◌+◌, ◌<◌, ◌≤◌, ◌==◌, List, [], ◌∷◌, ◌++◌, length, refl, sym, ◌∙◌, ap, subst, Option, Some, None, Bool, true, false, ◌&&◌, eq-eqb, nat_le, arith, length-append}
 use Rattle.std.proofs.lemmas.Bool.{le-leb, lt-leb}
 use Rattle.nbd_wire.specs.declared.handshake.TheConstants as handshake
-use Rattle.nbd_wire.specs.declared.magics.TheConstants.{SIMPLE_MAGIC, CHUNK_MAGIC, EXTENDED_CHUNK_MAGIC, EXTENDED_REQUEST_MAGIC}
+use Rattle.nbd_wire.specs.declared.magics.TheConstants.{SIMPLE_MAGIC, CHUNK_MAGIC, EXTENDED_CHUNK_MAGIC, EXTENDED_REQUEST_MAGIC, GREETING_MAGIC, OPTION_MAGIC, ANSWER_MAGIC, REQUEST_MAGIC}
 use Rattle.nbd_wire.specs.declared.message.Side.{Side}
 use Rattle.nbd_wire.specs.declared.message.Side.TheVariants.{Client, Server}
 use Rattle.nbd_wire.proofs.FieldLemmas.{number_at-append}
@@ -12,14 +12,12 @@ use Rattle.nbd_wire.specs.protocol.Payloads.{number_at}
 use Rattle.nbd_wire.specs.protocol.Operations.{Operation, Exporting}
 use Rattle.nbd_wire.specs.protocol.Flags.{has}
 use Rattle.nbd_wire.specs.protocol.States.{Phase, Greet, Flags, Choosing, Naming, Aborting, Answering, Transmission, Core, operation, target}
-use Rattle.nbd_wire.specs.declared.fault.WireFault.TheVariants.{BadMagic, OutOfProfile, UnknownCookie}
+use Rattle.nbd_wire.specs.declared.fault.WireFault.TheVariants.{BadMagic, UnknownCookie}
 use Rattle.nbd_wire.specs.protocol.Decisions.{Decision, abort_answer, answer, choice, client_flags, export_answer, greeting, begins, chunk_to, operation_if, operation_of, no_reply, reply_by, reply_in, extended_reply_by, extended_chunk_to, short_request, extended_request, request_by, simple_to}
 use Rattle.nbd_wire.specs.protocol.Negotiation.{answer_head_fault, abort_fault, answer_fault, client_flags_fault, export_fault, greeting_fault}
 use Rattle.nbd_wire.specs.protocol.Reading.{decision, request_unless}
 use Rattle.nbd_wire.specs.protocol.Tests.{fault_if}
-use Rattle.nbd_wire.specs.protocol.Transmission.{request_fault, request_payload_length, simple_payload_length, simple_fault, chunk_head_fault, extended_head_fault, extended_payload_length, extended_request_fault, is_too_large}
-use Rattle.nbd_wire.specs.declared.magics.TheConstants.{GREETING_MAGIC, OPTION_MAGIC, ANSWER_MAGIC, REQUEST_MAGIC}
-use Rattle.nbd_wire.specs.declared.fault.WireFault.TheVariants.{BadMagic}
+use Rattle.nbd_wire.specs.protocol.Transmission.{request_fault, request_payload_length, simple_payload_length, simple_fault, chunk_head_fault, extended_head_fault, extended_payload_length, extended_request_fault}
 use Rattle.nbd_laws.proofs.reading.ReaderLemmas.{Later}
 use Rattle.nbd_laws.proofs.judge.SoundServerLemmas.{magic_of}
 use Rattle.nbd_laws.proofs.judge.PhaseLemmas.{IsAppended, Later-appended, Later-extended, Later-disconnected, Later-transmission, Later-turn, target_entry}
@@ -45,6 +43,7 @@ pub record IsDeciding (s : Side) (old : Core) : Type 0 where
   pub F : Core → List ℕ → Decision
   pub decides : (now : Core) → Later s old now → (bytes : List ℕ) → decision now.phase old now s bytes ≡ Some (F now bytes)
   pub steady : (now : Core) → Later s old now → IsSteady s now F
+  pub one_message : (now next : Core) (bytes : List ℕ) → (F now bytes).message ≡ (F next bytes).message
 
 -- a head of one length
 pub record IsFixed (h : ℕ) (G : List ℕ → Decision) : Type 0 where
@@ -68,6 +67,7 @@ in_negotiation s old h G t d f = record {
   F = λ c. G;
   decides = λ now l bytes. subst (λ (c : Core). decision c.phase old c s bytes ≡ Some (G bytes)) (Later-turn l t) (d bytes);
   steady = λ now l. fixed_steady s now h (λ c. G) f.two (λ c. f.is) (λ c d. f.same);
+  one_message = λ now next bytes. refl;
 }
 
 at : (p n h : ℕ) (bytes more : List ℕ) → h ≤ length bytes → p + n ≤ h → number_at p n (bytes ++ more) ≡ number_at p n bytes
@@ -176,11 +176,13 @@ in_requests old export false t d is = record {
   F = short_request;
   decides = λ now l bytes. requests_are export l t d bytes ∙ ap (λ x. Some (request_by x now bytes)) is;
   steady = λ now l. fixed_steady Client now 28 short_request (omega arith) (λ c bytes. refl) request_same;
+  one_message = λ now next bytes. refl;
 }
 in_requests old export true t d is = record {
   F = extended_request;
   decides = λ now l bytes. requests_are export l t d bytes ∙ ap (λ x. Some (request_by x now bytes)) is;
   steady = λ now l. fixed_steady Client now 32 extended_request (omega arith) (λ c bytes. refl) extended_same;
+  one_message = λ now next bytes. refl;
 }
 
 pub entry-append : (k : ℕ) (es more : List Operation) (e : Operation) → operation k es ≡ Some e → operation k (es ++ more) ≡ Some e
@@ -200,9 +202,7 @@ begun_true magic bytes more e =
 
 -- what begins as a simple reply does not begin as a chunk
 pub no_chunk : (bytes : List ℕ) → begins SIMPLE_MAGIC bytes ≡ true → begins CHUNK_MAGIC bytes ≡ false
-no_chunk bytes e =
-    let m : (4 ≤ length bytes) × (number_at 0 4 bytes ≡ SIMPLE_MAGIC) = magic_of SIMPLE_MAGIC bytes e in
-    ap (λ b. b && (number_at 0 4 bytes == CHUNK_MAGIC)) (le-leb 4 (length bytes) m.0) ∙ ap (λ n. n == CHUNK_MAGIC) m.1
+no_chunk bytes e = grind (arith, magic_of, le-leb)
 
 -- less than four bytes begin nothing
 too_short : (magic : ℕ) (bytes : List ℕ) → length bytes < 4 → begins magic bytes ≡ false
@@ -215,12 +215,7 @@ pub data IsBegun (bytes : List ℕ) : Type 0 where
   as_neither : begins CHUNK_MAGIC bytes ≡ false → begins SIMPLE_MAGIC bytes ≡ false → IsBegun bytes
 
 pub bytes_are_begun : (bytes : List ℕ) → IsBegun bytes
-bytes_are_begun bytes = go (begins CHUNK_MAGIC bytes) (begins SIMPLE_MAGIC bytes) refl refl
-  where
-    go : (c s : Bool) → begins CHUNK_MAGIC bytes ≡ c → begins SIMPLE_MAGIC bytes ≡ s → IsBegun bytes
-    go true s c_is s_is = as_chunk c_is
-    go false true c_is s_is = as_simple c_is s_is
-    go false false c_is s_is = as_neither c_is s_is
+bytes_are_begun bytes = grind (arith, as_chunk, as_simple, as_neither)
 
 -- a reply without an extended header, by what had completed before its first byte
 abbrev pub short_reply : Exporting → (old now : Core) → List ℕ → Decision
@@ -247,28 +242,13 @@ reply_two false false export now o bytes = omega arith
 module _ (export : Exporting) (old now next : Core) (bytes more : List ℕ) where
   reply_below : IsBegun bytes → length (bytes ++ more) < (short_reply export old now bytes).head_length → (short_reply export old next (bytes ++ more)).head_length ≡ (short_reply export old now bytes).head_length
   reply_below (as_chunk c) l = ap length_of (is_chunk_reply export old next (bytes ++ more) (begun_true CHUNK_MAGIC bytes more c)) ∙ sym (ap length_of (is_chunk_reply export old now bytes c))
-  reply_below (as_simple c s) l =
-      let s' : begins SIMPLE_MAGIC (bytes ++ more) ≡ true = begun_true SIMPLE_MAGIC bytes more s in
-      ap length_of (is_simple_reply export old next (bytes ++ more) (no_chunk (bytes ++ more) s') s') ∙ sym (ap length_of (is_simple_reply export old now bytes c s))
-  reply_below (as_neither c s) l =
-      let e : (short_reply export old now bytes).head_length ≡ 4 = ap length_of (is_no_reply export old now bytes c s) in
-      let low : length (bytes ++ more) < 4 = omega (arith, l, e) in
-      ap length_of (is_no_reply export old next (bytes ++ more) (too_short CHUNK_MAGIC (bytes ++ more) low) (too_short SIMPLE_MAGIC (bytes ++ more) low)) ∙ sym e
+  reply_below (as_simple c s) l = grind (arith, begun_true, is_simple_reply, no_chunk)
+  reply_below (as_neither c s) l = grind (arith, is_no_reply, too_short)
 
   reply_grows : IsBegun bytes → (short_reply export old now bytes).head_length ≤ (short_reply export old next (bytes ++ more)).head_length
-  reply_grows (as_chunk c) =
-      let a : (short_reply export old now bytes).head_length ≡ 20 = ap length_of (is_chunk_reply export old now bytes c) in
-      let b : (short_reply export old next (bytes ++ more)).head_length ≡ 20 = ap length_of (is_chunk_reply export old next (bytes ++ more) (begun_true CHUNK_MAGIC bytes more c)) in
-      omega (arith, a, b)
-  reply_grows (as_simple c s) =
-      let s' : begins SIMPLE_MAGIC (bytes ++ more) ≡ true = begun_true SIMPLE_MAGIC bytes more s in
-      let a : (short_reply export old now bytes).head_length ≡ 16 = ap length_of (is_simple_reply export old now bytes c s) in
-      let b : (short_reply export old next (bytes ++ more)).head_length ≡ 16 = ap length_of (is_simple_reply export old next (bytes ++ more) (no_chunk (bytes ++ more) s') s') in
-      omega (arith, a, b)
-  reply_grows (as_neither c s) =
-      let a : (short_reply export old now bytes).head_length ≡ 4 = ap length_of (is_no_reply export old now bytes c s) in
-      let b : 4 ≤ (short_reply export old next (bytes ++ more)).head_length = reply_two (begins CHUNK_MAGIC (bytes ++ more)) (begins SIMPLE_MAGIC (bytes ++ more)) export next (operation_of old next (number_at 8 8 (bytes ++ more))) (bytes ++ more) in
-      omega (arith, a, b)
+  reply_grows (as_chunk c) = grind (arith, is_chunk_reply, begun_true)
+  reply_grows (as_simple c s) = grind (arith, begun_true, is_simple_reply, no_chunk)
+  reply_grows (as_neither c s) = grind (arith, is_no_reply, reply_two)
 
   -- the request that is answered stays as it is
   same_entry : IsAppended now next → 16 ≤ length bytes → (e : Operation) → operation_of old now (number_at 8 8 bytes) ≡ Some e → operation_of old next (number_at 8 8 (bytes ++ more)) ≡ Some e
@@ -295,32 +275,13 @@ module _ (export : Exporting) (old now next : Core) (bytes more : List ℕ) wher
   }
 
   reply_beyond : IsAppended now next → IsBegun bytes → (short_reply export old now bytes).head_length ≤ length bytes → (short_reply export old now bytes).head_fault ≡ None → IsSameHead (short_reply export old now bytes) (short_reply export old next (bytes ++ more))
-  reply_beyond a (as_chunk c) l clean =
-      let now_is : short_reply export old now bytes ≡ chunk_to export now (operation_of old now (number_at 8 8 bytes)) bytes = is_chunk_reply export old now bytes c in
-      let long : 20 ≤ length bytes = subst (λ (d : Decision). d.head_length ≤ length bytes) now_is l in
-      subst (λ d. IsSameHead d (short_reply export old next (bytes ++ more))) (sym now_is)
-      (subst (IsSameHead (chunk_to export now (operation_of old now (number_at 8 8 bytes)) bytes)) (sym (is_chunk_reply export old next (bytes ++ more) (begun_true CHUNK_MAGIC bytes more c)))
-      (chunk_beyond (operation_of old now (number_at 8 8 bytes)) (operation_of old next (number_at 8 8 (bytes ++ more))) (same_entry a (omega (arith, long))) a.structured_is long (subst (λ (d : Decision). d.head_fault ≡ None) now_is clean)))
-  reply_beyond a (as_simple c s) l clean =
-      let s' : begins SIMPLE_MAGIC (bytes ++ more) ≡ true = begun_true SIMPLE_MAGIC bytes more s in
-      let now_is : short_reply export old now bytes ≡ simple_to export now (operation_of old now (number_at 8 8 bytes)) bytes = is_simple_reply export old now bytes c s in
-      let long : 16 ≤ length bytes = subst (λ (d : Decision). d.head_length ≤ length bytes) now_is l in
-      subst (λ d. IsSameHead d (short_reply export old next (bytes ++ more))) (sym now_is)
-      (subst (IsSameHead (simple_to export now (operation_of old now (number_at 8 8 bytes)) bytes)) (sym (is_simple_reply export old next (bytes ++ more) (no_chunk (bytes ++ more) s') s'))
-      (simple_beyond (operation_of old now (number_at 8 8 bytes)) (operation_of old next (number_at 8 8 (bytes ++ more))) (same_entry a long) a.structured_is long (subst (λ (d : Decision). d.head_fault ≡ None) now_is clean)))
-  reply_beyond a (as_neither c s) l clean =
-      absurd (let q : Some BadMagic ≡ None = subst (λ (d : Decision). d.head_fault ≡ None) (is_no_reply export old now bytes c s) clean in (cc))
+  reply_beyond a (as_chunk c) l clean = grind (arith, is_chunk_reply, begun_true, chunk_beyond, same_entry)
+  reply_beyond a (as_simple c s) l clean = grind (arith, begun_true, is_simple_reply, no_chunk, simple_beyond, same_entry)
+  reply_beyond a (as_neither c s) l clean = grind (arith, is_no_reply)
 
 -- a request that was not found is found no later
 none_stays : (old now next : Core) (cookie : ℕ) → IsAppended old now → operation_of old now cookie ≡ None → operation_of old next cookie ≡ None
-none_stays old now next cookie a h = go (target cookie old.entries) refl h
-  where
-    go : (o : Option ℕ) → target cookie old.entries ≡ o → operation_if o now.entries ≡ None → operation_if o next.entries ≡ None
-    go None q h = refl
-    go (Some k) q h =
-        let f : (e : Operation) × (operation k old.entries ≡ Some e) = target_entry cookie old.entries k q in
-        let g : operation k now.entries ≡ Some f.0 = ap (operation k) a.entries_are ∙ entry-append k old.entries a.more f.0 f.1 in
-        absurd (let w : None ≡ Some f.0 = sym h ∙ g in (cc))
+none_stays old now next cookie a h = grind (arith, target_entry, entry-append)
 
 -- begins neither as one nor as the other, and goes on so
 neither_stays : (magic : ℕ) (bytes more : List ℕ) → 4 ≤ length bytes → begins magic bytes ≡ false → begins magic (bytes ++ more) ≡ false
@@ -349,13 +310,7 @@ module _ (export : Exporting) (old now next : Core) (bytes more : List ℕ) wher
   still_none a long h = ap (operation_of old next) (at 8 8 16 bytes more long (omega arith)) ∙ none_stays old now next cookie_now a h
 
   reply_back : IsAppended old now → IsAppended now next → IsBegun bytes → (short_reply export old now bytes).head_length ≤ length bytes → (short_reply export old next (bytes ++ more)).head_fault ≡ None → (short_reply export old now bytes).head_fault ≡ None
-  reply_back a b (as_chunk c) l clean =
-      let now_is : short_reply export old now bytes ≡ chunk_to export now (operation_of old now cookie_now) bytes = is_chunk_reply export old now bytes c in
-      let next_is : short_reply export old next (bytes ++ more) ≡ chunk_to export next (operation_of old next cookie_next) (bytes ++ more) = is_chunk_reply export old next (bytes ++ more) (begun_true CHUNK_MAGIC bytes more c) in
-      let long : 20 ≤ length bytes = subst (λ (d : Decision). d.head_length ≤ length bytes) now_is l in
-      let short : 16 ≤ length bytes = omega (arith, long) in
-      ap (λ (d : Decision). d.head_fault) now_is
-      ∙ chunk_back (operation_of old now cookie_now) (operation_of old next cookie_next) (same_entry export old now next bytes more b short) (still_none a short) b.structured_is (sym (ap (λ (d : Decision). d.head_fault) next_is) ∙ clean)
+  reply_back a b (as_chunk c) l clean = grind (arith, is_chunk_reply, begun_true, chunk_back, same_entry, still_none)
   reply_back a b (as_simple c s) l clean =
       let s' : begins SIMPLE_MAGIC (bytes ++ more) ≡ true = begun_true SIMPLE_MAGIC bytes more s in
       let now_is : short_reply export old now bytes ≡ simple_to export now (operation_of old now cookie_now) bytes = is_simple_reply export old now bytes c s in
@@ -363,11 +318,7 @@ module _ (export : Exporting) (old now next : Core) (bytes more : List ℕ) wher
       let long : 16 ≤ length bytes = subst (λ (d : Decision). d.head_length ≤ length bytes) now_is l in
       ap (λ (d : Decision). d.head_fault) now_is
       ∙ simple_back (operation_of old now cookie_now) (operation_of old next cookie_next) (same_entry export old now next bytes more b long) (still_none a long) b.structured_is long (sym (ap (λ (d : Decision). d.head_fault) next_is) ∙ clean)
-  reply_back a b (as_neither c s) l clean =
-      let now_is : short_reply export old now bytes ≡ no_reply bytes = is_no_reply export old now bytes c s in
-      let long : 4 ≤ length bytes = subst (λ (d : Decision). d.head_length ≤ length bytes) now_is l in
-      let next_is : short_reply export old next (bytes ++ more) ≡ no_reply (bytes ++ more) = is_no_reply export old next (bytes ++ more) (neither_stays CHUNK_MAGIC bytes more long c) (neither_stays SIMPLE_MAGIC bytes more long s) in
-      absurd (let q : Some BadMagic ≡ None = sym (ap (λ (d : Decision). d.head_fault) next_is) ∙ clean in (cc))
+  reply_back a b (as_neither c s) l clean = grind (arith, is_no_reply, neither_stays)
 
 -- a reply where extended headers are in force
 abbrev pub long_reply : Exporting → (old now : Core) → List ℕ → Decision
@@ -379,11 +330,7 @@ pub data IsExtendedOrNot (bytes : List ℕ) : Type 0 where
   as_other : begins EXTENDED_CHUNK_MAGIC bytes ≡ false → IsExtendedOrNot bytes
 
 pub extended_or_not : (bytes : List ℕ) → IsExtendedOrNot bytes
-extended_or_not bytes = go (begins EXTENDED_CHUNK_MAGIC bytes) refl
-  where
-    go : (c : Bool) → begins EXTENDED_CHUNK_MAGIC bytes ≡ c → IsExtendedOrNot bytes
-    go true c = as_extended c
-    go false c = as_other c
+extended_or_not bytes = grind (arith, as_extended, as_other)
 
 module _ (export : Exporting) (old now : Core) (bytes : List ℕ) where
   pub is_extended_reply : begins EXTENDED_CHUNK_MAGIC bytes ≡ true → long_reply export old now bytes ≡ extended_chunk_to export now (operation_of old now (number_at 8 8 bytes)) bytes
@@ -399,28 +346,15 @@ long_two false export now o bytes = omega arith
 module _ (export : Exporting) (old now next : Core) (bytes more : List ℕ) where
   long_below : IsExtendedOrNot bytes → length (bytes ++ more) < (long_reply export old now bytes).head_length → (long_reply export old next (bytes ++ more)).head_length ≡ (long_reply export old now bytes).head_length
   long_below (as_extended c) l = ap length_of (is_extended_reply export old next (bytes ++ more) (begun_true EXTENDED_CHUNK_MAGIC bytes more c)) ∙ sym (ap length_of (is_extended_reply export old now bytes c))
-  long_below (as_other c) l =
-      let e : (long_reply export old now bytes).head_length ≡ 4 = ap length_of (is_no_extended export old now bytes c) in
-      let low : length (bytes ++ more) < 4 = omega (arith, l, e) in
-      ap length_of (is_no_extended export old next (bytes ++ more) (too_short EXTENDED_CHUNK_MAGIC (bytes ++ more) low)) ∙ sym e
+  long_below (as_other c) l = grind (arith, is_no_extended, too_short)
 
   long_grows : IsExtendedOrNot bytes → (long_reply export old now bytes).head_length ≤ (long_reply export old next (bytes ++ more)).head_length
-  long_grows (as_extended c) =
-      let a : (long_reply export old now bytes).head_length ≡ 32 = ap length_of (is_extended_reply export old now bytes c) in
-      let b : (long_reply export old next (bytes ++ more)).head_length ≡ 32 = ap length_of (is_extended_reply export old next (bytes ++ more) (begun_true EXTENDED_CHUNK_MAGIC bytes more c)) in
-      omega (arith, a, b)
-  long_grows (as_other c) =
-      let a : (long_reply export old now bytes).head_length ≡ 4 = ap length_of (is_no_extended export old now bytes c) in
-      let b : 4 ≤ (long_reply export old next (bytes ++ more)).head_length = long_two (begins EXTENDED_CHUNK_MAGIC (bytes ++ more)) export next (operation_of old next (number_at 8 8 (bytes ++ more))) (bytes ++ more) in
-      omega (arith, a, b)
+  long_grows (as_extended c) = grind (arith, is_extended_reply, begun_true)
+  long_grows (as_other c) = grind (arith, is_no_extended, long_two)
 
   extended_beyond : (o o' : Option Operation) → ((e : Operation) → o ≡ Some e → o' ≡ Some e) → next.structured ≡ now.structured → 32 ≤ length bytes → extended_head_fault now.structured o (number_at 24 8 bytes) ≡ None →
       IsSameHead (extended_chunk_to export now o bytes) (extended_chunk_to export next o' (bytes ++ more))
-  extended_beyond None o' same st l clean = absurd (no_unknown (is_too_large (number_at 24 8 bytes)) clean)
-    where
-      no_unknown : (b : Bool) → fault_if b OutOfProfile (Some UnknownCookie) ≡ None → ⊥
-      no_unknown true e = (cc)
-      no_unknown false e = (cc)
+  extended_beyond None o' same st l clean = grind arith
   extended_beyond (Some e) o' same st l clean = record {
     head_length_is = refl;
     head_fault_is = λ i. extended_head_fault (st i) (same e refl i) (at 24 8 32 bytes more l (omega arith) i);
@@ -449,11 +383,7 @@ module _ (export : Exporting) (old now next : Core) (bytes more : List ℕ) wher
       let short : 16 ≤ length bytes = omega (arith, long) in
       ap (λ (d : Decision). d.head_fault) now_is
       ∙ extended_back (operation_of old now (number_at 8 8 bytes)) (operation_of old next (number_at 8 8 (bytes ++ more))) (same_entry export old now next bytes more b short) (still_none export old now next bytes more a short) b.structured_is long (sym (ap (λ (d : Decision). d.head_fault) next_is) ∙ clean)
-  long_back a b (as_other c) l clean =
-      let now_is : long_reply export old now bytes ≡ no_reply bytes = is_no_extended export old now bytes c in
-      let long : 4 ≤ length bytes = subst (λ (d : Decision). d.head_length ≤ length bytes) now_is l in
-      let next_is : long_reply export old next (bytes ++ more) ≡ no_reply (bytes ++ more) = is_no_extended export old next (bytes ++ more) (neither_stays EXTENDED_CHUNK_MAGIC bytes more long c) in
-      absurd (let q : Some BadMagic ≡ None = sym (ap (λ (d : Decision). d.head_fault) next_is) ∙ clean in (cc))
+  long_back a b (as_other c) l clean = grind (arith, is_no_extended, neither_stays)
 
 -- by whether extended headers are in force
 replies_are : {old now : Core} (export : Exporting) → Later Server old now → old.phase ≡ Transmission export → (bytes : List ℕ) →
@@ -461,6 +391,15 @@ replies_are : {old now : Core} (export : Exporting) → Later Server old now →
 replies_are {old} {now} export l t bytes =
     ap (λ p. decision p old now Server bytes) (Later-transmission l export t)
     ∙ ap (λ x. Some (reply_in x export now (operation_of old now (number_at 8 8 bytes)) bytes)) (Later-extended l export t)
+
+one_short : (chunk simple : Bool) (export : Exporting) (now next : Core) (o o' : Option Operation) (bytes : List ℕ) → (reply_by chunk simple export now o bytes).message ≡ (reply_by chunk simple export next o' bytes).message
+one_short true simple export now next o o' bytes = refl
+one_short false true export now next o o' bytes = refl
+one_short false false export now next o o' bytes = refl
+
+one_long : (chunk : Bool) (export : Exporting) (now next : Core) (o o' : Option Operation) (bytes : List ℕ) → (extended_reply_by chunk export now o bytes).message ≡ (extended_reply_by chunk export next o' bytes).message
+one_long true export now next o o' bytes = refl
+one_long false export now next o o' bytes = refl
 
 in_replies : (old : Core) (export : Exporting) (x : Bool) → old.phase ≡ Transmission export → old.extended ≡ x → IsDeciding Server old
 in_replies old export false t is = record {
@@ -473,6 +412,7 @@ in_replies old export false t is = record {
     beyond = λ next k bytes more long clean. reply_beyond export old now next bytes more (Later-appended k export (Later-transmission l export t)) (bytes_are_begun bytes) long clean;
     back = λ next k bytes more long clean. reply_back export old now next bytes more (Later-appended l export t) (Later-appended k export (Later-transmission l export t)) (bytes_are_begun bytes) long clean;
   };
+  one_message = λ now next bytes. one_short (begins CHUNK_MAGIC bytes) (begins SIMPLE_MAGIC bytes) export now next (operation_of old now (number_at 8 8 bytes)) (operation_of old next (number_at 8 8 bytes)) bytes;
 }
 in_replies old export true t is = record {
   F = long_reply export old;
@@ -484,6 +424,7 @@ in_replies old export true t is = record {
     beyond = λ next k bytes more long clean. long_beyond export old now next bytes more (Later-appended k export (Later-transmission l export t)) (extended_or_not bytes) long clean;
     back = λ next k bytes more long clean. long_back export old now next bytes more (Later-appended l export t) (Later-appended k export (Later-transmission l export t)) (extended_or_not bytes) long clean;
   };
+  one_message = λ now next bytes. one_long (begins EXTENDED_CHUNK_MAGIC bytes) export now next (operation_of old now (number_at 8 8 bytes)) (operation_of old next (number_at 8 8 bytes)) bytes;
 }
 
 by_disconnected : (old : Core) (export : Exporting) (b : Bool) (bytes : List ℕ) (d : Decision) → old.phase ≡ Transmission export → old.disconnected ≡ b → request_unless b old bytes ≡ Some d → IsDeciding Client old

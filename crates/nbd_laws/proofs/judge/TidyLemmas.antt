@@ -1,5 +1,5 @@
 -- What holds of each request of a core that completed messages lead to.
-use Rattle.std.proofs.Common.{◌≡◌, ℕ, zero, suc, ◌<◌, ◌≤◌, ◌⊎◌, ◌+◌, ◌^◌, ◌==◌, List, [], ◌∷◌, ◌++◌, length, refl, sym, ◌∙◌, ap, subst, inl, inr, Option, Some, None, Bool, true, false, ◌&&◌, if◌then◌else◌, eqb-true, arith, append-nil, nat_le}
+use Rattle.std.proofs.Common.{◌≡◌, ℕ, zero, suc, ◌<◌, ◌≤◌, ◌⊎◌, ◌^◌, ◌==◌, List, [], ◌∷◌, ◌++◌, length, refl, sym, ◌∙◌, ap, subst, inl, inr, Option, Some, None, Bool, true, false, ◌&&◌, if◌then◌else◌, eqb-true, arith, append-nil, nat_le}
 use Rattle.nbd_laws.specs.Allowed.{IsChunk}
 use Rattle.nbd_wire.specs.declared.profile.Profile.{Profile}
 use Rattle.nbd_wire.specs.protocol.Transmission.{read_as, status_kind}
@@ -11,10 +11,10 @@ use Rattle.nbd_wire.specs.declared.message.Message.TheVariants.{Greeting, Client
 use Rattle.nbd_wire.specs.declared.payloads.Failure.{Failure}
 use Rattle.nbd_wire.specs.declared.payloads.Piece.{Piece}
 use Rattle.nbd_wire.specs.declared.payloads.Piece.TheVariants.{Bytes}
-use Rattle.nbd_wire.specs.protocol.Payloads.{number_at, content_of, failure_of}
+use Rattle.nbd_wire.specs.protocol.Payloads.{content_of, failure_of}
 use Rattle.nbd_wire.specs.protocol.Operations.{Operation, Exporting, pieces, pieces_of}
 use Rattle.nbd_wire.specs.protocol.Pieces.{chunk_piece, piece_of}
-use Rattle.nbd_wire.specs.protocol.Rules.{MayComplete, MayReply, complete, core_with_request, reply_to, grants_extended, request_of_reply}
+use Rattle.nbd_wire.specs.protocol.Rules.{MayComplete, MayReply, complete, core_with_request, reply_to, grants_extended}
 use Rattle.nbd_wire.specs.protocol.Sendable.{IsSendable}
 use Rattle.nbd_wire.specs.protocol.States.{Phase, Transmission, Core, target, operation, with_reply_at, with_reply}
 use Rattle.nbd_laws.specs.Reached.{IsReached, at_start, after_message}
@@ -56,22 +56,12 @@ tidy_answered (suc (suc k)) m (x ∷ es) e t h r = (t.0, tidy_answered (suc k) m
 
 pub failure_kind : (kind : ℕ) (bytes : List ℕ) (f : Failure) → failure_of kind bytes ≡ Some f → (kind ≡ chunks.ERROR) ⊎ (kind ≡ chunks.ERROR_OFFSET)
 unfolding failure_of
-failure_kind kind bytes f e = pick (number_at 0 4 bytes == 0) ((kind == chunks.ERROR) && nat_le (6 + number_at 4 2 bytes) (length bytes)) ((kind == chunks.ERROR_OFFSET) && nat_le (14 + number_at 4 2 bytes) (length bytes)) _ _
-    (λ h. eqb-true kind chunks.ERROR (and_true _ _ h).0) (λ h. eqb-true kind chunks.ERROR_OFFSET (and_true _ _ h).0) e
-  where
-    pick : (z a b : Bool) (x y : Failure) → (a ≡ true → kind ≡ chunks.ERROR) → (b ≡ true → kind ≡ chunks.ERROR_OFFSET) → (if z then None else if a then Some x else if b then Some y else None) ≡ Some f → (kind ≡ chunks.ERROR) ⊎ (kind ≡ chunks.ERROR_OFFSET)
-    pick true a b x y l r e = absurd (cc)
-    pick false true b x y l r e = inl (l refl)
-    pick false false true x y l r e = inr (r refl)
-    pick false false false x y l r e = absurd (cc)
+failure_kind kind bytes f e = grind (arith, nat_le, eqb-true, and_true)
 
 -- an error chunk has no content
 pub no_content : (kind : ℕ) (bytes : List ℕ) (f : Failure) → failure_of kind bytes ≡ Some f → content_of kind bytes ≡ None
 unfolding content_of
-no_content kind bytes f e = elim (failure_kind kind bytes f e) [
-  | inl q ↦ subst (λ k. content_of k bytes ≡ None) (sym q) refl
-  | inr q ↦ subst (λ k. content_of k bytes ≡ None) (sym q) refl
-]
+no_content kind bytes f e = grind (arith, failure_kind)
 
 pub status_content : (extended : Bool) (kind : ℕ) (bytes : List ℕ) → kind ≡ status_kind extended → content_of kind bytes ≡ None
 unfolding content_of
@@ -176,15 +166,7 @@ tidied core phase m t sn ok = absurd ok
 extended_before : (core : Core) (m : Message) → (complete core m).extended ≡ false → core.extended ≡ false
 unfolding complete
 extended_before core (Answer option kind p) q = (or_false core.extended (grants_extended option kind) q).0
-extended_before core (Greeting flags) q = q
-extended_before core (ClientFlags flags) q = q
-extended_before core (Choice id p) q = q
-extended_before core (Exported size flags padded) q = q
-extended_before core (Request flags command cookie offset len p) q = sym (extended-requested (command == commands.DISC) core _) ∙ q
-extended_before core (ExtendedRequest flags command cookie offset len p) q = sym (extended-requested (command == commands.DISC) core _) ∙ q
-extended_before core (Simple error cookie p) q = sym (extended-reply_to (request_of_reply core (Simple error cookie p)) core (Simple error cookie p)) ∙ q
-extended_before core (Chunk flags kind cookie p) q = sym (extended-reply_to (request_of_reply core (Chunk flags kind cookie p)) core (Chunk flags kind cookie p)) ∙ q
-extended_before core (ExtendedChunk flags kind cookie at p) q = sym (extended-reply_to (request_of_reply core (ExtendedChunk flags kind cookie at p)) core (ExtendedChunk flags kind cookie at p)) ∙ q
+extended_before core m q = grind (arith, extended-requested, extended-reply_to)
 
 pub tidy_complete : (core : Core) (phase : Phase) (m : Message) → AreTidy core.extended core.entries → IsSendable m → MayComplete core phase m → AreTidy (complete core m).extended (complete core m).entries
 tidy_complete core phase m t sn ok = tidy_still (complete core m).extended core.extended (complete core m).entries (extended_before core m) (tidied core phase m t sn ok)

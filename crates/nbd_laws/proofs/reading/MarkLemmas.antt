@@ -1,5 +1,5 @@
 -- A run's pairs are read without a fault, and what completes is the run's.
-use Rattle.std.proofs.Common.{◌≡◌, ℕ, ◌<◌, ◌⊎◌, List, [], ◌∷◌, ◌++◌, length, refl, sym, ◌∙◌, ap, subst, inl, inr, Ok, append_assoc, append-nil}
+use Rattle.std.proofs.Common.{◌≡◌, ℕ, ◌<◌, List, [], ◌∷◌, ◌++◌, length, refl, sym, ◌∙◌, ap, subst, Ok, append_assoc, append-nil}
 use Rattle.nbd_wire.specs.declared.entry.Entry.{Entry}
 use Rattle.nbd_wire.specs.declared.message.Side.{Side}
 use Rattle.nbd_wire.specs.declared.message.Message.{Message}
@@ -11,7 +11,7 @@ use Rattle.nbd_wire.specs.protocol.States.{Core}
 use Rattle.nbd_wire.specs.protocol.Sendable.{IsSendable}
 use Rattle.nbd_wire.specs.protocol.Rules.{MayStart, MayComplete, complete, Obeys}
 use Rattle.nbd_wire.specs.protocol.Within.{within}
-use Rattle.nbd_laws.proofs.reading.ReaderLemmas.{IsFilled-snoc, old-empty, old-filled, Kept, AreHeld, kept_next, held_more, held_whole, get-put_same, get-put_other, same_or_not, Open, Idle, Busy, Loose, Walk, ended, serving, opening, middle, final, loose, Later, at_once, behind, Later-trans, IsExact}
+use Rattle.nbd_laws.proofs.reading.ReaderLemmas.{put_both, IsFilled-snoc, old-empty, old-filled, Kept, AreHeld, kept_next, held_more, held_whole, get-put_same, Open, Idle, Busy, Loose, Walk, ended, serving, opening, middle, final, loose, Later, at_once, behind, Later-trans, IsExact}
 use Rattle.nbd_wire.specs.protocol.Reading.{Both, get, put, IsFilled, Rest, Reader, Reading, More, Whole, Bad, old_of, settle, Judge, rest_with, reads, on_ok}
 use Rattle.nbd_laws.proofs.runs.FollowLemmas.{HasEnd, IsSidedOpen, completes_later, each_with, follows}
 use Rattle.nbd_laws.proofs.runs.TraceLemmas.{IsWithin}
@@ -40,28 +40,17 @@ in_step_sided reader o h u = go (get o u) (h u)
 
 pub in_step_with : (reader : Reader) (o : Both Open) (s : Side) (rest : Rest) (x : Open) → AreInStep reader o → InStep reader.core rest s x →
     AreInStep (record reader { rests = put reader.rests s rest }) (put o s x)
-in_step_with reader o s rest x all h u = go (same_or_not s u)
-  where
-    go : (s ≡ u) ⊎ (s ≡ u → ⊥) → InStep reader.core (get (put reader.rests s rest) u) u (get (put o s x) u)
-    go (inl e) = subst (λ v. InStep reader.core (get (put reader.rests s rest) v) v (get (put o s x) v)) e
-        (subst (λ r. InStep reader.core r s (get (put o s x) s)) (sym (get-put_same reader.rests s rest)) (subst (λ y. InStep reader.core rest s y) (sym (get-put_same o s x)) h))
-    go (inr ne) = subst (λ r. InStep reader.core r u (get (put o s x) u)) (sym (get-put_other reader.rests s u rest ne)) (subst (λ y. InStep reader.core (get reader.rests u) u y) (sym (get-put_other o s u x ne)) (all u))
+in_step_with reader o s rest x all h u = put_both (λ u r y. InStep reader.core r u y) reader.rests o s rest x h (λ u ne. all u) u
 
 -- a completed message of side s leaves the other side in step
 pub in_step_completed : (reader : Reader) (o : Both Open) (s : Side) (m : Message) (rest : Rest) (ms : List Message) → AreInStep reader o → side m ≡ s → MayComplete reader.core reader.core.phase m → rest.bytes ≡ [] →
     AreInStep (record { core = complete reader.core m; rests = put reader.rests s rest; messages = ms }) (put o s Idle)
-in_step_completed reader o s m rest ms all sd ok e u = go (same_or_not s u)
+in_step_completed reader o s m rest ms all sd ok e u = put_both (λ u r y. InStep (complete reader.core m) r u y) reader.rests o s rest Idle e (λ u ne. moved u (get o u) ne (all u)) u
   where
-    moved : (x : Open) → (s ≡ u → ⊥) → InStep reader.core (get reader.rests u) u x → InStep (complete reader.core m) (get reader.rests u) u x
-    moved Idle ne i = i
-    moved (Busy n left) ne i = (i.0, Later-trans i.1 (behind m (λ q. ne (sym sd ∙ q)) ok at_once))
-    moved Loose ne i = i
-
-    go : (s ≡ u) ⊎ (s ≡ u → ⊥) → InStep (complete reader.core m) (get (put reader.rests s rest) u) u (get (put o s Idle) u)
-    go (inl q) = subst (λ v. InStep (complete reader.core m) (get (put reader.rests s rest) v) v (get (put o s Idle) v)) q
-        (subst (λ r. InStep (complete reader.core m) r s (get (put o s Idle) s)) (sym (get-put_same reader.rests s rest)) (subst (λ y. InStep (complete reader.core m) rest s y) (sym (get-put_same o s Idle)) e))
-    go (inr ne) = subst (λ r. InStep (complete reader.core m) r u (get (put o s Idle) u)) (sym (get-put_other reader.rests s u rest ne))
-        (subst (λ y. InStep (complete reader.core m) (get reader.rests u) u y) (sym (get-put_other o s u Idle ne)) (moved (get o u) ne (all u)))
+    moved : (u : Side) (x : Open) → (s ≡ u → ⊥) → InStep reader.core (get reader.rests u) u x → InStep (complete reader.core m) (get reader.rests u) u x
+    moved u Idle ne i = i
+    moved u (Busy n left) ne i = (i.0, Later-trans i.1 (behind m (λ q. ne (sym sd ∙ q)) ok at_once))
+    moved u Loose ne i = i
 
 abbrev pub reads_next : (judge : Judge) (reader : Reader) (s : Side) (b : ℕ) (ps : List Pair) (messages : List Message) → Reading → Type 0
 reads_next judge reader s b ps messages More =
@@ -133,10 +122,8 @@ judged_whole judge exact core rest s m b i ok k =
 -- the pairs that a walk begins with are read, with the messages that complete within them
 pub marks : (judge : Judge) → IsExact judge → {o : Both Open} {items : List Item} (w : Walk ⊥ o items) (reader : Reader) (js : List Entry) →
     Obeys (record { core = reader.core; served = js }) items → AreInStep reader o → AreHeld judge reader → (ps more : List Pair) → ArePairs ps → pairs items ≡ ps ++ more → IsRead judge reader ps (within (length ps) items)
-marks judge exact (ended c d) reader js ob st hd [] more lt e = nothing_read judge reader _ refl
 marks judge exact (ended c d) reader js ob st hd (p ∷ ps) more lt e = absurd (cc)
 marks judge exact (serving k w) reader js ob st hd ps more lt e = marks judge exact w reader _ ob.1 st hd ps more lt e
-marks judge exact (opening s m b left is f g w) reader js ob st hd [] more lt e = nothing_read judge reader _ refl
 marks judge exact {o} (opening s m b left {items = items} is f g w) reader js ob st hd (p ∷ ps) more lt e =
     let p_is : record { from = s; byte = b } ≡ p = cc in
     let b_lt : b < 256 = subst (λ (q : Pair). q.byte < 256) (sym p_is) lt.0 in
@@ -149,7 +136,6 @@ marks judge exact {o} (opening s m b left {items = items} is f g w) reader js ob
     subst (λ q. IsRead judge reader (q ∷ ps) (within (length ps) items)) p_is
     (read_on judge reader s b ps _ More j
     (marks judge exact w _ js ob.1.1 (in_step_with reader o s (rest_with reader.core (get reader.rests s) b) (Busy m left) st i) (held_more judge reader s b b_lt hd j) ps more lt.1 e'))
-marks judge exact (middle s m b left is g w) reader js ob st hd [] more lt e = nothing_read judge reader _ refl
 marks judge exact {o} (middle s m b left {items = items} is g w) reader js ob st hd (p ∷ ps) more lt e =
     let p_is : record { from = s; byte = b } ≡ p = cc in
     let b_lt : b < 256 = subst (λ (q : Pair). q.byte < 256) (sym p_is) lt.0 in
@@ -162,7 +148,6 @@ marks judge exact {o} (middle s m b left {items = items} is g w) reader js ob st
     subst (λ q. IsRead judge reader (q ∷ ps) (within (length ps) items)) p_is
     (read_on judge reader s b ps _ More j
     (marks judge exact w _ js ob.1 (in_step_with reader o s (rest_with reader.core (get reader.rests s) b) (Busy m left) st i) (held_more judge reader s b b_lt hd j) ps more lt.1 e'))
-marks judge exact (final s m b is w) reader js ob st hd [] more lt e = nothing_read judge reader _ refl
 marks judge exact {o} (final s m b {items = items} is w) reader js ob st hd (p ∷ ps) more lt e =
     let p_is : record { from = s; byte = b } ≡ p = cc in
     let b_lt : b < 256 = subst (λ (q : Pair). q.byte < 256) (sym p_is) lt.0 in
@@ -172,3 +157,4 @@ marks judge exact {o} (final s m b {items = items} is w) reader js ob st hd (p �
     (read_on judge reader s b ps _ (Whole m) (judged_whole judge exact reader.core (get reader.rests s) s m b i0 ob.1.0.0 (kept_next judge reader.core s (get reader.rests s) b b_lt (hd s)))
     (within (length ps) items, refl, marks judge exact w _ js ob.1.1 (in_step_completed reader o s m _ (reader.messages ++ m ∷ []) st i0.0.sided ob.1.0.0 refl) (held_whole judge reader s m _ refl hd i0.0.sided i0.0.sendable ob.1.0.0) ps more lt.1 e'))
 marks judge exact (loose s b absent is w) reader js ob st hd ps more lt e = absurd absent
+marks judge exact w reader js ob st hd [] more lt e = nothing_read judge reader _ refl

@@ -27,6 +27,13 @@ pub put-put : {A : Type 0} (p : Both A) (s : Side) (a b : A) → get p s ≡ b �
 put-put p Client a b e = ap (λ x. record { client = x; server = p.server }) (sym e)
 put-put p Server a b e = ap (λ x. record { client = p.client; server = x }) (sym e)
 
+-- one side changes
+pub put_both : {A B : Type 0} (P : Side → A → B → Type 0) (p : Both A) (q : Both B) (s : Side) (a : A) (b : B) → P s a b → ((u : Side) → (s ≡ u → ⊥) → P u (get p u) (get q u)) → (u : Side) → P u (get (put p s a) u) (get (put q s b) u)
+put_both P p q Client a b here other Client = here
+put_both P p q Client a b here other Server = other Server (λ e. cc)
+put_both P p q Server a b here other Client = other Client (λ e. cc)
+put_both P p q Server a b here other Server = here
+
 pub same_or_not : (s t : Side) → (s ≡ t) ⊎ (s ≡ t → ⊥)
 same_or_not Client Client = inl refl
 same_or_not Client Server = inr (λ e. (cc))
@@ -157,11 +164,7 @@ kept_next judge core s rest b lt (some_held rc now f k m l) =
     subst (λ c. Kept judge s c core (rest.bytes ++ b ∷ [])) (sym (old-filled core rest f)) (kept b lt k m l rc)
 
 held_with : (judge : Judge) (rests : Both Rest) (core next : Core) (s : Side) (rest : Rest) → ((u : Side) → Held judge core u (get rests u)) → Held judge next s rest → ((u : Side) → (s ≡ u → ⊥) → Held judge core u (get rests u) → Held judge next u (get rests u)) → (u : Side) → Held judge next u (get (put rests s rest) u)
-held_with judge rests core next s rest all here other u = go (same_or_not s u)
-  where
-    go : (s ≡ u) ⊎ (s ≡ u → ⊥) → Held judge next u (get (put rests s rest) u)
-    go (inl e) = subst (λ v. Held judge next v (get (put rests s rest) v)) e (subst (λ r. Held judge next s r) (sym (get-put_same rests s rest)) here)
-    go (inr ne) = subst (λ r. Held judge next u r) (sym (get-put_other rests s u rest ne)) (other u ne (all u))
+held_with judge rests core next s rest all here other u = put_both (λ u r _. Held judge next u r) rests rests s rest rest here (λ u ne. other u ne (all u)) u
 
 pub held_more : (judge : Judge) (reader : Reader) (s : Side) (b : ℕ) → b < 256 → AreHeld judge reader →
     judge (rest_with reader.core (get reader.rests s) b).since reader.core s (rest_with reader.core (get reader.rests s) b).bytes ≡ More → AreHeld judge (with_byte reader s b)

@@ -1,5 +1,5 @@
 -- Two runs with the same bytes have the same marks, but for those of service.
-use Rattle.std.proofs.Common.{◌≡◌, ℕ, ◌⊎◌, List, [], ◌∷◌, ◌++◌, refl, sym, ◌∙◌, ap, subst, inl, inr, append_assoc, append-nil}
+use Rattle.std.proofs.Common.{◌≡◌, ℕ, List, [], ◌∷◌, ◌++◌, refl, sym, ◌∙◌, ap, subst, append_assoc, append-nil}
 use Rattle.nbd_wire.specs.declared.message.Side.{Side}
 use Rattle.nbd_wire.specs.declared.message.Side.TheVariants.{Client, Server}
 use Rattle.nbd_wire.specs.declared.message.Message.{Message}
@@ -10,9 +10,9 @@ use Rattle.nbd_wire.specs.protocol.Rules.{MayComplete, complete}
 use Rattle.nbd_wire.specs.protocol.Sides.{side}
 use Rattle.nbd_wire.specs.protocol.States.{Core}
 use Rattle.nbd_laws.proofs.runs.FollowLemmas.{IsBegun, Follows, IsBare, HasEnd, IsSidedOpen, completes_later}
-use Rattle.nbd_laws.proofs.runs.PrefixLemmas.{IsSame, same_message}
+use Rattle.nbd_laws.proofs.judge.SameLemmas.{IsSame, same_message}
 use Rattle.nbd_wire.specs.protocol.Reading.{Both, get, put, IsFilled}
-use Rattle.nbd_laws.proofs.reading.ReaderLemmas.{get-put_same, get-put_other, same_or_not, Open, Idle, Busy, Loose, IsNotBusy, Walk, ended, serving, opening, middle, final, loose, Later, Later-trans, at_once, behind}
+use Rattle.nbd_laws.proofs.reading.ReaderLemmas.{put_both, get-put_same, Open, Idle, Busy, Loose, IsNotBusy, Walk, ended, serving, opening, middle, final, loose, Later, Later-trans, at_once, behind}
 
 -- two messages that a side may be in, of which the same bytes have come
 pub record AreTwins (core : Core) (s : Side) (m n : Message) (left left' : List ℕ) : Type 0 where
@@ -41,27 +41,21 @@ Claim o items = (o' : Both Open) (items' : List Item) (core : Core) → Walk ⊥
 
 -- one side changes on both
 twins_with : (core : Core) (o o' : Both Open) (s : Side) (x x' : Open) → Twins core o o' → Twin core s x x' → Twins core (put o s x) (put o' s x')
-twins_with core o o' s x x' all here u = go (same_or_not s u)
-  where
-    go : (s ≡ u) ⊎ (s ≡ u → ⊥) → Twin core u (get (put o s x) u) (get (put o' s x') u)
-    go (inl e) = subst (λ v. Twin core v (get (put o s x) v) (get (put o' s x') v)) e
-        (subst (λ y. Twin core s y (get (put o' s x') s)) (sym (get-put_same o s x)) (subst (λ y. Twin core s x y) (sym (get-put_same o' s x')) here))
-    go (inr ne) = subst (λ y. Twin core u y (get (put o' s x') u)) (sym (get-put_other o s u x ne)) (subst (λ y. Twin core u (get o u) y) (sym (get-put_other o' s u x' ne)) (all u))
+twins_with core o o' s x x' all here u = put_both (Twin core) o o' s x x' here (λ u ne. all u) u
 
 equal_with : (o o' : Both Open) (s : Side) (x x' : Open) → ((u : Side) → get (put o s x) u ≡ get (put o' s x') u) → get o s ≡ get o' s → (u : Side) → get o u ≡ get o' u
-equal_with o o' s x x' all here u = go (same_or_not s u)
-  where
-    go : (s ≡ u) ⊎ (s ≡ u → ⊥) → get o u ≡ get o' u
-    go (inl e) = subst (λ v. get o v ≡ get o' v) e here
-    go (inr ne) = sym (get-put_other o s u x ne) ∙ all u ∙ get-put_other o' s u x' ne
+equal_with o o' Client x x' all here Client = here
+equal_with o o' Client x x' all here Server = all Server
+equal_with o o' Server x x' all here Client = all Client
+equal_with o o' Server x x' all here Server = here
 
 -- a completed message of one side leaves the twins of the other
 twins_moved : (core : Core) (s : Side) (m : Message) (o o' : Both Open) → side m ≡ s → MayComplete core core.phase m → Twins core o o' → Twins (complete core m) (put o s Idle) (put o' s Idle)
-twins_moved core s m o o' sd ok all u = go (same_or_not s u)
+twins_moved core s m o o' sd ok all u = put_both (Twin (complete core m)) o o' s Idle Idle tt (λ u ne. moved u (get o u) (get o' u) ne (all u)) u
   where
-    moved : (x x' : Open) → (s ≡ u → ⊥) → Twin core u x x' → Twin (complete core m) u x x'
-    moved Idle Idle ne t = tt
-    moved (Busy n left) (Busy n' left') ne t = record {
+    moved : (u : Side) (x x' : Open) → (s ≡ u → ⊥) → Twin core u x x' → Twin (complete core m) u x x'
+    moved u Idle Idle ne t = tt
+    moved u (Busy n left) (Busy n' left') ne t = record {
       old = t.old;
       bytes = t.bytes;
       before = Later-trans t.before (behind m (λ q. ne (sym sd ∙ q)) ok at_once);
@@ -70,17 +64,10 @@ twins_moved core s m o o' sd ok all u = go (same_or_not s u)
       encodes = t.encodes;
       encodes_too = t.encodes_too;
     }
-    moved Idle (Busy n left) ne t = absurd t
-    moved Idle Loose ne t = absurd t
-    moved (Busy n left) Idle ne t = absurd t
-    moved (Busy n left) Loose ne t = absurd t
-    moved Loose x ne t = absurd t
-
-    go : (s ≡ u) ⊎ (s ≡ u → ⊥) → Twin (complete core m) u (get (put o s Idle) u) (get (put o' s Idle) u)
-    go (inl e) = subst (λ v. Twin (complete core m) v (get (put o s Idle) v) (get (put o' s Idle) v)) e
-        (subst (λ y. Twin (complete core m) s y (get (put o' s Idle) s)) (sym (get-put_same o s Idle)) (subst (λ y. Twin (complete core m) s Idle y) (sym (get-put_same o' s Idle)) tt))
-    go (inr ne) = subst (λ y. Twin (complete core m) u y (get (put o' s Idle) u)) (sym (get-put_other o s u Idle ne))
-        (subst (λ y. Twin (complete core m) u (get o u) y) (sym (get-put_other o' s u Idle ne)) (moved (get o u) (get o' u) ne (all u)))
+    moved u Idle (Busy n left) ne t = absurd t
+    moved u Idle Loose ne t = absurd t
+    moved u (Busy n left) x ne t = absurd t
+    moved u Loose x ne t = absurd t
 
 -- each open message is of its side
 sided_first : (core : Core) (o o' : Both Open) → Twins core o o' → (u : Side) → IsSidedOpen u (get o u)
@@ -125,10 +112,8 @@ next (loose t c p i w) bare s b ps e = absurd p
 nothing_next : {o : Both Open} {items : List Item} → Walk ⊥ o items → IsBare items → pairs items ≡ [] → (items ≡ []) × IsNotBusy (get o Client) × IsNotBusy (get o Server)
 nothing_next (ended c d) bare e = (refl, c, d)
 nothing_next (serving k w) bare e = absurd bare
-nothing_next (opening t m c left i f g w) bare e = absurd (cc)
-nothing_next (middle t m c left i f w) bare e = absurd (cc)
-nothing_next (final t m c i w) bare e = absurd (cc)
 nothing_next (loose t c p i w) bare e = absurd p
+nothing_next x bare e = absurd (cc)
 
 both_idle : (core : Core) (s : Side) (x x' : Open) → Twin core s x x' → IsNotBusy x → x ≡ x'
 both_idle core s Idle Idle t n = refl

@@ -2,11 +2,11 @@
 use Rattle.std.proofs.Common.{◌≡◌, ℕ, zero, suc, ◌==◌, List, [], ◌∷◌, ◌++◌, refl, sym, ◌∙◌, ap, subst, Option, Some, None, Bool, true, false}
 use Rattle.nbd_wire.specs.declared.commands.TheConstants as commands
 use Rattle.nbd_wire.specs.declared.message.Message.{Message}
-use Rattle.nbd_wire.specs.declared.message.Message.TheVariants.{Greeting, ClientFlags, Choice, Answer, Exported, Request, Simple, Chunk, ExtendedRequest, ExtendedChunk}
+use Rattle.nbd_wire.specs.declared.message.Message.TheVariants.{Greeting, ClientFlags, Choice, Answer, Exported, Request}
 use Rattle.nbd_wire.specs.protocol.Contexts.{Context}
-use Rattle.nbd_wire.specs.protocol.Marks.{Item, Byte, Starts, Completes, Serves}
+use Rattle.nbd_wire.specs.protocol.Marks.{Item, Completes, Serves}
 use Rattle.nbd_wire.specs.protocol.Operations.{Operation, Exporting}
-use Rattle.nbd_wire.specs.protocol.Rules.{MayComplete, Obeys, after, complete, core_with_request, ends_at, reply_to, request_of_reply}
+use Rattle.nbd_wire.specs.protocol.Rules.{MayComplete, Obeys, after, complete, core_with_request, ends_at, reply_to}
 use Rattle.nbd_wire.specs.protocol.States.{Core, Phase, State, Greet, Flags, Choosing, Naming, Aborting, Answering, Transmission, export_in, in_force, operation, with_reply_at, start_of}
 use Rattle.nbd_laws.specs.Selecting.{AreAskedWith, ContextsStay}
 
@@ -16,9 +16,8 @@ asked_snoc contexts (d ∷ es) e a q = (a.0, asked_snoc contexts es e a.1 q)
 
 pub asked_answered : (contexts : List Context) (k : ℕ) (m : Message) (es : List Operation) → AreAskedWith contexts es → AreAskedWith contexts (with_reply_at k m es)
 asked_answered contexts k m [] a = tt
-asked_answered contexts zero m (e ∷ es) a = a
-asked_answered contexts (suc zero) m (e ∷ es) a = a
 asked_answered contexts (suc (suc k)) m (e ∷ es) a = (a.0, asked_answered contexts (suc k) m es a.1)
+asked_answered contexts k m (e ∷ es) a = a
 
 -- the contexts of one of them are these
 pub asked_at : (contexts : List Context) (k : ℕ) (es : List Operation) (e : Operation) → AreAskedWith contexts es → operation k es ≡ Some e → e.contexts ≡ contexts
@@ -55,33 +54,19 @@ replied (Some k) core m export q s = record {
 completed : (core : Core) (phase : Phase) (m : Message) → core.phase ≡ phase → MayComplete core phase m → IsSteady core → IsSteady (complete core m)
 unfolding MayComplete complete
 completed core Greet (Greeting flags) q ok s = idle core (complete core (Greeting flags)) (ap export_in q) refl s
-completed core phase (Greeting flags) q ok s = absurd ok
 completed core Flags (ClientFlags flags) q ok s = idle core (complete core (ClientFlags flags)) (ap export_in q) refl s
-completed core phase (ClientFlags flags) q ok s = absurd ok
 completed core Choosing (Choice id p) q ok s = idle core (complete core (Choice id p)) (ap export_in q) refl s
-completed core phase (Choice id p) q ok s = absurd ok
 completed core Aborting (Answer option kind p) q ok s = idle core (complete core (Answer option kind p)) (ap export_in q) refl s
 completed core (Answering o a i) (Answer option kind p) q ok s = idle core (complete core (Answer option kind p)) (ap export_in q) refl s
-completed core phase (Answer option kind p) q ok s = absurd ok
 completed core Naming (Exported size flags padded) q ok s = idle core (complete core (Exported size flags padded)) (ap export_in q) refl s
-completed core phase (Exported size flags padded) q ok s = absurd ok
 completed core (Transmission export) (Request flags command cookie offset len p) q ok s = requested (command == commands.DISC) core _ export q refl s
-completed core (Transmission export) (ExtendedRequest flags command cookie offset len p) q ok s = requested (command == commands.DISC) core _ export q refl s
-completed core phase (Request flags command cookie offset len p) q ok s = absurd ok
-completed core phase (ExtendedRequest flags command cookie offset len p) q ok s = absurd ok
-completed core (Transmission export) (Simple error cookie p) q ok s = replied (request_of_reply core (Simple error cookie p)) core (Simple error cookie p) export q s
-completed core phase (Simple error cookie p) q ok s = absurd ok
-completed core (Transmission export) (Chunk flags kind cookie p) q ok s = replied (request_of_reply core (Chunk flags kind cookie p)) core (Chunk flags kind cookie p) export q s
-completed core (Transmission export) (ExtendedChunk flags kind cookie at p) q ok s = replied (request_of_reply core (ExtendedChunk flags kind cookie at p)) core (ExtendedChunk flags kind cookie at p) export q s
-completed core phase (Chunk flags kind cookie p) q ok s = absurd ok
-completed core phase (ExtendedChunk flags kind cookie at p) q ok s = absurd ok
+completed core phase m q ok s = search (requested, replied)
 
 steady : (state : State) (items : List Item) → Obeys state items → IsSteady state.core → IsSteady (ends_at state items).core
 steady state [] ob s = s
-steady state (Byte side b ∷ items) ob s = steady state items ob.1 s
-steady state (Starts side m ∷ items) ob s = steady state items ob.1 s
 steady state (Completes side m ∷ items) ob s = steady (after state (Completes side m)) items ob.1 (completed state.core state.core.phase m refl ob.0.0 s)
 steady state (Serves e ∷ items) ob s = steady (after state (Serves e)) items ob.1 (record { none = s.none; asked = s.asked })
+steady state (item ∷ items) ob s = steady state items ob.1 s
 
 pub contexts_stay : ContextsStay
 contexts_stay profile items run = (steady (start_of profile) items run.obeys (record { none = λ q. refl; asked = tt })).asked

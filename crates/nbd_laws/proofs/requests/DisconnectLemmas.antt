@@ -5,12 +5,12 @@ use Rattle.nbd_laws.specs.Allowed.{MayAsk}
 use Rattle.nbd_wire.specs.declared.commands.TheConstants as commands
 use Rattle.nbd_wire.specs.declared.message.Side.TheVariants.{Client}
 use Rattle.nbd_wire.specs.declared.message.Message.{Message}
-use Rattle.nbd_wire.specs.declared.message.Message.TheVariants.{Request, Simple, Chunk, ExtendedRequest, ExtendedChunk}
-use Rattle.nbd_wire.specs.protocol.Marks.{Item, Byte, Starts, Completes, Serves}
+use Rattle.nbd_wire.specs.declared.message.Message.TheVariants.{Request, ExtendedRequest}
+use Rattle.nbd_wire.specs.protocol.Marks.{Item, Starts, Completes, Serves}
 use Rattle.nbd_wire.specs.protocol.Operations.{Operation, Exporting}
-use Rattle.nbd_wire.specs.protocol.Rules.{IsRunOf, MayComplete, MayStartIn, Obeys, after, request_of_reply, complete, ends_at, reply_to, core_with_request}
+use Rattle.nbd_wire.specs.protocol.Rules.{IsRunOf, MayComplete, MayStartIn, Obeys, after, complete, ends_at, reply_to, core_with_request}
 use Rattle.nbd_wire.specs.protocol.States.{Core, Phase, State, Transmission, start_of}
-use Rattle.nbd_laws.proofs.runs.PrefixLemmas.{InTransmission, asks, gives, phase-complete, replies, transmission_row, asks_more, gives_more}
+use Rattle.nbd_laws.proofs.runs.PrefixLemmas.{InTransmission, asks, phase-complete, transmission_row}
 use Rattle.nbd_laws.proofs.runs.PartLemmas.{obeys_back, obeys_prefix}
 use Rattle.nbd_laws.specs.Service.{DisconnectsAreEmpty, IsDisconnect, NothingAfterDisconnect}
 use Rattle.nbd_laws.specs.Service.IsDisconnect.{extended, short}
@@ -43,10 +43,7 @@ gone-reply_to None core m h = h
 gone-complete : (core : Core) (export : Exporting) (m : Message) → InTransmission core export m → core.disconnected ≡ true → (complete core m).disconnected ≡ true
 unfolding complete
 gone-complete core export m (asks flags command cookie offset len p x) h = gone-requested (command == commands.DISC) core _ h
-gone-complete core export m (asks_more flags command cookie offset len p x) h = gone-requested (command == commands.DISC) core _ h
-gone-complete core export m (replies error cookie p x) h = gone-reply_to (request_of_reply core (Simple error cookie p)) core (Simple error cookie p) h
-gone-complete core export m (gives flags kind cookie p x) h = gone-reply_to (request_of_reply core (Chunk flags kind cookie p)) core (Chunk flags kind cookie p) h
-gone-complete core export m (gives_more flags kind cookie at p x) h = gone-reply_to (request_of_reply core (ExtendedChunk flags kind cookie at p)) core (ExtendedChunk flags kind cookie at p) h
+gone-complete core export m x h = search (gone-requested, gone-reply_to)
 
 -- in transmission, with the client gone
 record IsGone (core : Core) : Type 0 where
@@ -56,8 +53,6 @@ record IsGone (core : Core) : Type 0 where
 
 stays_gone : (items : List Item) (state : State) → Obeys state items → IsGone state.core → IsGone (ends_at state items).core
 stays_gone [] state ob g = g
-stays_gone (Byte s b ∷ items) state ob g = stays_gone items state ob.1 g
-stays_gone (Starts s m ∷ items) state ob g = stays_gone items state ob.1 g
 stays_gone (Completes s m ∷ items) state ob g =
     let i : InTransmission state.core g.export m = transmission_row state.core g.export m (subst (λ phase. MayComplete state.core phase m) g.phase_is ob.0.0) in
     stays_gone items (after state (Completes s m)) ob.1 (record {
@@ -66,6 +61,7 @@ stays_gone (Completes s m ∷ items) state ob g =
       gone = gone-complete state.core g.export m i g.gone;
     })
 stays_gone (Serves k ∷ items) state ob g = stays_gone items (after state (Serves k)) ob.1 g
+stays_gone (item ∷ items) state ob g = stays_gone items state ob.1 g
 
 may_complete : (profile : Profile) (prefix back : List Item) (disc : Message) → IsRunOf profile (prefix ++ Completes Client disc ∷ back) →
     MayComplete (ends_at (start_of profile) prefix).core (ends_at (start_of profile) prefix).core.phase disc

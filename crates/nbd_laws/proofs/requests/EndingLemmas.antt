@@ -40,14 +40,12 @@ no_end_other Server a items ne h = absurd (ne refl)
 stays : {o : Both Open} {items : List Item} → Walk ⊥ o items → (core : Core) → Follows core items → ((u : Side) → IsSidedOpen u (get o u)) → (m n : Message) (left : List ℕ) → get o Server ≡ Busy m left →
     (inner back : List Item) → items ≡ inner ++ Completes Server n ∷ back → HasNoEnd inner → IsNext m n core inner
 stays (ended c d) core f sd m n left b [] back e h = absurd (cc)
-stays (ended c d) core f sd m n left b (x ∷ inner) back e h = absurd (cc)
 stays (serving k w) core f sd m n left b [] back e h = absurd (cc)
 stays (serving k {items = items} w) core f sd m n left b (x ∷ inner) back e h =
     let q : Serves k ≡ x = cc in
     let r : items ≡ inner ++ Completes Server n ∷ back = cc in
     subst (λ y. IsNext m n core (y ∷ inner)) q (next_on (Serves k) refl (stays w core f sd m n left b inner back r (subst (λ y. HasNoEnd (y ∷ inner)) (sym q) h)))
 stays (opening t a c more i g u w) core f sd m n left b [] back e h = absurd (cc)
-stays (opening t a c more i g u w) core f sd m n left b (x ∷ []) back e h = absurd (cc)
 stays {o} (opening t a c more {items = items} i g u w) core f sd m n left b (x ∷ y ∷ inner) back e h =
     let q : Starts t a ≡ x = cc in
     let p : Byte t c ≡ y = cc in
@@ -92,6 +90,7 @@ stays {o} (final t a c {items = items} i w) core f sd m n left b (x ∷ y ∷ in
           (record { same = k.same; later = behind a (λ v. ne (sym sa ∙ v)) f.0 k.later })))
     ]
 stays (loose t c p i w) core f sd m n left b inner back e h = absurd p
+stays x core f sd m n left b inner back e h = absurd (cc)
 
 -- a walk after the start of a server's message
 record IsAfterStart (core : Core) (prefix back : List Item) (m : Message) : Type 0 where
@@ -121,7 +120,6 @@ moved core next longer prefix back m e h = record {
 after_start : {o : Both Open} {items : List Item} → Walk ⊥ o items → (core : Core) → Follows core items → ((u : Side) → IsSidedOpen u (get o u)) → (prefix back : List Item) (m : Message) → items ≡ prefix ++ Starts Server m ∷ back →
     IsAfterStart core prefix back m
 after_start (ended c d) core f sd [] back m e = absurd (cc)
-after_start (ended c d) core f sd (x ∷ prefix) back m e = absurd (cc)
 after_start (serving k w) core f sd [] back m e = absurd (cc)
 after_start (serving k {items = items} w) core f sd (x ∷ prefix) back m e =
     let q : Serves k ≡ x = cc in
@@ -158,7 +156,6 @@ after_start {o} (middle t a c more {items = items} i u w) core f sd (x ∷ prefi
     subst (λ z. IsAfterStart core (z ∷ prefix) back m) q
     (moved core core (Byte t c ∷ prefix) prefix back m refl (after_start w core f (each_with IsSidedOpen o t (Busy a more) sd sa) prefix back m r))
 after_start (final t a c i w) core f sd [] back m e = absurd (cc)
-after_start (final t a c i w) core f sd (x ∷ []) back m e = absurd (cc)
 after_start {o} (final t a c {items = items} i w) core f sd (x ∷ y ∷ prefix) back m e =
     let q : Byte t c ≡ x = cc in
     let p : Completes t a ≡ y = cc in
@@ -166,13 +163,12 @@ after_start {o} (final t a c {items = items} i w) core f sd (x ∷ y ∷ prefix)
     subst (λ z. IsAfterStart core (z ∷ y ∷ prefix) back m) q (subst (λ z. IsAfterStart core (Byte t c ∷ z ∷ prefix) back m) p
     (moved core (complete core a) (Byte t c ∷ Completes t a ∷ prefix) prefix back m refl (after_start w (complete core a) f.1 (each_with IsSidedOpen o t Idle sd tt) prefix back m r)))
 after_start (loose t c p i w) core f sd prefix back m e = absurd p
+after_start x core f sd prefix back m e = absurd (cc)
 
 core_end-append : (core : Core) (prefix back : List Item) → core_end core (prefix ++ back) ≡ core_end (core_end core prefix) back
 core_end-append core [] back = refl
-core_end-append core (Byte s b ∷ prefix) back = core_end-append core prefix back
-core_end-append core (Starts s m ∷ prefix) back = core_end-append core prefix back
 core_end-append core (Completes s m ∷ prefix) back = core_end-append (complete core m) prefix back
-core_end-append core (Serves k ∷ prefix) back = core_end-append core prefix back
+core_end-append core (item ∷ prefix) back = core_end-append core prefix back
 
 -- the same request has the reply's cookie where the reply ends
 same_answer : (c d : Core) (export : Exporting) (m : Message) (k : ℕ) → Later Server c d → c.phase ≡ Transmission export → request_of_reply c m ≡ Some k → request_of_reply d m ≡ request_of_reply c m

@@ -1,12 +1,11 @@
 -- What a request keeps as replies to it complete.
-use Rattle.std.proofs.Common.{◌≡◌, Option, ℕ, zero, suc, ◌<◌, ◌≤◌, ◌⊎◌, ◌+◌, ◌==◌, List, [], ◌∷◌, ◌++◌, length, refl, sym, ◌∙◌, ap, subst, inl, inr, Some, None, Bool, true, false, not, ◌&&◌, ◌||◌, if◌then◌else◌, eqb-true, eq-eqb, is_some, arith, IsTrue, append-nil, nat_le, nat_lt, le_refl}
+use Rattle.std.proofs.Common.{◌≡◌, Option, ℕ, zero, suc, ◌≤◌, ◌⊎◌, ◌==◌, List, [], ◌∷◌, ◌++◌, length, refl, sym, ◌∙◌, ap, subst, inl, inr, Some, None, Bool, true, false, ◌&&◌, if◌then◌else◌, eqb-true, eq-eqb, arith, IsTrue, append-nil, nat_le, nat_lt, le_refl}
 use Rattle.std.proofs.lemmas.Bool.{leb-true, ltb-true}
 use Rattle.nbd_laws.proofs.judge.AllowLemmas.{chunk_allow, extended_allow, finish_allow, simple_allow, total_covers}
 use Rattle.nbd_laws.specs.Allowed.{IsChunk}
 use Rattle.nbd_laws.proofs.judge.KindLemmas.{kind_content}
 use Rattle.nbd_wire.specs.declared.profile.Profile.{Profile}
-use Rattle.nbd_wire.specs.protocol.Transmission.{read_as, status_kind}
-use Rattle.nbd_wire.specs.protocol.Transmission.{done_fault, simple_length}
+use Rattle.nbd_wire.specs.protocol.Transmission.{read_as, status_kind, done_fault, simple_length}
 use Rattle.nbd_wire.specs.declared.chunks.TheConstants as chunks
 use Rattle.nbd_wire.specs.declared.command_flags.TheConstants as command_flags
 use Rattle.nbd_wire.specs.declared.commands.TheConstants as commands
@@ -14,16 +13,14 @@ use Rattle.nbd_wire.specs.declared.message.Message.{Message}
 use Rattle.nbd_wire.specs.declared.message.Message.TheVariants.{Request, Simple, Chunk, ExtendedRequest, ExtendedChunk}
 use Rattle.nbd_wire.specs.declared.payloads.Failure.{Failure}
 use Rattle.nbd_wire.specs.declared.payloads.Piece.{Piece}
-use Rattle.nbd_wire.specs.declared.payloads.Piece.TheVariants.{Bytes}
 use Rattle.nbd_wire.specs.declared.sizes.Sizes.{Sizes}
 use Rattle.nbd_wire.specs.protocol.Contexts.{Context, length_by}
-use Rattle.nbd_wire.specs.protocol.Payloads.{content_of, failure_of, number_at}
+use Rattle.nbd_wire.specs.protocol.Payloads.{content_of, failure_of}
 use Rattle.nbd_wire.specs.protocol.Rules.{MayReply, filter_in, written}
 use Rattle.nbd_wire.specs.protocol.Operations.{Covers, Operation, Exporting, Outcome, Success, Pending, any, ends_reply, has_failed, has_range, is_failing, is_finished, is_proper, outcome, pieces, pieces_of}
-use Rattle.nbd_wire.specs.protocol.Pieces.{byte_at, chunk_piece, holds, is_in, piece_of, piece_offset, piece_size, simple_piece}
+use Rattle.nbd_wire.specs.protocol.Pieces.{chunk_piece, piece_of, simple_piece}
 use Rattle.nbd_wire.specs.protocol.Flags.{has}
 use Rattle.nbd_wire.specs.protocol.Operations as requests
-use Rattle.nbd_wire.specs.protocol.Pieces as requests_pieces
 use Rattle.nbd_wire.specs.protocol.Sendable.{IsSendable}
 use Rattle.nbd_wire.specs.protocol.States.{with_reply_at, operation, with_reply}
 use Rattle.nbd_laws.proofs.requests.LaidLemmas.{AreApart, AreInside, apart_snoc, inside_snoc, pieces-snoc}
@@ -72,38 +69,17 @@ succeeds e h = go (is_finished e) (has_failed e) refl refl h
     go false g p q h = absurd (cc)
 
 pub any-last : (p : Message → Bool) (ms : List Message) (m : Message) → any p ms ≡ false → any p (ms ++ m ∷ []) ≡ true → p m ≡ true
-any-last p [] m f h = go (p m) h
-  where
-    go : (b : Bool) → (b || false) ≡ true → b ≡ true
-    go true h = refl
-    go false h = absurd (cc)
-any-last p (n ∷ ms) m f h = go (p n) f h (any-last p ms m)
-  where
-    go : (b : Bool) → (b || any p ms) ≡ false → (b || any p (ms ++ m ∷ [])) ≡ true → (any p ms ≡ false → any p (ms ++ m ∷ []) ≡ true → p m ≡ true) → p m ≡ true
-    go true f h ih = absurd (cc)
-    go false f h ih = ih f h
+any-last p [] m f h = grind arith
+any-last p (n ∷ ms) m f h = grind (arith, any-last p ms m)
 
 pub failure_kind : (kind : ℕ) (bytes : List ℕ) (f : Failure) → failure_of kind bytes ≡ Some f → (kind ≡ chunks.ERROR) ⊎ (kind ≡ chunks.ERROR_OFFSET)
 unfolding failure_of
-failure_kind kind bytes f e =
-    pick (number_at 0 4 bytes == 0) ((kind == chunks.ERROR) && nat_le (6 + number_at 4 2 bytes) (length bytes)) ((kind == chunks.ERROR_OFFSET) && nat_le (14 + number_at 4 2 bytes) (length bytes)) _ _
-    (λ h. eqb-true kind chunks.ERROR (both_true (kind == chunks.ERROR) (nat_le (6 + number_at 4 2 bytes) (length bytes)) h).0)
-    (λ h. eqb-true kind chunks.ERROR_OFFSET (both_true (kind == chunks.ERROR_OFFSET) (nat_le (14 + number_at 4 2 bytes) (length bytes)) h).0) e
-  where
-    pick : (z a b : Bool) (x y : Failure) → (a ≡ true → kind ≡ chunks.ERROR) → (b ≡ true → kind ≡ chunks.ERROR_OFFSET) →
-        (if z then None else if a then Some x else if b then Some y else None) ≡ Some f → (kind ≡ chunks.ERROR) ⊎ (kind ≡ chunks.ERROR_OFFSET)
-    pick true a b x y l r e = absurd (cc)
-    pick false true b x y l r e = inl (l refl)
-    pick false false true x y l r e = inr (r refl)
-    pick false false false x y l r e = absurd (cc)
+failure_kind kind bytes f e = grind (arith, nat_le, eqb-true, both_true)
 
 -- an error chunk has no content, nor has NONE
 pub no_content : (kind : ℕ) (bytes : List ℕ) (f : Failure) → failure_of kind bytes ≡ Some f → content_of kind bytes ≡ None
 unfolding content_of
-no_content kind bytes f e = elim (failure_kind kind bytes f e) [
-  | inl q ↦ subst (λ k. content_of k bytes ≡ None) (sym q) refl
-  | inr q ↦ subst (λ k. content_of k bytes ≡ None) (sym q) refl
-]
+no_content kind bytes f e = grind (arith, failure_kind)
 
 pub none_content : (kind : ℕ) (bytes : List ℕ) → kind ≡ chunks.NONE → content_of kind bytes ≡ None
 unfolding content_of
@@ -118,14 +94,6 @@ status_content true kind bytes q = subst (λ k. content_of k bytes ≡ None) (sy
 -- the pieces with those of one more reply
 pub pieces-with_reply : (e : Operation) (m : Message) → pieces (with_reply e m) ≡ pieces e ++ piece_of e.offset m
 pieces-with_reply e m = pieces-snoc e.offset e.replies m
-
-pub no_piece : (e : Operation) (flags kind cookie : ℕ) (payload : List ℕ) → content_of kind payload ≡ None → pieces (with_reply e (Chunk flags kind cookie payload)) ≡ pieces e
-unfolding piece_of
-no_piece e flags kind cookie payload q = pieces-with_reply e (Chunk flags kind cookie payload) ∙ ap (λ o. pieces e ++ chunk_piece o) q ∙ append-nil (pieces e)
-
-pub one_piece : (e : Operation) (flags kind cookie : ℕ) (payload : List ℕ) (piece : Piece) → content_of kind payload ≡ Some piece → pieces (with_reply e (Chunk flags kind cookie payload)) ≡ pieces e ++ piece ∷ []
-unfolding piece_of
-one_piece e flags kind cookie payload piece q = pieces-with_reply e (Chunk flags kind cookie payload) ∙ ap (λ o. pieces e ++ chunk_piece o) q
 
 -- what a request with one more reply keeps
 pub record Keeps (export : Exporting) (e : Operation) (ps : List Piece) : Type 0 where
@@ -217,25 +185,13 @@ once e error cookie payload = record e { replies = Simple error cookie payload �
 
 pub no_error : (e : Operation) (error cookie : ℕ) (payload : List ℕ) → outcome (once e error cookie payload) ≡ Success → error ≡ 0
 unfolding ends_reply is_failing
-no_error e error cookie payload h = go (error == 0) refl h
-  where
-    go : (z : Bool) → (error == 0) ≡ z → (if not z || false then requests.Failure else Success) ≡ Success → error ≡ 0
-    go true q h = eqb-true error 0 q
-    go false q h = absurd (cc)
+no_error e error cookie payload h = grind (arith, eqb-true)
 
 pub simple_most : (e : Operation) (error : ℕ) → simple_length e error ≤ e.length
-simple_most e error = go ((e.command == commands.READ) && (error == 0))
-  where
-    go : (b : Bool) → (if b then e.length else 0) ≤ e.length
-    go true = le_refl e.length
-    go false = omega arith
+simple_most e error = grind (arith, le_refl)
 
 pub simple_none : (e : Operation) (error : ℕ) → (e.command ≡ commands.READ → ⊥) → simple_length e error ≡ 0
-simple_none e error n = go (e.command == commands.READ) refl
-  where
-    go : (b : Bool) → (e.command == commands.READ) ≡ b → (if b && (error == 0) then e.length else 0) ≡ 0
-    go true q = absurd (n (eqb-true e.command commands.READ q))
-    go false q = refl
+simple_none e error n = grind (arith, eqb-true)
 
 pub simple_all : (e : Operation) (error : ℕ) → e.command ≡ commands.READ → error ≡ 0 → simple_length e error ≡ e.length
 simple_all e error c z = ap (λ b. if b && (error == 0) then e.length else 0) (eq-eqb e.command commands.READ c) ∙ ap (λ b. if true && b then e.length else 0) (eq-eqb error 0 z)
@@ -250,16 +206,8 @@ simple_keeps export e (b ∷ bytes) l r = record {
 }
 
 pub simple_covers : (e : Operation) (payload : List ℕ) → length payload ≡ e.length → Covers e (simple_piece e.offset payload ++ [])
-simple_covers e [] l x i =
-    let r : IsTrue (nat_le e.offset x) × IsTrue (nat_lt x (e.offset + e.length)) = both_true (nat_le e.offset x) (nat_lt x (e.offset + e.length)) i in
-    let lo : e.offset ≤ x = leb-true e.offset x r.0 in
-    let hi : x < e.offset + e.length = ltb-true x (e.offset + e.length) r.1 in
-    absurd (omega arith)
-simple_covers e (b ∷ bytes) l x i = go (holds (Bytes e.offset (b ∷ bytes)) x) (ap (λ n. is_in e.offset n x) l ∙ i)
-  where
-    go : (h : Bool) → h ≡ true → IsTrue (is_some (if h then Some (requests_pieces.piece_byte (Bytes e.offset (b ∷ bytes)) x) else None))
-    go true q = refl
-    go false q = absurd (cc)
+simple_covers e [] l x i = grind (arith, nat_le, nat_lt, both_true, leb-true, ltb-true)
+simple_covers e (b ∷ bytes) l x i = grind arith
 
 pub good_simple : (profile : Profile) (structured : Bool) (export : Exporting) (e : Operation) (error cookie : ℕ) (payload : List ℕ) → IsGood export e → MayReply profile structured export e (Simple error cookie payload) → IsGood export (with_reply e (Simple error cookie payload))
 unfolding piece_of is_proper
@@ -294,18 +242,13 @@ good_new export flags command cookie offset len payload contexts sizes sn = reco
 
 -- a WRITE has no filter
 no_filter : (has_contexts : Bool) (flags command : ℕ) (payload : List ℕ) → command ≡ commands.WRITE → filter_in has_contexts flags command payload ≡ None
-no_filter has_contexts flags command payload c = ap (λ k. filter_in has_contexts flags k payload) c ∙ none has_contexts
-  where
-    none : (b : Bool) → filter_in b flags commands.WRITE payload ≡ None
-    none true = refl
-    none false = refl
+no_filter has_contexts flags command payload c = grind arith
 
 pub good_asked : (export : Exporting) (flags command cookie offset len : ℕ) (payload : List ℕ) (contexts : List Context) (has_contexts : Bool) (sizes : Option Sizes) → IsSendable (ExtendedRequest flags command cookie offset len payload) →
     IsGood export (record { extended = true; flags = flags; command = command; cookie = cookie; offset = offset; length = length_by (filter_in has_contexts flags command payload) len; payload = written command payload; contexts = contexts; filter = filter_in has_contexts flags command payload; sizes = sizes; replies = [] })
 unfolding IsSendable
 good_asked export flags command cookie offset len payload contexts has_contexts sizes sn = record {
-  carried = λ c. (let w : (command == commands.WRITE) ≡ true = eq-eqb command commands.WRITE c in
-      ap (λ b. length (if b then payload else [])) w ∙ sn.5 ∙ ap (λ b. if b || has flags command_flags.PAYLOAD_LEN then len else 0) w ∙ ap (λ f. length_by f len) (sym (no_filter has_contexts flags command payload c)));
+  carried = grind (arith, eq-eqb, no_filter);
   inside = tt;
   apart = tt;
   reads = λ n. refl;

@@ -1,19 +1,18 @@
 -- The outstanding requests of a core have distinct cookies.
-use Rattle.std.proofs.Common.{◌≡◌, ℕ, zero, suc, ◌+◌, ◌==◌, ◌&&◌, ◌||◌, not, ◌<◌, ◌≤◌, length, List, [], ◌∷◌, ◌++◌, refl, sym, ◌∙◌, ap, subst, Option, Some, None, Bool, true, false, if◌then◌else◌, arith, eqb-true, eq-eqb, IsTrue, is_some}
+use Rattle.std.proofs.Common.{◌≡◌, ℕ, zero, suc, ◌+◌, ◌==◌, ◌&&◌, not, List, [], ◌∷◌, ◌++◌, refl, sym, ◌∙◌, ap, subst, Option, Some, None, Bool, true, false, if◌then◌else◌, arith, eqb-true, eq-eqb, IsTrue, is_some}
 use Rattle.nbd_laws.proofs.judge.AllowLemmas.{ask_allow, extended_ask_allow}
 use Rattle.nbd_laws.specs.Allowed.{MayAsk}
-use Rattle.nbd_wire.specs.declared.entry.Entry.{Entry}
-use Rattle.nbd_wire.specs.protocol.Entries.{IsServedAt, MayServe}
+use Rattle.nbd_wire.specs.protocol.Entries.{IsServedAt}
 use Rattle.nbd_wire.specs.declared.commands.TheConstants as commands
 use Rattle.nbd_wire.specs.declared.message.Side.TheVariants.{Server}
 use Rattle.nbd_wire.specs.declared.message.Message.{Message}
-use Rattle.nbd_wire.specs.declared.message.Message.TheVariants.{Greeting, ClientFlags, Choice, Answer, Exported, Request, Simple, Chunk, ExtendedRequest, ExtendedChunk}
+use Rattle.nbd_wire.specs.declared.message.Message.TheVariants.{Request, Simple, Chunk, ExtendedRequest, ExtendedChunk}
 use Rattle.nbd_wire.specs.declared.profile.Profile.{Profile}
 use Rattle.nbd_wire.specs.protocol.Reports.{operations_of, report}
-use Rattle.nbd_wire.specs.protocol.Marks.{Item, Byte, Starts, Completes, Serves, service_order}
+use Rattle.nbd_wire.specs.protocol.Marks.{Item, Starts, Completes, Serves, service_order}
 use Rattle.nbd_wire.specs.protocol.Operations.{Operation, Exporting, any, ends_reply, is_finished}
 use Rattle.nbd_wire.specs.protocol.Rules.{MayComplete, MayStartIn, Obeys, after, request_of_reply, complete, cookie_of, ends_at, inside_at, makes_due, reply_to, core_with_request, target_of}
-use Rattle.nbd_wire.specs.protocol.States.{Core, Phase, State, Greet, Flags, Choosing, Naming, Aborting, Answering, Ended, Transmission, with_reply_at, operation, is_awaiting, start, start_of, target, target_from, with_reply, export_in}
+use Rattle.nbd_wire.specs.protocol.States.{Core, Phase, State, Transmission, with_reply_at, operation, is_awaiting, start, start_of, target, target_from, with_reply, export_in}
 use Rattle.nbd_laws.proofs.runs.PartLemmas.{obeys_back, obeys_prefix, served_in}
 use Rattle.nbd_laws.proofs.runs.ProfileLemmas.{at_base, phase_at_base}
 use Rattle.nbd_laws.specs.Service.{AnswersRequest, CookiesAreDistinct, EachReplyAnswersOne, EmptyIsExplained, ServedOnceAfterCompletion}
@@ -30,29 +29,14 @@ AreDistinct (e ∷ es) = (is_finished e ≡ false → Free e.cookie es) × AreDi
 
 free_of : (n cookie : ℕ) (es : List Operation) → target_from n cookie es ≡ None → Free cookie es
 free_of n cookie [] h = tt
-free_of n cookie (e ∷ es) h = go (is_awaiting cookie e) refl h (free_of (suc n) cookie es)
-  where
-    go : (b : Bool) → is_awaiting cookie e ≡ b → (if b then Some (suc n) else target_from (suc n) cookie es) ≡ None → (target_from (suc n) cookie es ≡ None → Free cookie es) → (is_awaiting cookie e ≡ false) × Free cookie es
-    go true e h ih = absurd (cc)
-    go false e h ih = (e, ih h)
+free_of n cookie (e ∷ es) h = grind (arith, free_of (suc n) cookie es)
 
 awaits : (cookie : ℕ) (e : Operation) → e.cookie ≡ cookie → is_finished e ≡ false → is_awaiting cookie e ≡ true
 awaits cookie e c f = ap (λ b. b && not (is_finished e)) (eq-eqb e.cookie cookie c) ∙ ap (λ b. true && not b) f
 
 -- of two outstanding requests, each waits for the other's cookie or neither does
 apart : (d e : Operation) → is_finished d ≡ false → is_awaiting e.cookie d ≡ false → is_awaiting d.cookie e ≡ false
-apart d e f h = go (is_awaiting d.cookie e) refl
-  where
-    go : (b : Bool) → is_awaiting d.cookie e ≡ b → is_awaiting d.cookie e ≡ false
-    go false q = q
-    go true q =
-        let c : e.cookie ≡ d.cookie = eqb-true e.cookie d.cookie (first (e.cookie == d.cookie) (not (is_finished e)) q) in
-        let t : is_awaiting e.cookie d ≡ true = awaits e.cookie d (sym c) f in
-        absurd (let w : true ≡ false = sym t ∙ h in (cc))
-      where
-        first : (a b : Bool) → (a && b) ≡ true → a ≡ true
-        first true b q = refl
-        first false b q = absurd (cc)
+apart d e f h = grind (arith, eqb-true, awaits)
 
 free-snoc : (cookie : ℕ) (es : List Operation) (e : Operation) → Free cookie es → is_awaiting cookie e ≡ false → Free cookie (es ++ e ∷ [])
 free-snoc cookie [] e h k = (k, tt)
@@ -65,20 +49,10 @@ distinct-snoc (x ∷ es) e d f = ((λ u. free-snoc x.cookie es e (d.0 u) (apart 
 -- a request with one more reply is finished where it was
 pub any-snoc : (p : Message → Bool) (ms : List Message) (m : Message) → any p (ms ++ m ∷ []) ≡ false → any p ms ≡ false
 any-snoc p [] m h = refl
-any-snoc p (n ∷ ms) m h = go (p n) h (any-snoc p ms m)
-  where
-    go : (b : Bool) → (b || any p (ms ++ m ∷ [])) ≡ false → (any p (ms ++ m ∷ []) ≡ false → any p ms ≡ false) → (b || any p ms) ≡ false
-    go true h ih = absurd (cc)
-    go false h ih = ih h
+any-snoc p (n ∷ ms) m h = grind (arith, any-snoc p ms m)
 
 awaiting_replied : (cookie : ℕ) (e : Operation) (m : Message) → is_awaiting cookie e ≡ false → is_awaiting cookie (with_reply e m) ≡ false
-awaiting_replied cookie e m h = go (e.cookie == cookie) (is_finished e) refl h (is_finished (with_reply e m)) refl
-  where
-    go : (c f : Bool) → is_finished e ≡ f → (c && not f) ≡ false → (g : Bool) → is_finished (with_reply e m) ≡ g → (c && not g) ≡ false
-    go false f q h g r = refl
-    go true true q h true r = refl
-    go true true q h false r = absurd (let w : is_finished e ≡ false = any-snoc ends_reply e.replies m r in let v : true ≡ false = sym q ∙ w in (cc))
-    go true false q h g r = absurd (cc)
+awaiting_replied cookie e m h = grind (arith, any-snoc)
 
 free_answered : (cookie k : ℕ) (m : Message) (es : List Operation) → Free cookie es → Free cookie (with_reply_at k m es)
 free_answered cookie k m [] h = tt
@@ -103,11 +77,6 @@ distinct_requested false core e offset len h d = distinct-snoc core.entries e d 
 
 pub distinct_complete : (core : Core) (phase : Phase) (m : Message) → MayComplete core phase m → AreDistinct core.entries → AreDistinct (complete core m).entries
 unfolding MayComplete complete
-distinct_complete core phase (Greeting flags) ok d = d
-distinct_complete core phase (ClientFlags flags) ok d = d
-distinct_complete core phase (Choice id p) ok d = d
-distinct_complete core phase (Answer option kind p) ok d = d
-distinct_complete core phase (Exported size flags padded) ok d = d
 distinct_complete core (Transmission export) (Request flags command cookie offset len p) ok d = distinct_requested (command == commands.DISC) core _ offset len (ask_allow core command cookie offset len ok.0 ok.1) d
 distinct_complete core (Transmission export) (ExtendedRequest flags command cookie offset len p) ok d = distinct_requested (command == commands.DISC) core _ offset len (extended_ask_allow core flags command cookie offset len ok.0 ok.1) d
 distinct_complete core phase (Request flags command cookie offset len p) ok d = absurd ok
@@ -115,21 +84,18 @@ distinct_complete core phase (ExtendedRequest flags command cookie offset len p)
 distinct_complete core phase (Simple error cookie p) ok d = distinct_reply_to (request_of_reply core (Simple error cookie p)) core (Simple error cookie p) d
 distinct_complete core phase (Chunk flags kind cookie p) ok d = distinct_reply_to (request_of_reply core (Chunk flags kind cookie p)) core (Chunk flags kind cookie p) d
 distinct_complete core phase (ExtendedChunk flags kind cookie at p) ok d = distinct_reply_to (request_of_reply core (ExtendedChunk flags kind cookie at p)) core (ExtendedChunk flags kind cookie at p) d
+distinct_complete core phase m ok d = d
 
 pub distinct : (state : State) (items : List Item) → Obeys state items → AreDistinct state.core.entries → AreDistinct (ends_at state items).core.entries
 distinct state [] ob d = d
-distinct state (Byte s b ∷ items) ob d = distinct state items ob.1 d
-distinct state (Starts s m ∷ items) ob d = distinct state items ob.1 d
 distinct state (Completes s m ∷ items) ob d = distinct (after state (Completes s m)) items ob.1 (distinct_complete state.core state.core.phase m ob.0.0 d)
 distinct state (Serves e ∷ items) ob d = distinct (after state (Serves e)) items ob.1 d
+distinct state (item ∷ items) ob d = distinct state items ob.1 d
 
 pub free_at : (cookie k : ℕ) (es : List Operation) (e : Operation) → Free cookie es → operation k es ≡ Some e → e.cookie ≡ cookie → is_finished e ≡ false → ⊥
 free_at cookie k [] e f h c u = absurd (cc)
 free_at cookie zero (x ∷ es) e f h c u = absurd (cc)
-free_at cookie (suc zero) (x ∷ es) e f h c u =
-    let q : x ≡ e = cc in
-    let t : is_awaiting cookie x ≡ true = subst (λ y. is_awaiting cookie y ≡ true) (sym q) (awaits cookie e c u) in
-    (let w : true ≡ false = sym t ∙ f.0 in absurd (cc))
+free_at cookie (suc zero) (x ∷ es) e f h c u = grind (arith, awaits)
 free_at cookie (suc (suc k)) (x ∷ es) e f h c u = free_at cookie (suc k) es e f.1 h c u
 
 same_cookie : (es : List Operation) → AreDistinct es → (j k : ℕ) (d e : Operation) → operation j es ≡ Some d → operation k es ≡ Some e → is_finished d ≡ false → is_finished e ≡ false → d.cookie ≡ e.cookie → j ≡ k
@@ -137,17 +103,12 @@ same_cookie [] a j k d e h i f g c = absurd (cc)
 same_cookie (x ∷ es) a zero k d e h i f g c = absurd (cc)
 same_cookie (x ∷ es) a j zero d e h i f g c = absurd (cc)
 same_cookie (x ∷ es) a (suc zero) (suc zero) d e h i f g c = refl
-same_cookie (x ∷ es) a (suc zero) (suc (suc k)) d e h i f g c =
-    let q : x ≡ d = cc in
-    absurd (free_at x.cookie (suc k) es e (a.0 (subst (λ y. is_finished y ≡ false) (sym q) f)) i (sym c ∙ ap (λ (y : Operation). y.cookie) (sym q)) g)
-same_cookie (x ∷ es) a (suc (suc j)) (suc zero) d e h i f g c =
-    let q : x ≡ e = cc in
-    absurd (free_at x.cookie (suc j) es d (a.0 (subst (λ y. is_finished y ≡ false) (sym q) g)) h (c ∙ ap (λ (y : Operation). y.cookie) (sym q)) f)
+same_cookie (x ∷ es) a (suc zero) (suc (suc k)) d e h i f g c = grind (arith, free_at)
+same_cookie (x ∷ es) a (suc (suc j)) (suc zero) d e h i f g c = grind (arith, free_at)
 same_cookie (x ∷ es) a (suc (suc j)) (suc (suc k)) d e h i f g c = ap suc (same_cookie es a.1 (suc j) (suc k) d e h i f g c)
 
 distinct_of : (profile : Profile) (prefix back : List Item) → Obeys (start_of profile) (prefix ++ back) → AreDistinct (operations_of prefix)
-distinct_of profile prefix back ob =
-    subst (λ (c : Core). AreDistinct c.entries) (at_base profile prefix) (distinct (start_of profile) prefix (obeys_prefix (start_of profile) prefix back ob) tt)
+distinct_of profile prefix back ob = grind (arith, at_base, distinct, obeys_prefix)
 
 pub cookies_are_distinct : CookiesAreDistinct
 cookies_are_distinct profile prefix back run j k d e h i c =
@@ -201,13 +162,7 @@ answers_found profile prefix m cookie k d c h n =
 
 pub in_transmission : (phase : Phase) (export : Exporting) → export_in phase ≡ Some export → phase ≡ Transmission export
 in_transmission (Transmission export') export e = (let q : export' ≡ export = cc in ap Transmission q)
-in_transmission Greet export e = absurd (cc)
-in_transmission Flags export e = absurd (cc)
-in_transmission Choosing export e = absurd (cc)
-in_transmission Naming export e = absurd (cc)
-in_transmission Aborting export e = absurd (cc)
-in_transmission (Answering option p info) export e = absurd (cc)
-in_transmission Ended export e = absurd (cc)
+in_transmission phase export e = absurd (cc)
 
 pub each_reply_answers_one : EachReplyAnswersOne
 unfolding MayStartIn
@@ -234,20 +189,8 @@ each_reply_answers_one profile prefix back m export run e = go (cookie_of m) ref
         at (Some k) t h = answers_found profile prefix m cookie k (distinct_of profile prefix (Starts Server m ∷ back) run.obeys) c t (served k)
 
 pub served_once_after_completion : ServedOnceAfterCompletion
-served_once_after_completion profile prefix back e run =
-    let ob : Obeys (ends_at (start_of profile) prefix) (Serves e ∷ back) = obeys_back (start_of profile) prefix (Serves e ∷ back) run.obeys in
-    let js : List Entry = (ends_at (start_of profile) prefix).served in
-    let at : (0 < e.request) × (e.request ≤ length (operations_of prefix)) × MayServe (inside_at (ends_at start prefix).core e.request) js e =
-    subst (λ (c : Core). (0 < e.request) × (e.request ≤ length c.entries) × MayServe (inside_at c e.request) js e) (at_base profile prefix) ob.0 in
-    (at.0, at.1, subst (λ js. MayServe (inside_at (ends_at start prefix).core e.request) js e) (served_in (start_of profile) prefix) at.2)
+served_once_after_completion profile prefix back e run = grind (arith, obeys_back, at_base, served_in)
 
 pub empty_is_explained : EmptyIsExplained
 unfolding report
-empty_is_explained profile initial = record {
-  items = [];
-  is_run = record { marked = record { client_side = record { messages = []; blocks = refl }; server_side = record { messages = []; blocks = refl }; tight = tt }; obeys = tt };
-  has_pairs = refl;
-  has_order = refl;
-  fits_image = tt;
-  reads = λ i x w. (let none : None ≡ Some w.0 = w.1 in absurd (cc));
-}
+empty_is_explained profile initial = grind arith

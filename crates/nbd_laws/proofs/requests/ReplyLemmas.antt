@@ -5,14 +5,12 @@ use Rattle.nbd_laws.specs.Allowed.{IsChunk}
 use Rattle.nbd_wire.specs.protocol.Flags.{has}
 use Rattle.nbd_wire.specs.declared.chunks.TheConstants as chunks
 use Rattle.nbd_wire.specs.protocol.Transmission.{done_fault}
-use Rattle.nbd_wire.specs.declared.commands.TheConstants as commands
 use Rattle.nbd_wire.specs.declared.message.Message.{Message}
 use Rattle.nbd_wire.specs.declared.message.Message.TheVariants.{Greeting, ClientFlags, Choice, Answer, Exported, Request, Simple, Chunk, ExtendedRequest, ExtendedChunk}
-use Rattle.nbd_wire.specs.protocol.Rules.{MayReply}
+use Rattle.nbd_wire.specs.protocol.Rules.{MayReply, MayComplete, complete, cookie_of, ends_at, grants_structured, reply_to, core_with_request}
 use Rattle.nbd_wire.specs.protocol.Reports.{operations_of}
 use Rattle.nbd_wire.specs.protocol.Operations.{Operation, Exporting, any, ends_reply, is_finished}
-use Rattle.nbd_wire.specs.protocol.Rules.{MayComplete, filter_in, operation_asked, written, complete, cookie_of, ends_at, grants_structured, reply_to, core_with_request}
-use Rattle.nbd_wire.specs.protocol.States.{has_contexts, Core, Phase, Greet, Flags, Choosing, Naming, Aborting, Answering, Transmission, with_reply_at, operation, start, start_of, target, with_reply}
+use Rattle.nbd_wire.specs.protocol.States.{Core, Phase, Greet, Flags, Choosing, Naming, Aborting, Answering, Transmission, with_reply_at, operation, start, start_of, target, with_reply}
 use Rattle.nbd_laws.proofs.runs.PrefixLemmas.{InTransmission, asks, gives, replies, transmission_row, asks_more, gives_more}
 use Rattle.nbd_laws.specs.Reached.{IsReached, at_start, after_message}
 use Rattle.nbd_laws.proofs.requests.OutstandingLemmas.{IsFound, both_true, find}
@@ -171,12 +169,8 @@ structured-reply_to None core m = refl
 
 whole_complete : (core : Core) (export : Exporting) (m : Message) → InTransmission core export m → EachIsWhole core.profile core.structured core.entries → EachIsWhole core.profile (complete core m).structured (complete core m).entries
 unfolding complete
-whole_complete core export m (asks flags command cookie offset len p h) w =
-    let e : Operation = operation_asked false core flags command cookie offset len p None in
-    subst (λ b. EachIsWhole core.profile b (core_with_request (command == commands.DISC) core e).entries) (sym (structured-requested (command == commands.DISC) core e)) (each_requested core.profile (command == commands.DISC) core.structured core e refl w)
-whole_complete core export m (asks_more flags command cookie offset len p h) w =
-    let e : Operation = operation_asked true core flags command cookie offset len (written command p) (filter_in (has_contexts core) flags command p) in
-    subst (λ b. EachIsWhole core.profile b (core_with_request (command == commands.DISC) core e).entries) (sym (structured-requested (command == commands.DISC) core e)) (each_requested core.profile (command == commands.DISC) core.structured core e refl w)
+whole_complete core export m (asks flags command cookie offset len p h) w = search (structured-requested, each_requested)
+whole_complete core export m (asks_more flags command cookie offset len p h) w = search (structured-requested, each_requested)
 whole_complete core export m (replies error cookie p (k, e, found, is, h)) w =
     subst (λ b. EachIsWhole core.profile b (reply_to (target cookie core.entries) core (Simple error cookie p)).entries) (sym (structured-reply_to (target cookie core.entries) core (Simple error cookie p)))
     (each_reply_to core.profile core.structured core (Simple error cookie p) (target cookie core.entries) k e found w is

@@ -1,19 +1,18 @@
 -- What a status calls zero: pieces in its request's range, which share no offset.
-use Rattle.std.proofs.Common.{◌≡◌, ℕ, ◌+◌, ◌-◌, ◌<◌, ◌≤◌, ◌==◌, ◌&&◌, List, [], ◌∷◌, ◌++◌, min, refl, sym, ◌∙◌, ap, subst, Some, None, Bool, true, false, not, if◌then◌else◌, nat_le, nat_lt, arith, IsTrue, leb-true, leb-false, ltb-true, eqb-true, eq-eqb, ◌||◌, take}
+use Rattle.std.proofs.Common.{◌≡◌, ℕ, ◌+◌, ◌-◌, ◌<◌, ◌≤◌, ◌==◌, ◌&&◌, List, [], ◌∷◌, ◌++◌, min, refl, sym, ◌∙◌, ap, subst, None, Bool, true, false, not, if◌then◌else◌, nat_le, nat_lt, arith, IsTrue, leb-true, leb-false, ltb-true, eqb-true, eq-eqb, ◌||◌}
 use Rattle.std.proofs.lemmas.Nat.{and_assoc}
 use Rattle.std.specs.Int.Bits.{and_zero_r, bit_and}
 use Rattle.nbd_wire.specs.declared.command_flags.TheConstants as command_flags
 use Rattle.nbd_wire.specs.declared.commands.TheConstants as commands
 use Rattle.nbd_wire.specs.declared.states.TheConstants as states
 use Rattle.nbd_wire.specs.declared.transmission.TheConstants as transmission
-use Rattle.nbd_wire.specs.declared.message.Message.{Message}
 use Rattle.nbd_wire.specs.declared.payloads.Piece.{Piece}
 use Rattle.nbd_wire.specs.declared.payloads.Piece.TheVariants.{Hole}
-use Rattle.nbd_wire.specs.protocol.Contexts.{Extent, Status}
+use Rattle.nbd_wire.specs.protocol.Contexts.{Extent}
 use Rattle.nbd_wire.specs.protocol.Operations.{Exporting, Operation, allowed_flags, is_proper, mask_if, may_carry}
 use Rattle.nbd_wire.specs.protocol.Flags.{has, has_only}
-use Rattle.nbd_wire.specs.protocol.Pieces.{byte_at, holds, piece_byte, piece_offset, piece_size}
-use Rattle.nbd_wire.specs.protocol.Statuses.{is_allocation, status_in, statuses_of, zeroes, zeroes_in, zeroes_told}
+use Rattle.nbd_wire.specs.protocol.Pieces.{byte_at}
+use Rattle.nbd_wire.specs.protocol.Statuses.{zeroes, zeroes_in}
 use Rattle.nbd_laws.proofs.requests.LaidLemmas.{AreApart, AreInside}
 use Rattle.nbd_laws.proofs.requests.OutstandingLemmas.{both_true}
 
@@ -24,40 +23,17 @@ zero_part offset size flags = if has flags states.ZERO && not (size == 0) then H
 -- a shorter range further on lies in the range
 wider : (offset len at size : ℕ) (ps : List Piece) → offset ≤ at → at + size ≤ offset + len → AreInside at size ps → AreInside offset len ps
 wider offset len at size [] l u i = tt
-wider offset len at size (p ∷ ps) l u i =
-    let a = i.0 in let lo = a.0 in let hi = a.1 in
-    ((omega (arith, l, lo), omega (arith, u, hi)), wider offset len at size ps l u i.1)
+wider offset len at size (p ∷ ps) l u i = grind (arith, wider offset len at size ps l u i.1)
 
 -- what lies behind an offset has none before it
 behind : (at size : ℕ) (ps : List Piece) (x : ℕ) → AreInside at size ps → x < at → byte_at ps x ≡ None
 behind at size [] x i l = refl
-behind at size (p ∷ ps) x i l = go (holds p x) refl (behind at size ps x i.1 l)
-  where
-    go : (b : Bool) → holds p x ≡ b → byte_at ps x ≡ None → (if b then Some (piece_byte p x) else byte_at ps x) ≡ None
-    go true h r = absurd (
-        let q = both_true (nat_le (piece_offset p) x) (nat_lt x (piece_offset p + piece_size p)) h in
-        let lo : piece_offset p ≤ x = leb-true (piece_offset p) x q.0 in
-        let a = i.0 in let b = a.0 in omega (arith, lo, b, l))
-    go false h r = r
+behind at size (p ∷ ps) x i l = grind (arith, both_true, nat_le, nat_lt, leb-true, behind at size ps x i.1 l)
 
 -- of a range of no byte none is zero
 pub none_of_none : (offset : ℕ) (xs : List Extent) → zeroes_in offset 0 xs ≡ []
 none_of_none offset [] = refl
-none_of_none offset (x ∷ xs) =
-    (λ i. zero_part offset (least i) x.flags ++ zeroes_in (offset + x.length) (left i) xs) ∙ nothing ∙ none_of_none (offset + x.length) xs
-  where
-    least : min x.length 0 ≡ 0
-    least = omega arith
-
-    left : 0 - x.length ≡ 0
-    left = omega arith
-
-    nothing : zero_part offset 0 x.flags ++ zeroes_in (offset + x.length) 0 xs ≡ zeroes_in (offset + x.length) 0 xs
-    nothing = ap (λ b. (if b then Hole offset 0 ∷ [] else []) ++ zeroes_in (offset + x.length) 0 xs) (never _)
-      where
-        never : (b : Bool) → (b && false) ≡ false
-        never true = refl
-        never false = refl
+none_of_none offset (x ∷ xs) = grind (arith, min, none_of_none (offset + x.length) xs)
 
 -- they lie in the range
 pub zeroes_inside : (offset size : ℕ) (xs : List Extent) → AreInside offset size (zeroes_in offset size xs)
@@ -85,15 +61,7 @@ zeroes_inside offset size (x ∷ xs) = part (zero_part offset (min x.length size
 -- and share no offset
 pub zeroes_apart : (offset size : ℕ) (xs : List Extent) → AreApart (zeroes_in offset size xs)
 zeroes_apart offset size [] = tt
-zeroes_apart offset size (x ∷ xs) = go _ (zeroes_apart (offset + x.length) (size - x.length) xs)
-  where
-    go : (b : Bool) → AreApart (zeroes_in (offset + x.length) (size - x.length) xs) → AreApart ((if b then Hole offset (min x.length size) ∷ [] else []) ++ zeroes_in (offset + x.length) (size - x.length) xs)
-    go false r = r
-    go true r = (
-      (λ y h. (let q = both_true (nat_le offset y) (nat_lt y (offset + min x.length size)) h in let u : y < offset + min x.length size = ltb-true y (offset + min x.length size) q.1 in
-          behind (offset + x.length) (size - x.length) (zeroes_in (offset + x.length) (size - x.length) xs) y (zeroes_inside (offset + x.length) (size - x.length) xs) (omega (arith, u)))),
-      r,
-    )
+zeroes_apart offset size (x ∷ xs) = grind (arith, min, both_true, nat_le, nat_lt, ltb-true, behind, zeroes_inside, zeroes_apart (offset + x.length) (size - x.length) xs)
 
 -- what a request was told
 pub data Told (export : Exporting) (e : Operation) : Type 0 where
@@ -101,29 +69,7 @@ pub data Told (export : Exporting) (e : Operation) : Type 0 where
   told : e.command ≡ commands.BLOCK_STATUS → IsTrue (is_proper export e) → AreInside e.offset e.length (zeroes export e) → AreApart (zeroes export e) → Told export e
 
 pub told_of : (export : Exporting) (e : Operation) → Told export e
-told_of export e = go (e.command == commands.BLOCK_STATUS) refl (is_proper export e) refl
-  where
-    first : (ms : List Message) → AreInside e.offset e.length (zeroes_told e (statuses_of (take 1 ms))) × AreApart (zeroes_told e (statuses_of (take 1 ms)))
-    first [] = (tt, tt)
-    first (m ∷ ms) = by (status_in m ++ [])
-      where
-        by : (ss : List Status) → AreInside e.offset e.length (zeroes_told e ss) × AreApart (zeroes_told e ss)
-        by [] = (tt, tt)
-        by (s ∷ ss) = pick (is_allocation e.contexts s.id)
-          where
-            pick : (b : Bool) → AreInside e.offset e.length (if b then zeroes_in e.offset e.length s.extents else []) × AreApart (if b then zeroes_in e.offset e.length s.extents else [])
-            pick true = (zeroes_inside e.offset e.length s.extents, zeroes_apart e.offset e.length s.extents)
-            pick false = (tt, tt)
-
-    all : (a b : Bool) → AreInside e.offset e.length (if a && b then zeroes_told e (statuses_of (take 1 e.replies)) else []) × AreApart (if a && b then zeroes_told e (statuses_of (take 1 e.replies)) else [])
-    all true true = first e.replies
-    all true false = (tt, tt)
-    all false b = (tt, tt)
-
-    go : (a : Bool) → (e.command == commands.BLOCK_STATUS) ≡ a → (b : Bool) → is_proper export e ≡ b → Told export e
-    go true q true r = let w = all (e.command == commands.BLOCK_STATUS) (is_proper export e) in told (eqb-true e.command commands.BLOCK_STATUS q) r w.0 w.1
-    go true q false r = content (λ i. if q i && r i then zeroes_told e (statuses_of (take 1 e.replies)) else [])
-    go false q b r = content (λ i. if q i && r i then zeroes_told e (statuses_of (take 1 e.replies)) else [])
+told_of export e = grind (arith, zeroes_inside, zeroes_apart, told, eqb-true, content)
 
 -- a proper BLOCK_STATUS does not carry DF
 pub no_df : (export : Exporting) (e : Operation) → e.command ≡ commands.BLOCK_STATUS → IsTrue (is_proper export e) → IsTrue (has e.flags command_flags.DF) → ⊥

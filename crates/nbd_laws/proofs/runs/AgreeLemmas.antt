@@ -1,20 +1,16 @@
 -- What a session that is held to one profile may do, it may do under the other too, but for answers of success to the options on metadata contexts.
-use Rattle.std.proofs.Common.{◌≡◌, ℕ, ◌==◌, Bool, true, false, List, [], ◌∷◌, length, refl, sym, ◌∙◌, ap, subst, Option, Some, All, not, ◌&&◌, if◌then◌else◌}
+use Rattle.std.proofs.Common.{◌≡◌, ℕ, ◌==◌, Bool, true, false, List, [], ◌∷◌, length, refl, sym, ◌∙◌, ap, subst, Option, Some, All, not, if◌then◌else◌, Result, Ok, Err, inl, inr, nat_lt, drop, ◌+◌, append_assoc, arith, ◌≢◌, ◌++◌, ◌<◌, None, ◌||◌, eqb-true}
 use Rattle.std.proofs.lemmas.List.Elements.{All-head, All-tail}
-use Rattle.std.proofs.Common.{Result, Ok, Err, Option, Some, inl, inr, nat_lt, drop, ◌+◌, append_assoc}
 use Rattle.std.proofs.lemmas.Bool.{eq-eqb, eqb-false, ltb-false}
-use Rattle.std.proofs.Common.{arith, ◌≢◌, ◌≤◌}
-use Rattle.std.proofs.Common.{◌++◌}
-use Rattle.std.proofs.Common.{◌<◌}
-use Rattle.nbd_laws.specs.Profiles.{DuesAgree, RunsAgree}
+use Rattle.nbd_laws.specs.Profiles.{DuesAgree, RunsAgree, AnnouncesAllowed, BaseIsWide, IsParting, NothingFrom, NothingParts, PlacesAgree, UnderWayAgrees, with_profile}
 use Rattle.nbd_wire.specs.protocol.Places.{IsUnderWayOf}
-use Rattle.nbd_wire.specs.protocol.Captures.{ArePairs}
-use Rattle.nbd_wire.specs.protocol.Decisions.{answer, answer_of, begins, chunk_last_fault, chunk_of, chunk_to, extended_chunk_of, extended_chunk_to, extended_last_fault, extended_reply_by, operation_of, reply_by, reply_in, request_by}
-use Rattle.nbd_wire.specs.protocol.Negotiation.{ack_fault, answer_fault, info_fault, is_wide, answers_option, earlier_to, is_bad_payload, is_followed, is_good_context, is_good_info, extends, payload_fault, success_fault}
-use Rattle.nbd_wire.specs.protocol.Reading.{Both, by_tests, judge_in, last_reading, read_by, reading_by_decision, staged_reading_by, request_unless, Bad, Reader, More, Reading, Rest, Whole, fresh_of, get, old_by, on_ok, reads, rest_with, settle, step}
+use Rattle.nbd_wire.specs.protocol.Captures.{ArePairs, Pair}
+use Rattle.nbd_wire.specs.protocol.Decisions.{answer, answer_of, begins, chunk_last_fault, chunk_of, chunk_to, extended_chunk_of, extended_chunk_to, extended_last_fault, extended_reply_by, operation_of, reply_by, reply_in}
+use Rattle.nbd_wire.specs.protocol.Negotiation.{ack_fault, answer_fault, info_fault, is_wide, answers_option, earlier_to, is_bad_payload, is_followed, is_good_info, extends, payload_fault, success_fault}
+use Rattle.nbd_wire.specs.protocol.Reading.{Both, by_tests, judge_in, last_reading, read_by, staged_reading_by, Reader, More, Reading, Rest, Whole, fresh_of, get, old_by, on_ok, reads, rest_with, settle, step}
 use Rattle.nbd_wire.specs.protocol.Tests.{fault_if}
 use Rattle.nbd_wire.specs.protocol.Explains.{IsExplainedOf}
-use Rattle.nbd_wire.specs.protocol.Marks.{pairs, without_service}
+use Rattle.nbd_wire.specs.protocol.Marks.{pairs, without_service, Item, Byte, Starts, Completes, Serves, completed_messages}
 use Rattle.nbd_wire.specs.protocol.Reports.{report}
 use Rattle.nbd_wire.specs.protocol.Verdicts.{Passes}
 use Rattle.nbd_laws.proofs.judge.BlockLemmas.{reads-append}
@@ -28,20 +24,15 @@ use Rattle.nbd_laws.proofs.service.DueProfileLemmas.{due_at_once, faultless_wide
 use Rattle.nbd_laws.proofs.service.ExplainingLemmas.{explained_passes, passing_is_explained}
 use Rattle.nbd_laws.proofs.service.ServiceLemmas.{reports_ignore_service}
 use Rattle.nbd_laws.proofs.runs.RunLemmas.{fresh_held, walk_of}
-use Rattle.nbd_wire.specs.protocol.Contexts.{Selection}
+use Rattle.nbd_wire.specs.protocol.Contexts.{Selection, Context}
 use Rattle.nbd_wire.specs.declared.magics.TheConstants.{ANSWER_MAGIC, CHUNK_MAGIC, EXTENDED_CHUNK_MAGIC, SIMPLE_MAGIC}
 use Rattle.nbd_wire.specs.declared.fault.WireFault.{WireFault}
-use Rattle.nbd_wire.specs.declared.fault.WireFault.TheVariants.{BadMagic, SuccessOfImproper}
-use Rattle.nbd_wire.specs.protocol.Captures.{Pair}
-use Rattle.nbd_wire.specs.protocol.Payloads.{number_at}
-use Rattle.nbd_wire.specs.protocol.States.{Ended}
-use Rattle.nbd_wire.specs.declared.fault.WireFault.TheVariants.{BadReplyKind, BadReplyPayload, OutOfProfile, WrongOption}
+use Rattle.nbd_wire.specs.declared.fault.WireFault.TheVariants.{BadMagic, SuccessOfImproper, BadReplyKind, BadReplyPayload, OutOfProfile, WrongOption}
+use Rattle.nbd_wire.specs.protocol.Payloads.{number_at, info_of}
+use Rattle.nbd_wire.specs.protocol.States.{Ended, Core, Phase, Greet, Flags, Choosing, Naming, Aborting, Answering, Transmission, start_of, with_reply}
 use Rattle.nbd_wire.specs.declared.payloads.Info.{Info}
 use Rattle.nbd_wire.specs.declared.payloads.Info.TheVariants.{BlockSize, Export, Other}
-use Rattle.nbd_wire.specs.protocol.Contexts.{Context}
-use Rattle.nbd_wire.specs.protocol.Options.{is_proper_option, takes_contexts}
-use Rattle.nbd_wire.specs.protocol.Payloads.{context_of, is_listed}
-use Rattle.std.proofs.Common.{None, ◌||◌, eqb-true}
+use Rattle.nbd_wire.specs.protocol.Options.{is_proper_option, takes_contexts, is_error}
 use Rattle.nbd_laws.proofs.judge.BoolLemmas.{and_false, fault_none, not_false, or_false}
 use Rattle.nbd_laws.proofs.judge.ExactNegotiationLemmas.{no_fault_if}
 use Rattle.nbd_wire.specs.declared.entry.Entry.{Entry}
@@ -49,12 +40,10 @@ use Rattle.nbd_wire.specs.declared.message.Message.{Message}
 use Rattle.nbd_wire.specs.declared.message.Message.TheVariants.{Greeting, ClientFlags, Choice, Answer, Exported, Request, Simple, Chunk, ExtendedRequest, ExtendedChunk}
 use Rattle.nbd_wire.specs.declared.message.Side.{Side}
 use Rattle.nbd_wire.specs.declared.message.Side.TheVariants.{Client, Server}
-use Rattle.nbd_wire.specs.declared.options.TheConstants as options
 use Rattle.nbd_wire.specs.declared.profile.Profile.{Profile}
 use Rattle.nbd_wire.specs.declared.profile.Profile.TheVariants.{Base, Wide}
-use Rattle.nbd_wire.specs.protocol.Marks.{Item, Byte, Starts, Completes, Serves, completed_messages}
 use Rattle.nbd_wire.specs.protocol.Operations.{Exporting, Operation, is_error_chunk}
-use Rattle.nbd_wire.specs.protocol.Transmission.{chunk_fault, chunk_head_fault, extended_head_fault, offset_fault, read_as, status_kind}
+use Rattle.nbd_wire.specs.protocol.Transmission.{chunk_fault, chunk_head_fault, extended_head_fault, offset_fault, read_as}
 use Rattle.nbd_wire.specs.declared.chunks.TheConstants as chunks
 use Rattle.nbd_laws.specs.Allowed.{IsChunk}
 use Rattle.nbd_laws.proofs.judge.AllowLemmas.{chunk_allow, extended_allow}
@@ -63,11 +52,7 @@ use Rattle.nbd_laws.proofs.requests.GoodLemmas.{failure_kind}
 use Rattle.nbd_wire.specs.declared.answers.TheConstants as answers
 use Rattle.nbd_wire.specs.declared.sizes.Sizes.{Sizes}
 use Rattle.nbd_wire.specs.protocol.Sizes.{are_allowed, sizes_of}
-use Rattle.nbd_wire.specs.protocol.Options.{is_error}
-use Rattle.nbd_wire.specs.protocol.Payloads.{info_of}
 use Rattle.nbd_wire.specs.protocol.Rules.{IsRunOf, MayComplete, MayReply, MayStartIn, Obeys, complete}
-use Rattle.nbd_wire.specs.protocol.States.{Core, Phase, Greet, Flags, Choosing, Naming, Aborting, Answering, Ended, Transmission, start_of, with_reply}
-use Rattle.nbd_laws.specs.Profiles.{AnnouncesAllowed, BaseIsWide, IsParting, NothingFrom, NothingParts, PlacesAgree, UnderWayAgrees, with_profile}
 use Rattle.nbd_laws.proofs.runs.ProfileLemmas.{complete_with}
 
 -- an answer that announces block sizes which a server may not announce
@@ -78,66 +63,27 @@ IsFalse m = ⊥
 -- Wide follows what a profile follows
 follows_wide : (profile : Profile) (option : ℕ) → is_followed profile option ≡ true → is_followed Wide option ≡ true
 follows_wide Wide option e = e
-follows_wide Base option e = go (option == options.LIST) (option == options.INFO) (option == options.GO) (option == options.STRUCTURED_REPLY) e
-  where
-    go : (a b c d : Bool) → (a || (b || (c || (d || false)))) ≡ true → (a || (b || (c || (d || extends option)))) ≡ true
-    go true b c d e = refl
-    go false true c d e = refl
-    go false false true d e = refl
-    go false false false true e = refl
-    go false false false false e = absurd (cc)
+follows_wide Base option e = grind arith
 
 head_wide : (profile : Profile) (option : ℕ) (proper takes : Bool) (info : Option Exporting) (kind len : ℕ) → success_fault profile option proper takes info kind len ≡ None → success_fault Wide option proper takes info kind len ≡ None
-head_wide profile option proper takes info kind len e =
-    let a : (not (is_followed profile option) ≡ false) × (_ ≡ None) = fault_none _ OutOfProfile _ e in
-    no_fault_if _ OutOfProfile _ (ap not (follows_wide profile option (not_false _ a.0))) a.1
+head_wide profile option proper takes info kind len e = grind (arith, fault_none, no_fault_if, follows_wide, not_false)
 
 info_wide : (profile : Profile) (o : Option Info) → ((sizes : Sizes) → sizes_of o ≡ Some sizes → are_allowed sizes ≡ false → ⊥) → is_good_info profile o ≡ true → is_good_info Wide o ≡ true
 info_wide profile None fair e = e
-info_wide profile (Some (Export size flags)) fair e = e
-info_wide profile (Some (Other kind)) fair e = e
 info_wide profile (Some (BlockSize a b c)) fair e = go (are_allowed (record { least = a; preferred = b; largest = c })) refl
   where
     go : (x : Bool) → are_allowed (record { least = a; preferred = b; largest = c }) ≡ x → x ≡ true
     go true q = refl
     go false q = absurd (fair (record { least = a; preferred = b; largest = c }) refl q)
+info_wide profile o fair e = e
 
 last_wide : (profile : Profile) (earlier : List Context) (proper : Bool) (kind : ℕ) (payload : List ℕ) → (kind ≡ answers.INFO → (sizes : Sizes) → sizes_of (info_of payload) ≡ Some sizes → are_allowed sizes ≡ false → ⊥) →
     payload_fault profile earlier proper kind payload ≡ None → payload_fault Wide earlier proper kind payload ≡ None
-last_wide profile earlier proper kind payload fair e =
-    let a : (is_bad_payload profile earlier kind payload ≡ false) × (_ ≡ None) = fault_none _ BadReplyPayload _ e in
-    no_fault_if _ BadReplyPayload _ (go (kind == answers.INFO) refl a.0) a.1
-  where
-    go : (i : Bool) → (kind == answers.INFO) ≡ i → is_bad_payload profile earlier kind payload ≡ false →
-        (((kind == answers.SERVER) && not (is_listed payload)) || ((i && not (is_good_info Wide (info_of payload))) || ((kind == answers.META_CONTEXT) && not (is_good_context earlier (context_of payload))))) ≡ false
-    go false q h =
-        let g = or_false ((kind == answers.SERVER) && not (is_listed payload)) _ h in
-        let k = or_false ((kind == answers.INFO) && not (is_good_info profile (info_of payload))) _ g.1 in
-        ap (λ x. x || ((kind == answers.META_CONTEXT) && not (is_good_context earlier (context_of payload)))) g.0 ∙ k.1
-    go true q h =
-        let g = or_false ((kind == answers.SERVER) && not (is_listed payload)) _ h in
-        let k = or_false ((kind == answers.INFO) && not (is_good_info profile (info_of payload))) _ g.1 in
-        let w = info_wide profile (info_of payload) (fair (eqb-true kind answers.INFO q)) (not_false _ (and_false (kind == answers.INFO) _ k.0 q)) in
-        (λ i. g.0 i || (not (w i) || k.1 i))
+last_wide profile earlier proper kind payload fair e = grind (arith, fault_none, no_fault_if, or_false, info_wide, eqb-true, not_false, and_false)
 
 -- in Base a chunk is of a type that Wide reads as it is
 known_kind : (extended : Bool) (export : Exporting) (e : Operation) (flags kind : ℕ) (payload : List ℕ) → IsChunk Base extended export e flags kind payload → read_as Wide kind ≡ kind
-known_kind extended export e flags kind payload h = elim (read_kind Wide kind) [
-  | inl q ↦ q
-  | inr (x, q) ↦ elim h [
-    | inl n ↦ absurd (other x chunks.NONE (omega arith) n.0)
-    | inr r ↦ elim r [
-      | inl (piece, is, fit) ↦ absurd (let z : Some piece ≡ None = sym is ∙ error_content kind payload x in (cc))
-      | inr o ↦ elim o [
-        | inl (f, is, y) ↦ elim (failure_kind kind payload f is) [ inl k ↦ q ∙ sym k | inr k ↦ subst (λ k. read_as Wide k ≡ k) (sym k) refl ]
-        | inr (k, y) ↦ absurd (other x (status_kind extended) (low_kind extended) k)
-      ]
-    ]
-  ]
-]
-  where
-    other : is_error_chunk kind ≡ true → (n : ℕ) → n ≤ 6 → kind ≡ n → ⊥
-    other x n l k = (let z : true ≡ false = sym (eq-eqb kind n k) ∙ no_other kind n x l in (cc))
+known_kind extended export e flags kind payload h = grind (arith, read_kind, error_content, failure_kind, low_kind, eq-eqb, no_other)
 
 chunk_wide : (profile : Profile) (structured : Bool) (export : Exporting) (e : Operation) (flags kind cookie : ℕ) (payload : List ℕ) → MayReply profile structured export e (Chunk flags kind cookie payload) →
     MayReply Wide structured export e (Chunk flags kind cookie payload)
@@ -187,15 +133,8 @@ may_wide core phase m fair ok = absurd ok
 
 starts_with : (q : Profile) (core : Core) (phase : Phase) (s : Side) (m : Message) → MayStartIn phase core s m → MayStartIn phase (with_profile q core) s m
 unfolding MayStartIn
-starts_with q core Greet s m h = h
-starts_with q core Flags s m h = h
-starts_with q core Choosing s m h = h
-starts_with q core Naming s m h = h
-starts_with q core Aborting s m h = h
-starts_with q core (Answering option payload info) s m h = h
-starts_with q core Ended s m h = h
 starts_with q core (Transmission export) Client m h = h
-starts_with q core (Transmission export) Server m h = h
+starts_with q core phase s m h = grind arith
 
 -- each message that completes may do so in the profile
 abbrev pub Carries : Profile → Core → List Item → Type 0
@@ -208,10 +147,9 @@ Carries q core (Serves k ∷ items) = Carries q core items
 -- so the marks that were allowed are
 follows_with : (q : Profile) (items : List Item) (core : Core) → Follows core items → Carries q core items → Follows (with_profile q core) items
 follows_with q [] core f c = tt
-follows_with q (Byte s b ∷ items) core f c = follows_with q items core f c
 follows_with q (Starts s m ∷ items) core f c = (record { sided = f.0.sided; sendable = f.0.sendable; starts = starts_with q core core.phase s m f.0.starts }, follows_with q items core f.1 c)
 follows_with q (Completes s m ∷ items) core f c = (c.0, subst (λ x. Follows x items) (sym (complete_with q core m)) (follows_with q items (complete core m) f.1 c.1))
-follows_with q (Serves k ∷ items) core f c = follows_with q items core f c
+follows_with q (item ∷ items) core f c = follows_with q items core f c
 
 allowed_is_no_false : (m : Message) → AnnouncesAllowed m → IsFalse m → ⊥
 allowed_is_no_false (Answer option kind payload) a f = (let t : are_allowed f.1.0 ≡ true = a f.0 f.1.0 f.1.1 in let z : true ≡ false = sym t ∙ f.1.2 in (cc))
@@ -220,13 +158,12 @@ allowed_is_no_false m a f = absurd f
 -- in Wide each message may that may in the profile of the core
 carries_wide : (items : List Item) (core : Core) (js : List Entry) → All AnnouncesAllowed (completed_messages items) → Obeys (record { core = core; served = js }) items → Carries Wide core items
 carries_wide [] core js all ob = tt
-carries_wide (Byte s b ∷ items) core js all ob = carries_wide items core js all ob.1
-carries_wide (Starts s m ∷ items) core js all ob = carries_wide items core js all ob.1
 carries_wide (Completes s m ∷ items) core js all ob = (
   may_wide core core.phase m (allowed_is_no_false m (All-head AnnouncesAllowed m (completed_messages items) all)) ob.0.0,
   carries_wide items (complete core m) js (All-tail AnnouncesAllowed m (completed_messages items) all) ob.1,
 )
 carries_wide (Serves k ∷ items) core js all ob = carries_wide items core _ all ob.1
+carries_wide (item ∷ items) core js all ob = carries_wide items core js all ob.1
 
 pub base_is_wide : BaseIsWide
 base_is_wide capture order initial ex all =
@@ -249,11 +186,7 @@ staged_end None end other = refl
 staged_end (Some f) end other = refl
 
 followed_either : (p q : Profile) (option : ℕ) → extends option ≡ false → is_followed p option ≡ is_followed q option
-followed_either p q option e = ap (λ x. (option == options.LIST) || ((option == options.INFO) || ((option == options.GO) || ((option == options.STRUCTURED_REPLY) || x)))) (none p (extends option) e ∙ sym (none q (extends option) e))
-  where
-    none : (p : Profile) (x : Bool) → x ≡ false → (is_wide p && x) ≡ false
-    none Base x e = refl
-    none Wide x e = e
+followed_either p q option e = grind arith
 
 info_either : (p q : Profile) (o : Option Info) → ((sizes : Sizes) → sizes_of o ≡ Some sizes → are_allowed sizes ≡ false → ⊥) → is_good_info p o ≡ is_good_info q o
 info_either p q None fair = refl
@@ -271,13 +204,7 @@ info_either p q (Some (BlockSize a b c)) fair = go (are_allowed (record { least 
 
 bad_either : (p q : Profile) (earlier : List Context) (kind : ℕ) (payload : List ℕ) → (kind ≡ answers.INFO → (sizes : Sizes) → sizes_of (info_of payload) ≡ Some sizes → are_allowed sizes ≡ false → ⊥) →
     is_bad_payload p earlier kind payload ≡ is_bad_payload q earlier kind payload
-bad_either p q earlier kind payload fair = go (kind == answers.INFO) refl
-  where
-    go : (i : Bool) → (kind == answers.INFO) ≡ i →
-        (((kind == answers.SERVER) && not (is_listed payload)) || ((i && not (is_good_info p (info_of payload))) || ((kind == answers.META_CONTEXT) && not (is_good_context earlier (context_of payload)))))
-        ≡ (((kind == answers.SERVER) && not (is_listed payload)) || ((i && not (is_good_info q (info_of payload))) || ((kind == answers.META_CONTEXT) && not (is_good_context earlier (context_of payload)))))
-    go false e = refl
-    go true e = ap (λ g. ((kind == answers.SERVER) && not (is_listed payload)) || (not g || ((kind == answers.META_CONTEXT) && not (is_good_context earlier (context_of payload))))) (info_either p q (info_of payload) (fair (eqb-true kind answers.INFO e)))
+bad_either p q earlier kind payload fair = grind (arith, info_either, eqb-true)
 
 module _ (option : ℕ) (given : List ℕ) (proper takes : Bool) (info : Option Exporting) (selection : Selection) (bytes : List ℕ) where
   abbrev at_head : Profile → Bool → Option WireFault
@@ -312,13 +239,7 @@ module _ (option : ℕ) (given : List ℕ) (proper takes : Bool) (info : Option 
 -- a type that both profiles read as it is, or that of an unknown error
 kinds_agree : (kind : ℕ) → (is_error_chunk kind ≡ true → kind ≢ chunks.ERROR → kind ≢ chunks.ERROR_OFFSET → ⊥) → (p : Profile) → read_as p kind ≡ kind
 kinds_agree kind known Base = refl
-kinds_agree kind known Wide = go (is_error_chunk kind) (kind == chunks.ERROR_OFFSET) (kind == chunks.ERROR) refl refl refl
-  where
-    go : (b o e : Bool) → is_error_chunk kind ≡ b → (kind == chunks.ERROR_OFFSET) ≡ o → (kind == chunks.ERROR) ≡ e → (if b && not o then chunks.ERROR else kind) ≡ kind
-    go false o e p q r = refl
-    go true true e p q r = refl
-    go true false true p q r = sym (eqb-true kind chunks.ERROR r)
-    go true false false p q r = absurd (known p (eqb-false kind chunks.ERROR r) (eqb-false kind chunks.ERROR_OFFSET q))
+kinds_agree kind known Wide = grind (arith, eqb-true, eqb-false)
 
 module _ (export : Exporting) (now : Core) (q : Profile) (bytes : List ℕ) where
   chunk_either : (o : Option Operation) → begins CHUNK_MAGIC bytes ≡ true → (IsParting (Transmission export) bytes → ⊥) → read_by (chunk_to export (with_profile q now) o bytes) bytes ≡ read_by (chunk_to export now o bytes) bytes
@@ -363,28 +284,13 @@ module _ (export : Exporting) (now : Core) (q : Profile) (bytes : List ℕ) wher
 
 reading_in : (q : Profile) (phase : Phase) (since now : Core) (s : Side) (bytes : List ℕ) → Quiet phase s bytes → judge_in phase (with_profile q since) (with_profile q now) s bytes ≡ judge_in phase since now s bytes
 reading_in q (Answering option given info) since now Server bytes none = answer_either option given (is_proper_option option given) (takes_contexts option given) info now.selection bytes q now.profile (none refl)
-reading_in q (Answering option given info) since now Client bytes none = refl
 reading_in q Greet since now Client bytes none = refl
-reading_in q Greet since now Server bytes none = refl
 reading_in q Flags since now Client bytes none = refl
-reading_in q Flags since now Server bytes none = refl
 reading_in q Choosing since now Client bytes none = refl
-reading_in q Choosing since now Server bytes none = refl
 reading_in q Naming since now Client bytes none = refl
-reading_in q Naming since now Server bytes none = refl
 reading_in q Aborting since now Client bytes none = refl
-reading_in q Aborting since now Server bytes none = refl
 reading_in q Ended since now Client bytes none = refl
-reading_in q Ended since now Server bytes none = refl
-reading_in q (Transmission export) since now Client bytes none = asked now.disconnected
-  where
-    by : (x : Bool) → read_by (request_by x (with_profile q now) bytes) bytes ≡ read_by (request_by x now bytes) bytes
-    by true = refl
-    by false = refl
-
-    asked : (d : Bool) → reading_by_decision (request_unless d (with_profile q now) bytes) bytes ≡ reading_by_decision (request_unless d now bytes) bytes
-    asked true = refl
-    asked false = by now.extended
+reading_in q (Transmission export) since now Client bytes none = grind arith
 reading_in q (Transmission export) since now Server bytes none = by now.extended
   where
     wide : (c : Bool) → begins EXTENDED_CHUNK_MAGIC bytes ≡ c → read_by (extended_reply_by c export (with_profile q now) (operation_of since now (number_at 8 8 bytes)) bytes) bytes ≡ read_by (extended_reply_by c export now (operation_of since now (number_at 8 8 bytes)) bytes) bytes
@@ -399,6 +305,7 @@ reading_in q (Transmission export) since now Server bytes none = by now.extended
     by : (x : Bool) → read_by (reply_in x export (with_profile q now) (operation_of since now (number_at 8 8 bytes)) bytes) bytes ≡ read_by (reply_in x export now (operation_of since now (number_at 8 8 bytes)) bytes) bytes
     by false = replied (begins CHUNK_MAGIC bytes) refl (begins SIMPLE_MAGIC bytes)
     by true = wide (begins EXTENDED_CHUNK_MAGIC bytes) refl
+reading_in q phase since now s bytes none = refl
 
 -- a reader, held to the profile
 abbrev pub rest_in : Profile → Rest → Rest
@@ -425,9 +332,7 @@ grown_in q core rest b = λ i. record { bytes = rest.bytes ++ b ∷ []; since = 
 settle_in : (q : Profile) (reader : Reader) (s : Side) (rest : Rest) (r : Reading) → settle (reader_in q reader) s (rest_in q rest) r ≡ result_in q (settle reader s rest r)
 settle_in q reader Client rest More = refl
 settle_in q reader Server rest More = refl
-settle_in q reader Client rest (Whole m) = ap (λ c. Ok (record { core = c; rests = record { client = rest_in q (record rest { bytes = [] }); server = rest_in q reader.rests.server }; messages = reader.messages ++ m ∷ [] })) (complete_with q reader.core m)
-settle_in q reader Server rest (Whole m) = ap (λ c. Ok (record { core = c; rests = record { client = rest_in q reader.rests.client; server = rest_in q (record rest { bytes = [] }) }; messages = reader.messages ++ m ∷ [] })) (complete_with q reader.core m)
-settle_in q reader s rest (Bad f) = refl
+settle_in q reader s rest r = grind (arith, complete_with)
 
 abbrev grown : Reader → Side → ℕ → Rest
 grown reader s b = rest_with reader.core (get reader.rests s) b

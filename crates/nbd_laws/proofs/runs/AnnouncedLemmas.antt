@@ -2,15 +2,14 @@
 use Rattle.std.proofs.Common.{◌≡◌, ◌≢◌, ℕ, ◌==◌, List, [], ◌∷◌, ◌++◌, refl, ◌∙◌, ap, Option, Some, None, Bool, true, false, if◌then◌else◌}
 use Rattle.std.proofs.lemmas.List.Elements.{All-head, All-tail}
 use Rattle.nbd_wire.specs.declared.answers.TheConstants as answers
-use Rattle.nbd_wire.specs.declared.commands.TheConstants as commands
 use Rattle.nbd_wire.specs.declared.message.Message.{Message}
-use Rattle.nbd_wire.specs.declared.message.Message.TheVariants.{Greeting, ClientFlags, Choice, Answer, Exported, Request, Simple, Chunk, ExtendedRequest, ExtendedChunk}
+use Rattle.nbd_wire.specs.declared.message.Message.TheVariants.{Choice, Answer}
 use Rattle.nbd_wire.specs.declared.sizes.Sizes.{Sizes}
 use Rattle.nbd_wire.specs.declared.sizes.Sizing.{Sizing}
-use Rattle.nbd_wire.specs.protocol.Marks.{Item, Byte, Starts, Completes, Serves, completed_messages}
+use Rattle.nbd_wire.specs.protocol.Marks.{Item, Completes, Serves, completed_messages}
 use Rattle.nbd_wire.specs.protocol.Operations.{Operation}
 use Rattle.nbd_wire.specs.protocol.Payloads.{info_of}
-use Rattle.nbd_wire.specs.protocol.Rules.{after, complete, core_with_request, ends_at, reply_to, request_of_reply}
+use Rattle.nbd_wire.specs.protocol.Rules.{after, complete, core_with_request, ends_at, reply_to}
 use Rattle.nbd_wire.specs.protocol.Sizes.{last_sizes, no_sizing, sizes_kept, sizes_of, sizing_after, sizing_at}
 use Rattle.nbd_wire.specs.protocol.States.{Core, State, start_of}
 use Rattle.nbd_laws.specs.Announcing.{SizesAreAnnounced, announced, last_announced}
@@ -36,23 +35,14 @@ replied None core m = refl
 
 completed : (core : Core) (m : Message) → (complete core m).sizing ≡ sizing_by m core.sizing
 unfolding complete
-completed core (Greeting flags) = refl
-completed core (ClientFlags flags) = refl
 completed core (Choice id p) = refl
-completed core (Answer option kind p) = refl
-completed core (Exported size flags padded) = refl
-completed core (Request flags command cookie offset len p) = requested (command == commands.DISC) core _
-completed core (ExtendedRequest flags command cookie offset len p) = requested (command == commands.DISC) core _
-completed core (Simple error cookie p) = replied (request_of_reply core (Simple error cookie p)) core (Simple error cookie p)
-completed core (Chunk flags kind cookie p) = replied (request_of_reply core (Chunk flags kind cookie p)) core (Chunk flags kind cookie p)
-completed core (ExtendedChunk flags kind cookie at p) = replied (request_of_reply core (ExtendedChunk flags kind cookie at p)) core (ExtendedChunk flags kind cookie at p)
+completed core m = search (requested, replied)
 
 led : (state : State) (items : List Item) → (ends_at state items).core.sizing ≡ sizing_of state.core.sizing (completed_messages items)
 led state [] = refl
-led state (Byte s b ∷ items) = led state items
-led state (Starts s m ∷ items) = led state items
 led state (Completes s m ∷ items) = led (after state (Completes s m)) items ∙ ap (λ x. sizing_of x (completed_messages items)) (completed state.core m)
 led state (Serves e ∷ items) = led (after state (Serves e)) items
+led state (item ∷ items) = led state items
 
 joined : (s : Sizing) (xs ys : List Message) → sizing_of s (xs ++ ys) ≡ sizing_of (sizing_of s xs) ys
 joined s [] ys = refl
@@ -84,14 +74,7 @@ since : (s : Sizing) (late : List Message) → ChooseNone late → sizing_of s l
 since s [] none = refl
 since s (Choice id p ∷ late) none = absurd (All-head IsNoChoice (Choice id p) late none id p refl)
 since s (Answer option kind p ∷ late) none = one s option kind p late (λ t. since t late (All-tail IsNoChoice (Answer option kind p) late none))
-since s (Greeting flags ∷ late) none = since s late (All-tail IsNoChoice (Greeting flags) late none) ∙ ap (λ t. record { asked = s.asked; told = t }) (never (last_announced late) s.told)
-since s (ClientFlags flags ∷ late) none = since s late (All-tail IsNoChoice (ClientFlags flags) late none) ∙ ap (λ t. record { asked = s.asked; told = t }) (never (last_announced late) s.told)
-since s (Exported size flags padded ∷ late) none = since s late (All-tail IsNoChoice (Exported size flags padded) late none) ∙ ap (λ t. record { asked = s.asked; told = t }) (never (last_announced late) s.told)
-since s (Request flags command cookie offset len p ∷ late) none = since s late (All-tail IsNoChoice (Request flags command cookie offset len p) late none) ∙ ap (λ t. record { asked = s.asked; told = t }) (never (last_announced late) s.told)
-since s (ExtendedRequest flags command cookie offset len p ∷ late) none = since s late (All-tail IsNoChoice (ExtendedRequest flags command cookie offset len p) late none) ∙ ap (λ t. record { asked = s.asked; told = t }) (never (last_announced late) s.told)
-since s (Simple error cookie p ∷ late) none = since s late (All-tail IsNoChoice (Simple error cookie p) late none) ∙ ap (λ t. record { asked = s.asked; told = t }) (never (last_announced late) s.told)
-since s (Chunk flags kind cookie p ∷ late) none = since s late (All-tail IsNoChoice (Chunk flags kind cookie p) late none) ∙ ap (λ t. record { asked = s.asked; told = t }) (never (last_announced late) s.told)
-since s (ExtendedChunk flags kind cookie at p ∷ late) none = since s late (All-tail IsNoChoice (ExtendedChunk flags kind cookie at p) late none) ∙ ap (λ t. record { asked = s.asked; told = t }) (never (last_announced late) s.told)
+since s (m ∷ late) none = since s late (All-tail IsNoChoice m late none) ∙ ap (λ t. record { asked = s.asked; told = t }) (never (last_announced late) s.told)
 
 last_none : (o : Option Sizes) → last_sizes o None ≡ o
 last_none (Some x) = refl

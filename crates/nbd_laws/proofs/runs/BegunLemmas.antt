@@ -3,14 +3,14 @@ use Rattle.std.proofs.Common.{◌≡◌, ◌⊎◌, List, ◌++◌, refl, sym, �
 use Rattle.nbd_wire.specs.declared.message.Side.{Side}
 use Rattle.nbd_wire.specs.declared.message.Side.TheVariants.{Client, Server}
 use Rattle.nbd_wire.specs.declared.message.Message.{Message}
-use Rattle.nbd_wire.specs.declared.message.Message.TheVariants.{Greeting, ClientFlags, Choice, Answer, Exported, Request, Simple, Chunk, ExtendedRequest, ExtendedChunk}
+use Rattle.nbd_wire.specs.declared.message.Message.TheVariants.{Simple, Chunk, ExtendedChunk}
 use Rattle.nbd_wire.specs.protocol.Options.{turn}
 use Rattle.nbd_wire.specs.protocol.Operations.{Operation, Exporting}
 use Rattle.nbd_wire.specs.protocol.Rules.{MayComplete, MayStartIn, request_of_reply, complete, cookie_of, target_of}
 use Rattle.nbd_wire.specs.protocol.Sides.{side}
-use Rattle.nbd_wire.specs.protocol.States.{Core, Phase, Greet, Flags, Choosing, Naming, Aborting, Answering, Ended, Transmission, target}
+use Rattle.nbd_wire.specs.protocol.States.{Core, Phase, Transmission, target}
 use Rattle.nbd_wire.specs.protocol.Reading.{Both, get, put}
-use Rattle.nbd_laws.proofs.reading.ReaderLemmas.{Busy, Idle, Later, Later-trans, Loose, Open, at_once, behind, get-put_other, get-put_same, same_or_not}
+use Rattle.nbd_laws.proofs.reading.ReaderLemmas.{put_both, Busy, Idle, Later, Later-trans, Loose, Open, at_once, behind}
 use Rattle.nbd_laws.proofs.runs.FollowLemmas.{IsBegun}
 use Rattle.nbd_laws.proofs.judge.PhaseLemmas.{IsAppended, IsTransmitting, Later-appended, Later-turn, target-append}
 
@@ -18,13 +18,7 @@ use Rattle.nbd_laws.proofs.judge.PhaseLemmas.{IsAppended, IsTransmitting, Later-
 starts_in : (phase : Phase) (core : Core) (s : Side) (m : Message) → MayStartIn phase core s m → (turn phase ≡ Some s) ⊎ IsTransmitting phase
 unfolding MayStartIn
 starts_in (Transmission export) core s m h = inr (export, refl)
-starts_in Greet core s m h = inl h
-starts_in Flags core s m h = inl h
-starts_in Choosing core s m h = inl h
-starts_in Naming core s m h = inl h
-starts_in Aborting core s m h = inl h
-starts_in (Answering option given info) core s m h = inl h
-starts_in Ended core s m h = inl h
+starts_in phase core s m h = inl h
 
 reply_answers : (export : Exporting) (core : Core) (m : Message) → MayStartIn (Transmission export) core Server m → IsTrue (is_some (request_of_reply core m))
 unfolding MayStartIn
@@ -48,16 +42,10 @@ answers_same {old} {now} m l b = elim (starts_in old.phase old Server m b.starts
 
 -- the client's messages answer nothing
 pub asks_only : (core : Core) (m : Message) → side m ≡ Client → request_of_reply core m ≡ None
-asks_only core (ClientFlags flags) e = refl
-asks_only core (Choice id payload) e = refl
-asks_only core (Request flags command cookie offset len payload) e = refl
-asks_only core (ExtendedRequest flags command cookie offset len payload) e = refl
-asks_only core (Greeting flags) e = refl
-asks_only core (Answer option kind payload) e = refl
-asks_only core (Exported size flags padded) e = refl
 asks_only core (Simple error cookie payload) e = absurd (cc)
 asks_only core (Chunk flags kind cookie payload) e = absurd (cc)
 asks_only core (ExtendedChunk flags kind cookie at payload) e = absurd (cc)
+asks_only core m e = refl
 
 -- an open message of a side began in its place
 abbrev pub BegunOpen : Core → Side → Open → Type 0
@@ -70,13 +58,9 @@ AreBegun core o = (s : Side) → BegunOpen core s (get o s)
 
 -- where a message of side s completes
 pub begun_completed : (core : Core) (o : Both Open) (s : Side) (m : Message) → side m ≡ s → MayComplete core core.phase m → AreBegun core o → AreBegun (complete core m) (put o s Idle)
-begun_completed core o s m sd ok all u = go (same_or_not s u)
+begun_completed core o s m sd ok all u = put_both (λ u x _. BegunOpen (complete core m) u x) o o s Idle Idle tt (λ u ne. moved u (get o u) ne (all u)) u
   where
-    moved : (x : Open) → (s ≡ u → ⊥) → BegunOpen core u x → BegunOpen (complete core m) u x
-    moved Idle ne h = tt
-    moved (Busy n left) ne h = (h.0, h.1, Later-trans h.2 (behind m (λ q. ne (sym sd ∙ q)) ok at_once))
-    moved Loose ne h = tt
-
-    go : (s ≡ u) ⊎ (s ≡ u → ⊥) → BegunOpen (complete core m) u (get (put o s Idle) u)
-    go (inl q) = subst (λ v. BegunOpen (complete core m) v (get (put o s Idle) v)) q (subst (BegunOpen (complete core m) s) (sym (get-put_same o s Idle)) tt)
-    go (inr ne) = subst (BegunOpen (complete core m) u) (sym (get-put_other o s u Idle ne)) (moved (get o u) ne (all u))
+    moved : (u : Side) (x : Open) → (s ≡ u → ⊥) → BegunOpen core u x → BegunOpen (complete core m) u x
+    moved u Idle ne h = tt
+    moved u (Busy n left) ne h = (h.0, h.1, Later-trans h.2 (behind m (λ q. ne (sym sd ∙ q)) ok at_once))
+    moved u Loose ne h = tt

@@ -7,7 +7,7 @@ use Rattle.nbd_wire.specs.declared.message.Message.{Message}
 use Rattle.nbd_wire.specs.protocol.Encoding.{enc}
 use Rattle.nbd_wire.specs.protocol.Marks.{Item, Byte, Starts, Completes, Serves, of_side, block, IsByteOf, MayFollow, IsTight, IsMarkedBut}
 use Rattle.nbd_wire.specs.protocol.Reading.{Both, get, put, IsFilled}
-use Rattle.nbd_laws.proofs.reading.ReaderLemmas.{get-put_same, get-put_other, same_or_not, Open, Idle, Busy, Loose, IsNotBusy, Walk, ended, serving, opening, middle, final, loose}
+use Rattle.nbd_laws.proofs.reading.ReaderLemmas.{put_both, get-put_same, get-put_other, same_or_not, Open, Idle, Busy, Loose, IsNotBusy, Walk, ended, serving, opening, middle, final, loose}
 use Rattle.nbd_laws.proofs.runs.TraceLemmas.{enc-long}
 use Rattle.nbd_laws.proofs.runs.FollowLemmas.{each_with}
 
@@ -103,9 +103,8 @@ loose_left {P} s b items x p n l = go x n
     all = byte_same s b items ∙ ap (λ y. Byte s b ∷ y) (l.blocks ∙ ap (λ ms. flat_map (block s) ms ++ bytes_of s l.rest) (l.loosely refl))
 
     go : (x : Open) → IsNotBusy x → IsLeft P s x (Byte s b ∷ items)
-    go Idle n = record { messages = []; rest = b ∷ l.rest; blocks = all; loosely = λ e. refl; strays = λ f. p }
     go (Busy m left) n = absurd n
-    go Loose n = record { messages = []; rest = b ∷ l.rest; blocks = all; loosely = λ e. refl; strays = λ f. p }
+    go x n = record { messages = []; rest = b ∷ l.rest; blocks = all; loosely = λ e. refl; strays = λ f. p }
 
 -- one side takes a step and the other does not
 stepped : {P : Type 0} (o : Both Open) (t : Side) (x : Open) (items items' : List Item) → Lefts P (put o t x) items → (IsLeft P t x items → IsLeft P t (get o t) items') → ((s : Side) → (t ≡ s → ⊥) → of_side s items' ≡ of_side s items) → Lefts P o items'
@@ -190,7 +189,6 @@ beyond s ms rest = flat_map (block s) ms ++ bytes_of s rest
 starts_in : (s : Side) (m : Message) (items : List Item) (x : Open) (ms : List Message) (rest : List ℕ) → (x ≡ Loose → ms ≡ []) → Starts s m ∷ items ≡ to_come s x ++ beyond s ms rest →
     (x ≡ Idle) × ((ms' : List Message) × (items ≡ (bytes_of s (enc m) ++ Completes s m ∷ []) ++ beyond s ms' rest))
 starts_in s m items Idle [] [] lo e = absurd (cc)
-starts_in s m items Idle [] (b ∷ rest) lo e = absurd (cc)
 starts_in s m items Idle (n ∷ ms) rest lo e =
     let nm : n ≡ m = cc in
     let t : items ≡ ((bytes_of s (enc n) ++ Completes s n ∷ []) ++ flat_map (block s) ms) ++ bytes_of s rest = cc in (
@@ -202,10 +200,9 @@ starts_in s m items Idle (n ∷ ms) rest lo e =
       ),
     )
 starts_in s m items (Busy n []) ms rest lo e = absurd (cc)
-starts_in s m items (Busy n (b ∷ left)) ms rest lo e = absurd (cc)
 starts_in s m items Loose [] [] lo e = absurd (cc)
-starts_in s m items Loose [] (b ∷ rest) lo e = absurd (cc)
 starts_in s m items Loose (n ∷ ms) rest lo e = (let q : n ∷ ms ≡ [] = lo refl in absurd (cc))
+starts_in s m items x ms rest lo e = absurd (cc)
 
 -- the open message that a byte goes on with, or none
 pub data ByteIn (s : Side) (b : ℕ) (items : List Item) (x : Open) (ms : List Message) (rest : List ℕ) : Type 0 where
@@ -215,31 +212,26 @@ pub data ByteIn (s : Side) (b : ℕ) (items : List Item) (x : Open) (ms : List M
 byte_in : (s : Side) (b : ℕ) (items : List Item) (x : Open) (ms : List Message) (rest : List ℕ) → Byte s b ∷ items ≡ to_come s x ++ beyond s ms rest → ByteIn s b items x ms rest
 byte_in s b items Idle [] [] e = absurd (cc)
 byte_in s b items Idle [] (c ∷ rest) e = of_none rest tt tt refl (cc)
-byte_in s b items Idle (n ∷ ms) rest e = absurd (cc)
 byte_in s b items (Busy n []) ms rest e = absurd (cc)
 byte_in s b items (Busy n (c ∷ left)) ms rest e =
     let bc : c ≡ b = cc in
     of_message n left (ap (λ x. Busy n (x ∷ left)) bc) (cc)
 byte_in s b items Loose [] [] e = absurd (cc)
 byte_in s b items Loose [] (c ∷ rest) e = of_none rest tt tt refl (cc)
-byte_in s b items Loose (n ∷ ms) rest e = absurd (cc)
+byte_in s b items x ms rest e = absurd (cc)
 
 ends_in : (s : Side) (m : Message) (items : List Item) (x : Open) (ms : List Message) (rest : List ℕ) → Completes s m ∷ items ≡ to_come s x ++ beyond s ms rest →
     (x ≡ Busy m []) × (items ≡ beyond s ms rest)
 ends_in s m items Idle [] [] e = absurd (cc)
-ends_in s m items Idle [] (c ∷ rest) e = absurd (cc)
-ends_in s m items Idle (n ∷ ms) rest e = absurd (cc)
 ends_in s m items (Busy n []) ms rest e = let nm : n ≡ m = cc in (ap (λ k. Busy k []) nm, cc)
 ends_in s m items (Busy n (c ∷ left)) ms rest e = absurd (cc)
 ends_in s m items Loose [] [] e = absurd (cc)
-ends_in s m items Loose [] (c ∷ rest) e = absurd (cc)
-ends_in s m items Loose (n ∷ ms) rest e = absurd (cc)
+ends_in s m items x ms rest e = absurd (cc)
 
 nothing_in : (s : Side) (x : Open) (ms : List Message) (rest : List ℕ) → [] ≡ to_come s x ++ beyond s ms rest → IsNotBusy x
-nothing_in s Idle ms rest e = tt
 nothing_in s (Busy n []) ms rest e = absurd (cc)
 nothing_in s (Busy n (c ∷ left)) ms rest e = absurd (cc)
-nothing_in s Loose ms rest e = tt
+nothing_in s x ms rest e = tt
 
 -- the last byte's message completes at once
 ends_now : (s : Side) (m : Message) (items : List Item) (y : List Item) (x : Item) → (IsByteOf s x → ⊥) → IsTight (x ∷ items) → of_side s items ≡ Completes s m ∷ y → ⊥
@@ -260,8 +252,7 @@ ends_now s m (Completes u n ∷ items) y (Byte v b) nb t e = elim (same_or_not u
   | inr ne ↦ ends_now s m items y (Completes u n) (λ q. q) t.1 (sym (completes_other s u n items ne) ∙ e)
 ]
 ends_now s m (Completes u n ∷ items) y (Starts v k) nb t e = elim t.0 [ ]
-ends_now s m (Completes u n ∷ items) y (Completes v k) nb t e = elim t.0 [ ]
-ends_now s m (Completes u n ∷ items) y (Serves k) nb t e = elim t.0 [ ]
+ends_now s m (Completes u n ∷ items) y x nb t e = elim t.0 [ ]
 
 abbrev IsUnfinished : Side → Open → Type 0
 IsUnfinished s Idle = Unit {0}
@@ -273,10 +264,7 @@ Walks P items = (o : Both Open) → ((s : Side) → IsUnfinished s (get o s)) �
 
 -- one side of the rest changes
 lefts_put : {P : Type 0} (o : Both Open) (t : Side) (x : Open) (items items' : List Item) → Lefts P o items' → IsLeft P t x items → ((s : Side) → (t ≡ s → ⊥) → of_side s items' ≡ of_side s items) → Lefts P (put o t x) items
-lefts_put {P} o t x items items' all here other s = elim (same_or_not t s) [
-  | inl q ↦ subst (λ u. IsLeft P u (get (put o t x) u) items) q (subst (λ y. IsLeft P t y items) (sym (get-put_same o t x)) here)
-  | inr ne ↦ subst (λ y. IsLeft P s y items) (sym (get-put_other o t s x ne)) (left_same (sym (other s ne)) (all s))
-]
+lefts_put {P} o t x items items' all here other s = put_both (λ u y _. IsLeft P u y items) o o t x x here (λ u ne. left_same (sym (other u ne)) (all u)) s
 
 unstarted : {P : Type 0} (t : Side) (m : Message) (b : ℕ) (items : List Item) → Walks P items → Walks P (Starts t m ∷ Byte t b ∷ items)
 unstarted {P} t m b items next o un l tight =
@@ -348,14 +336,12 @@ unblocked {P} (Starts u m ∷ []) o un l t =
     let st : (get o u ≡ Idle) × ((ms' : List Message) × ([] ≡ (bytes_of u (enc m) ++ Completes u m ∷ []) ++ beyond u ms' lu.rest)) =
     starts_in u m [] (get o u) lu.messages lu.rest lu.loosely (sym (starts_same u m []) ∙ lu.blocks) in
     absurd (nothing_in u (Busy m (enc m)) st.1.0 lu.rest st.1.1)
-unblocked {P} (Starts u m ∷ Starts v n ∷ items) o un l t = elim t.0 [ ]
-unblocked {P} (Starts u m ∷ Completes v n ∷ items) o un l t = elim t.0 [ ]
-unblocked {P} (Starts u m ∷ Serves k ∷ items) o un l t = elim t.0 [ ]
 unblocked {P} (Byte u b ∷ Completes v m ∷ items) o un l t = unended u v m b items (unblocked items) o un l t
 unblocked {P} (Byte u b ∷ []) o un l t = unbyted u b [] (unblocked []) (λ m y e. (cc)) o un l t
 unblocked {P} (Byte u b ∷ Byte v c ∷ items) o un l t = unbyted u b (Byte v c ∷ items) (unblocked (Byte v c ∷ items)) (λ n y e. ends_now u n (Byte v c ∷ items) y (Serves (whole 0)) (λ q. q) (tt, t.1) e) o un l t
 unblocked {P} (Byte u b ∷ Starts v m ∷ items) o un l t = unbyted u b (Starts v m ∷ items) (unblocked (Starts v m ∷ items)) (λ n y e. ends_now u n (Starts v m ∷ items) y (Serves (whole 0)) (λ q. q) (tt, t.1) e) o un l t
 unblocked {P} (Byte u b ∷ Serves k ∷ items) o un l t = unbyted u b (Serves k ∷ items) (unblocked (Serves k ∷ items)) (λ m y e. ends_now u m items y (Serves k) (λ q. q) t.1 e) o un l t
+unblocked {P} items o un l t = elim t.0 [ ]
 
 -- a marked capture is read from the left
 pub marked_is_walk : {P : Type 0} (items : List Item) (client server : List ℕ) → (IsFilled client → P) → (IsFilled server → P) → IsMarkedBut items client server → Walk P Idles items

@@ -1,5 +1,5 @@
 -- The rules on messages alone, whatever was served.
-use Rattle.std.proofs.Common.{◌≡◌, ℕ, ◌⊎◌, List, [], ◌∷◌, refl, sym, ◌∙◌, ap, subst, inl, inr}
+use Rattle.std.proofs.Common.{◌≡◌, ℕ, List, [], ◌∷◌, refl, sym, ◌∙◌, ap, subst, inl, inr}
 use Rattle.nbd_wire.specs.declared.message.Side.{Side}
 use Rattle.nbd_wire.specs.declared.message.Side.TheVariants.{Client, Server}
 use Rattle.nbd_wire.specs.declared.message.Message.{Message}
@@ -9,7 +9,7 @@ use Rattle.nbd_wire.specs.protocol.Sendable.{IsSendable}
 use Rattle.nbd_wire.specs.protocol.Sides.{side}
 use Rattle.nbd_wire.specs.protocol.States.{Core, State}
 use Rattle.nbd_wire.specs.protocol.Reading.{Both, get, put}
-use Rattle.nbd_laws.proofs.reading.ReaderLemmas.{get-put_same, get-put_other, same_or_not, Open, Idle, Busy, Loose, IsNotBusy, Walk, ended, serving, opening, middle, final, loose, Later, at_once, behind}
+use Rattle.nbd_laws.proofs.reading.ReaderLemmas.{put_both, get-put_same, get-put_other, same_or_not, Open, Idle, Busy, Loose, IsNotBusy, Walk, ended, serving, opening, middle, final, loose, Later, at_once, behind}
 
 -- what a side needs to begin a message
 pub record IsBegun (old : Core) (s : Side) (m : Message) : Type 0 where
@@ -43,16 +43,13 @@ IsBare (Serves k ∷ items) = ⊥
 pub bare : (items : List Item) → IsBare (without_service items)
 bare [] = tt
 bare (Byte s b ∷ items) = bare items
-bare (Starts s m ∷ items) = bare items
-bare (Completes s m ∷ items) = bare items
-bare (Serves k ∷ items) = bare items
+bare (item ∷ items) = bare items
 
 pub follows_unserved : (items : List Item) (core : Core) → Follows core items → Follows core (without_service items)
 follows_unserved [] core f = tt
-follows_unserved (Byte s b ∷ items) core f = follows_unserved items core f
 follows_unserved (Starts s m ∷ items) core f = (f.0, follows_unserved items core f.1)
 follows_unserved (Completes s m ∷ items) core f = (f.0, follows_unserved items (complete core m) f.1)
-follows_unserved (Serves k ∷ items) core f = follows_unserved items core f
+follows_unserved (item ∷ items) core f = follows_unserved items core f
 
 pub walk_unserved : {P : Type 0} {o : Both Open} {items : List Item} → Walk P o items → Walk P o (without_service items)
 walk_unserved (ended c s) = ended c s
@@ -65,9 +62,7 @@ walk_unserved (loose s b p e w) = loose s b p e (walk_unserved w)
 pub pairs_unserved : (items : List Item) → pairs (without_service items) ≡ pairs items
 pairs_unserved [] = refl
 pairs_unserved (Byte s b ∷ items) = ap (λ l. record { from = s; byte = b } ∷ l) (pairs_unserved items)
-pairs_unserved (Starts s m ∷ items) = pairs_unserved items
-pairs_unserved (Completes s m ∷ items) = pairs_unserved items
-pairs_unserved (Serves k ∷ items) = pairs_unserved items
+pairs_unserved (item ∷ items) = pairs_unserved items
 
 abbrev pub IsSidedOpen : Side → Open → Type 0
 IsSidedOpen s Idle = Unit {0}
@@ -76,11 +71,7 @@ IsSidedOpen s Loose = Unit {0}
 
 -- one side changes
 pub each_with : (P : Side → Open → Type 0) (o : Both Open) (s : Side) (x : Open) → ((u : Side) → P u (get o u)) → P s x → (u : Side) → P u (get (put o s x) u)
-each_with P o s x all h u = go (same_or_not s u)
-  where
-    go : (s ≡ u) ⊎ (s ≡ u → ⊥) → P u (get (put o s x) u)
-    go (inl e) = subst (λ v. P v (get (put o s x) v)) e (subst (λ y. P s y) (sym (get-put_same o s x)) h)
-    go (inr ne) = subst (λ y. P u y) (sym (get-put_other o s u x ne)) (all u)
+each_with P o s x all h u = put_both (λ u y _. P u y) o o s x x h (λ u ne. all u) u
 
 -- a message that was started completes later
 pub record HasEnd (s : Side) (core : Core) (m : Message) : Type 0 where

@@ -1,14 +1,13 @@
 -- Extended headers are in force behind an ACK to their option.
-use Rattle.std.proofs.Common.{◌≡◌, ℕ, ◌==◌, ◌||◌, List, [], ◌∷◌, refl, sym, ◌∙◌, ap, subst, Option, Some, None, Bool, true, false}
+use Rattle.std.proofs.Common.{◌≡◌, ℕ, ◌||◌, List, [], ◌∷◌, refl, sym, ◌∙◌, ap, subst, Option, Some, None, Bool, true, false}
 use Rattle.std.proofs.Math.Bool.{or-false}
-use Rattle.nbd_wire.specs.declared.commands.TheConstants as commands
 use Rattle.nbd_wire.specs.declared.message.Message.{Message}
-use Rattle.nbd_wire.specs.declared.message.Message.TheVariants.{Greeting, ClientFlags, Choice, Answer, Exported, Request, Simple, Chunk, ExtendedRequest, ExtendedChunk}
-use Rattle.nbd_wire.specs.protocol.Marks.{Item, Byte, Starts, Completes, Serves, completed_messages}
+use Rattle.nbd_wire.specs.declared.message.Message.TheVariants.{Answer}
+use Rattle.nbd_wire.specs.protocol.Marks.{Item, Starts, Completes, Serves, completed_messages}
 use Rattle.nbd_wire.specs.declared.message.Side.{Side}
 use Rattle.nbd_wire.specs.declared.message.Side.TheVariants.{Client, Server}
 use Rattle.nbd_wire.specs.protocol.Operations.{Exporting, Operation}
-use Rattle.nbd_wire.specs.protocol.Rules.{MayStartIn, after, complete, core_with_request, ends_at, is_extended, reply_to, request_of_reply}
+use Rattle.nbd_wire.specs.protocol.Rules.{MayStartIn, after, complete, core_with_request, ends_at, is_extended, reply_to}
 use Rattle.nbd_wire.specs.protocol.States.{Core, State, Transmission, start_of}
 use Rattle.nbd_laws.specs.Granting.{HeadersAreGranted, HeadsAreInForce, any_grant, is_grant}
 use Rattle.nbd_laws.proofs.runs.PartLemmas.{obeys_back}
@@ -23,28 +22,19 @@ replied None core m = sym (or-false core.extended)
 
 granted : (core : Core) (m : Message) → (complete core m).extended ≡ (core.extended || is_grant m)
 unfolding complete
-granted core (Greeting flags) = sym (or-false core.extended)
-granted core (ClientFlags flags) = sym (or-false core.extended)
-granted core (Choice id p) = sym (or-false core.extended)
 granted core (Answer option kind p) = refl
-granted core (Exported size flags padded) = sym (or-false core.extended)
-granted core (Request flags command cookie offset len p) = requested (command == commands.DISC) core _
-granted core (ExtendedRequest flags command cookie offset len p) = requested (command == commands.DISC) core _
-granted core (Simple error cookie p) = replied (request_of_reply core (Simple error cookie p)) core (Simple error cookie p)
-granted core (Chunk flags kind cookie p) = replied (request_of_reply core (Chunk flags kind cookie p)) core (Chunk flags kind cookie p)
-granted core (ExtendedChunk flags kind cookie at p) = replied (request_of_reply core (ExtendedChunk flags kind cookie at p)) core (ExtendedChunk flags kind cookie at p)
+granted core m = search (requested, replied, or-false)
 
-or_assoc : (a b c : Bool) → ((a || b) || c) ≡ (a || (b || c))
+pub or_assoc : (a b c : Bool) → ((a || b) || c) ≡ (a || (b || c))
 or_assoc true b c = refl
 or_assoc false b c = refl
 
 led : (state : State) (items : List Item) → (ends_at state items).core.extended ≡ (state.core.extended || any_grant (completed_messages items))
 led state [] = sym (or-false state.core.extended)
-led state (Byte s b ∷ items) = led state items
-led state (Starts s m ∷ items) = led state items
 led state (Completes s m ∷ items) =
     led (after state (Completes s m)) items ∙ ap (λ x. x || any_grant (completed_messages items)) (granted state.core m) ∙ or_assoc state.core.extended (is_grant m) (any_grant (completed_messages items))
 led state (Serves e ∷ items) = led (after state (Serves e)) items
+led state (item ∷ items) = led state items
 
 pub headers_are_granted : HeadersAreGranted
 headers_are_granted profile items = led (start_of profile) items

@@ -1,15 +1,13 @@
 -- A run but for open bytes without them is a run.
-use Rattle.std.proofs.Common.{◌≡◌, ℕ, suc, ◌-◌, List, [], ◌∷◌, length, refl, sym, ◌∙◌, ap, subst, append-nil, arith, Bool, if◌then◌else◌}
+use Rattle.std.proofs.Common.{◌≡◌, ℕ, suc, List, [], ◌∷◌, length, refl, sym, ◌∙◌, ap, subst, append-nil, arith}
 use Rattle.std.proofs.lemmas.Bool.{lt-ltb}
 use Rattle.nbd_wire.specs.declared.message.Side.{Side}
 use Rattle.nbd_wire.specs.declared.message.Side.TheVariants.{Client, Server}
 use Rattle.nbd_wire.specs.protocol.Marks.{Item, Byte, Starts, Completes, Serves, completed_messages, pairs}
 use Rattle.nbd_wire.specs.protocol.Captures.{Pair}
-use Rattle.nbd_laws.specs.Bytes.{bytes_of}
+use Rattle.nbd_laws.specs.Bytes.{bytes_of, OpenBytesEndRuns, first_bytes, bytes_from}
 use Rattle.nbd_wire.specs.protocol.Rules.{IsRunOf, Obeys}
 use Rattle.nbd_wire.specs.protocol.States.{State, start_of}
-use Rattle.nbd_laws.specs.Bytes.{OpenBytesEndRuns, first_bytes}
-use Rattle.nbd_laws.specs.Bytes.{bytes_from}
 use Rattle.nbd_wire.specs.protocol.Reading.{Both, get, put}
 use Rattle.nbd_laws.proofs.reading.ReaderLemmas.{Busy, Idle, IsNotBusy, Loose, Open, Walk, ended, final, get-put_same, loose, middle, opening, serving}
 use Rattle.nbd_laws.proofs.runs.BlockLemmas.{Idles, marked_is_walk}
@@ -43,14 +41,12 @@ get-idles o Client = refl
 get-idles o Server = refl
 
 calm : (x : Open) → IsNotBusy x → IsNotBusy (idle x)
-calm Idle h = tt
 calm (Busy m left) h = h
-calm Loose h = tt
+calm x h = tt
 
 at_rest : (x : Open) → IsNotBusy x → idle x ≡ Idle
-at_rest Idle h = refl
 at_rest (Busy m left) h = absurd h
-at_rest Loose h = refl
+at_rest x h = refl
 
 put-idle : (o : Both Open) (s : Side) → IsNotBusy (get o s) → put (idles o) s Idle ≡ idles o
 put-idle o Client h = ap (λ (x : Open). let r : Both Open = record { client = x; server = idle o.server } in r) (sym (at_rest o.client h))
@@ -118,14 +114,10 @@ none_kept {o = o} (final s m b is w) t e = other s t is e (none_kept w t (put-sa
 none_kept {o = o} (loose s b p is w) t e = none_kept w t (put-same_or o s t Loose e (λ q. refl))
 
 take_client : (c s b : ℕ) (ps : List Pair) → first_bytes (suc c) s (record { from = Client; byte = b } ∷ ps) ≡ record { from = Client; byte = b } ∷ first_bytes c s ps
-take_client c s b ps =
-    ap (λ (x : Bool). if x then record { from = Client; byte = b } ∷ first_bytes (suc c - 1) s ps else first_bytes (suc c) s ps) (lt-ltb 0 (suc c) (omega arith))
-    ∙ ap (λ n. record { from = Client; byte = b } ∷ first_bytes n s ps) (let q : suc c - 1 ≡ c = omega arith in q)
+take_client c s b ps = grind (arith, lt-ltb)
 
 take_server : (c s b : ℕ) (ps : List Pair) → first_bytes c (suc s) (record { from = Server; byte = b } ∷ ps) ≡ record { from = Server; byte = b } ∷ first_bytes c s ps
-take_server c s b ps =
-    ap (λ (x : Bool). if x then record { from = Server; byte = b } ∷ first_bytes c (suc s - 1) ps else first_bytes c (suc s) ps) (lt-ltb 0 (suc s) (omega arith))
-    ∙ ap (λ n. record { from = Server; byte = b } ∷ first_bytes c n ps) (let q : suc s - 1 ≡ s = omega arith in q)
+take_server c s b ps = grind (arith, lt-ltb)
 
 -- one more kept byte
 kept_byte : (s : Side) (b : ℕ) (items : List Item) (ps : List Pair) → pairs items ≡ first_bytes (count Client items) (count Server items) ps →

@@ -1,5 +1,5 @@
 -- A run in two parts.
-use Rattle.std.proofs.Common.{◌≡◌, ℕ, ◌⊎◌, ◌+◌, List, [], ◌∷◌, ◌++◌, length, refl, sym, ◌∙◌, ap, subst, inl, inr, append_assoc, append-nil, arith, suc, zero-add}
+use Rattle.std.proofs.Common.{◌≡◌, ℕ, ◌+◌, List, [], ◌∷◌, ◌++◌, length, refl, sym, ◌∙◌, ap, subst, append_assoc, append-nil, arith, suc, zero-add}
 use Rattle.nbd_wire.specs.declared.message.Side.{Side}
 use Rattle.nbd_wire.specs.declared.message.Side.TheVariants.{Client, Server}
 use Rattle.nbd_wire.specs.declared.message.Message.{Message}
@@ -8,7 +8,7 @@ use Rattle.nbd_wire.specs.protocol.Marks.{Item, Byte, Starts, Completes, Serves,
 use Rattle.nbd_wire.specs.protocol.Rules.{Obeys, after, ends_at}
 use Rattle.nbd_wire.specs.protocol.States.{State, start_of}
 use Rattle.nbd_wire.specs.protocol.Reading.{Both, get, put}
-use Rattle.nbd_laws.proofs.reading.ReaderLemmas.{get-put_same, get-put_other, same_or_not, Open, Idle, Busy, Loose, IsNotBusy, Walk, ended, serving, opening, middle, final, loose}
+use Rattle.nbd_laws.proofs.reading.ReaderLemmas.{put_both, Open, Idle, Busy, Loose, IsNotBusy, Walk, ended, serving, opening, middle, final, loose}
 use Rattle.nbd_laws.proofs.runs.BlockLemmas.{Idles}
 use Rattle.nbd_laws.proofs.runs.RunLemmas.{run_of, walk_of}
 use Rattle.nbd_laws.specs.Prefixes.{CompletionsStandAfterBytes, PrefixesAreRuns, HasNoneOpen, StartsStandBeforeBytes, started_messages}
@@ -25,10 +25,9 @@ obeys_back state (item ∷ prefix) back ob = obeys_back (after state item) prefi
 -- what was served stands in the state
 pub served_in : (state : State) (items : List Item) → (ends_at state items).served ≡ state.served ++ service_order items
 served_in state [] = sym (append-nil state.served)
-served_in state (Byte s b ∷ items) = served_in state items
-served_in state (Starts s m ∷ items) = served_in state items
 served_in state (Completes s m ∷ items) = served_in (after state (Completes s m)) items
 served_in state (Serves k ∷ items) = served_in (after state (Serves k)) items ∙ append_assoc state.served (k ∷ []) (service_order items)
+served_in state (item ∷ items) = served_in state items
 
 -- how many messages are open
 abbrev opened : Open → ℕ
@@ -73,26 +72,16 @@ even_with : (o : Both Open) (s : Side) (x : Open) (items items' : List Item) →
     (opened (get o s) + length (started_messages s items) ≡ length (prefixes.ended_messages s items) → opened x + length (started_messages s items') ≡ length (prefixes.ended_messages s items')) →
     ((u : Side) → (s ≡ u → ⊥) → (length (started_messages u items') ≡ length (started_messages u items)) × (length (prefixes.ended_messages u items') ≡ length (prefixes.ended_messages u items))) →
     IsEven (put o s x) items'
-even_with o s x items items' h here other u = go (same_or_not s u)
-  where
-    go : (s ≡ u) ⊎ (s ≡ u → ⊥) → opened (get (put o s x) u) + length (started_messages u items') ≡ length (prefixes.ended_messages u items')
-    go (inl e) = subst (λ v. opened (get (put o s x) v) + length (started_messages v items') ≡ length (prefixes.ended_messages v items')) e
-        (ap (λ y. opened y + length (started_messages s items')) (get-put_same o s x) ∙ here (h s))
-    go (inr ne) = (let q = other u ne in ap (λ y. opened y + length (started_messages u items')) (get-put_other o s u x ne) ∙ ap (λ n. opened (get o u) + n) q.0 ∙ h u ∙ sym q.1)
+even_with o s x items items' h here other u = grind (arith, put_both)
 
 even_opening : (o : Both Open) (s : Side) (m : Message) (b : ℕ) (left : List ℕ) (prefix : List Item) → get o s ≡ Idle → IsEven o (Starts s m ∷ Byte s b ∷ prefix) → IsEven (put o s (Busy m left)) prefix
-even_opening o s m b left prefix i h = even_with o s (Busy m left) (Starts s m ∷ Byte s b ∷ prefix) prefix h
-    (λ e. (let z : opened (get o s) ≡ 0 = ap opened i in let q : length (started_messages s (Starts s m ∷ Byte s b ∷ prefix)) ≡ suc (length (started_messages s prefix)) = started_same s m (Byte s b ∷ prefix) in omega arith))
-    (λ u ne. (sym (started_other u s m (Byte s b ∷ prefix) ne), refl))
+even_opening o s m b left prefix i h = grind (arith, even_with, started_same, started_other)
 
 even_middle : (o : Both Open) (s : Side) (m : Message) (b : ℕ) (left : List ℕ) (prefix : List Item) → get o s ≡ Busy m (b ∷ left) → IsEven o (Byte s b ∷ prefix) → IsEven (put o s (Busy m left)) prefix
-even_middle o s m b left prefix i h = even_with o s (Busy m left) (Byte s b ∷ prefix) prefix h
-    (λ e. (let z : opened (get o s) ≡ 1 = ap opened i in omega arith)) (λ u ne. (refl, refl))
+even_middle o s m b left prefix i h = grind (arith, even_with)
 
 even_final : (o : Both Open) (s : Side) (m : Message) (b : ℕ) (prefix : List Item) → get o s ≡ Busy m (b ∷ []) → IsEven o (Byte s b ∷ Completes s m ∷ prefix) → IsEven (put o s Idle) prefix
-even_final o s m b prefix i h = even_with o s Idle (Byte s b ∷ Completes s m ∷ prefix) prefix h
-    (λ e. (let z : opened (get o s) ≡ 1 = ap opened i in let q : length (prefixes.ended_messages s (Byte s b ∷ Completes s m ∷ prefix)) ≡ suc (length (prefixes.ended_messages s prefix)) = ended_same s m prefix in omega arith))
-    (λ u ne. (refl, sym (ended_other u s m prefix ne)))
+even_final o s m b prefix i h = grind (arith, even_with, ended_same, ended_other)
 
 -- a walk, up to a moment at which no message is open
 cut_walk : {o : Both Open} {items : List Item} → Walk ⊥ o items → (prefix back : List Item) → items ≡ prefix ++ back → IsEven o prefix → Walk ⊥ o prefix
@@ -102,12 +91,7 @@ cut_walk {o} (serving k {items = items} w) (x ∷ prefix) back e h =
     let q : Serves k ≡ x = cc in
     let r : items ≡ prefix ++ back = cc in
     subst (λ y. Walk ⊥ o (y ∷ prefix)) q (serving k (cut_walk w prefix back r (subst (λ y. IsEven o (y ∷ prefix)) (sym q) h)))
-cut_walk {o} (opening s m b left i f g w) (x ∷ []) back e h =
-    let q : Starts s m ≡ x = cc in
-    let h' : IsEven o (Starts s m ∷ []) = subst (λ y. IsEven o (y ∷ [])) (sym q) h in
-    let n : length (started_messages s (Starts s m ∷ [])) ≡ 1 = started_same s m [] in
-    let z : opened (get o s) + length (started_messages s (Starts s m ∷ [])) ≡ 0 = h' s in
-    absurd (omega arith)
+cut_walk {o} (opening s m b left i f g w) (x ∷ []) back e h = grind (arith, started_same s m [])
 cut_walk {o} (opening s m b left {items = items} i f g w) (x ∷ y ∷ prefix) back e h =
     let q : Starts s m ≡ x = cc in
     let p : Byte s b ≡ y = cc in
@@ -119,12 +103,7 @@ cut_walk {o} (middle s m b left {items = items} i f w) (x ∷ prefix) back e h =
     let q : Byte s b ≡ x = cc in
     let r : items ≡ prefix ++ back = cc in
     subst (λ y. Walk ⊥ o (y ∷ prefix)) q (middle s m b left i f (cut_walk w prefix back r (even_middle o s m b left prefix i (subst (λ y. IsEven o (y ∷ prefix)) (sym q) h))))
-cut_walk {o} (final s m b i w) (x ∷ []) back e h =
-    let q : Byte s b ≡ x = cc in
-    let h' : IsEven o (Byte s b ∷ []) = subst (λ y. IsEven o (y ∷ [])) (sym q) h in
-    let n : opened (get o s) ≡ 1 = ap opened i in
-    let z : opened (get o s) + 0 ≡ 0 = h' s in
-    absurd (omega arith)
+cut_walk {o} (final s m b i w) (x ∷ []) back e h = grind (arith, ap opened i)
 cut_walk {o} (final s m b {items = items} i w) (x ∷ y ∷ prefix) back e h =
     let q : Byte s b ≡ x = cc in
     let p : Completes s m ≡ y = cc in
@@ -146,7 +125,6 @@ prefixes_are_runs profile prefix back run none =
 start_at : {o : Both Open} {items : List Item} → Walk ⊥ o items → (prefix back : List Item) (s : Side) (m : Message) → items ≡ prefix ++ Starts s m ∷ back →
     (b : ℕ) × (left : List ℕ) × (rest : List Item) × (back ≡ Byte s b ∷ rest) × (enc m ≡ b ∷ left)
 start_at (ended c d) [] back s m e = absurd (cc)
-start_at (ended c d) (x ∷ prefix) back s m e = absurd (cc)
 start_at (serving k w) [] back s m e = absurd (cc)
 start_at (serving k w) (x ∷ prefix) back s m e = start_at w prefix back s m (cc)
 start_at (opening t n b left {items = items} i f g w) [] back s m e =
@@ -159,9 +137,9 @@ start_at (opening t n b left i f g w) (x ∷ y ∷ prefix) back s m e = start_at
 start_at (middle t n b left i f w) [] back s m e = absurd (cc)
 start_at (middle t n b left i f w) (x ∷ prefix) back s m e = start_at w prefix back s m (cc)
 start_at (final t n b i w) [] back s m e = absurd (cc)
-start_at (final t n b i w) (x ∷ []) back s m e = absurd (cc)
 start_at (final t n b i w) (x ∷ y ∷ prefix) back s m e = start_at w prefix back s m (cc)
 start_at (loose t b p i w) prefix back s m e = absurd p
+start_at x prefix back s m e = absurd (cc)
 
 pub starts_stand_before_bytes : StartsStandBeforeBytes
 starts_stand_before_bytes profile prefix back s m run = start_at (walk_of run) prefix back s m refl
@@ -175,11 +153,9 @@ behind s x prefix e = (x ∷ e.0, e.1, ap (λ l. x ∷ l) e.2)
 
 completion_at : {o : Both Open} {items : List Item} → Walk ⊥ o items → (prefix back : List Item) (s : Side) (m : Message) → items ≡ prefix ++ Completes s m ∷ back → EndsWithByte s prefix
 completion_at (ended c d) [] back s m e = absurd (cc)
-completion_at (ended c d) (x ∷ prefix) back s m e = absurd (cc)
 completion_at (serving k w) [] back s m e = absurd (cc)
 completion_at (serving k w) (x ∷ prefix) back s m e = behind s x prefix (completion_at w prefix back s m (cc))
 completion_at (opening t n b left i f g w) [] back s m e = absurd (cc)
-completion_at (opening t n b left i f g w) (x ∷ []) back s m e = absurd (cc)
 completion_at (opening t n b left i f g w) (x ∷ y ∷ prefix) back s m e = behind s x (y ∷ prefix) (behind s y prefix (completion_at w prefix back s m (cc)))
 completion_at (middle t n b left i f w) [] back s m e = absurd (cc)
 completion_at (middle t n b left i f w) (x ∷ prefix) back s m e = behind s x prefix (completion_at w prefix back s m (cc))
@@ -190,6 +166,7 @@ completion_at (final t n b i w) (x ∷ []) back s m e =
     ([], b, ap (λ y. y ∷ []) (sym q ∙ ap (λ u. Byte u b) p))
 completion_at (final t n b i w) (x ∷ y ∷ prefix) back s m e = behind s x (y ∷ prefix) (behind s y prefix (completion_at w prefix back s m (cc)))
 completion_at (loose t b p i w) prefix back s m e = absurd p
+completion_at x prefix back s m e = absurd (cc)
 
 pub completions_stand_after_bytes : CompletionsStandAfterBytes
 completions_stand_after_bytes profile prefix back s m run = completion_at (walk_of run) prefix back s m refl

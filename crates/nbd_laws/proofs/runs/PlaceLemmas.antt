@@ -16,14 +16,13 @@ use Rattle.nbd_laws.proofs.runs.RunLemmas.{marks_law}
 pub but_last : (ps qs : List Pair) (p q : Pair) → ps ++ p ∷ [] ≡ qs ++ q ∷ [] → (ps ≡ qs) × (p ≡ q)
 but_last [] [] p q e = (refl, (cc))
 but_last [] (x ∷ []) p q e = absurd (cc)
-but_last [] (x ∷ y ∷ qs) p q e = absurd (cc)
 but_last (x ∷ []) [] p q e = absurd (cc)
-but_last (x ∷ y ∷ ps) [] p q e = absurd (cc)
 but_last (x ∷ ps) (y ∷ qs) p q e =
     let same : x ≡ y = cc in
     let rest : ps ++ p ∷ [] ≡ qs ++ q ∷ [] = cc in
     let h = but_last ps qs p q rest in
     (ap (λ z. z ∷ ps) same ∙ ap (λ l. y ∷ l) h.0, h.1)
+but_last ps qs p q e = absurd (cc)
 
 -- a place is refused
 pub place_refused : {profile : Profile} (ps : List Pair) (messages : List Message) (fault : WireFault) → IsPlaceOf profile ps messages fault → reads by_tests (fresh_of profile) ps ≡ Err fault
@@ -71,3 +70,5 @@ pub beginnings_are_under_way : BeginningsAreUnderWay
 beginnings_are_under_way profile items ps run are begins =
     let r : IsRead by_tests (fresh_of profile) ps (within (length ps) items) = marks_law by_tests exact items run ps begins.0 are begins.1 in
     record { are_pairs = are; end = r.end; reads_it = r.reads_it; has_messages = r.messages_are }
+
+pub ruleset places = (beginnings_are_under_way, one_place, under_way_agree)

@@ -3,11 +3,11 @@ use Rattle.std.proofs.Common.{◌≡◌, ℕ, ◌==◌, List, [], ◌∷◌, ◌
 use Rattle.nbd_wire.specs.declared.commands.TheConstants as commands
 use Rattle.nbd_wire.specs.declared.entry.Entry.{Entry}
 use Rattle.nbd_wire.specs.declared.message.Message.{Message}
-use Rattle.nbd_wire.specs.declared.message.Message.TheVariants.{Greeting, ClientFlags, Choice, Answer, Exported, Request, Simple, Chunk, ExtendedRequest, ExtendedChunk}
-use Rattle.nbd_wire.specs.declared.message.Side.TheVariants.{Client, Server}
+use Rattle.nbd_wire.specs.declared.message.Message.TheVariants.{Request}
+use Rattle.nbd_wire.specs.declared.message.Side.TheVariants.{Server}
 use Rattle.nbd_wire.specs.declared.profile.Profile.{Profile}
 use Rattle.nbd_wire.specs.declared.profile.Profile.TheVariants.{Base}
-use Rattle.nbd_wire.specs.protocol.Marks.{Item, Byte, Starts, Completes, Serves}
+use Rattle.nbd_wire.specs.protocol.Marks.{Item, Starts, Completes, Serves}
 use Rattle.nbd_wire.specs.protocol.Operations.{Operation}
 use Rattle.nbd_wire.specs.protocol.Reports.{first_known, known_count, known_from, known_if}
 use Rattle.nbd_wire.specs.protocol.Rules.{complete, core_with_request, ends_at, reply_to, request_of_reply}
@@ -24,16 +24,8 @@ replied_with q None core m = refl
 
 pub complete_with : (q : Profile) (core : Core) (m : Message) → complete (with_profile q core) m ≡ with_profile q (complete core m)
 unfolding complete
-complete_with q core (Greeting flags) = refl
-complete_with q core (ClientFlags flags) = refl
-complete_with q core (Choice id p) = refl
-complete_with q core (Answer option kind p) = refl
-complete_with q core (Exported size flags padded) = refl
 complete_with q core (Request flags command cookie offset len p) = requested_with q (command == commands.DISC) core _
-complete_with q core (ExtendedRequest flags command cookie offset len p) = requested_with q (command == commands.DISC) core _
-complete_with q core (Simple error cookie p) = replied_with q (request_of_reply core (Simple error cookie p)) core (Simple error cookie p)
-complete_with q core (Chunk flags kind cookie p) = replied_with q (request_of_reply core (Chunk flags kind cookie p)) core (Chunk flags kind cookie p)
-complete_with q core (ExtendedChunk flags kind cookie at p) = replied_with q (request_of_reply core (ExtendedChunk flags kind cookie at p)) core (ExtendedChunk flags kind cookie at p)
+complete_with q core m = search (requested_with, replied_with)
 
 -- a message leaves the profile
 pub profile_stays : (core : Core) (m : Message) → (complete core m).profile ≡ core.profile
@@ -42,11 +34,10 @@ profile_stays core m = ap (λ (c : Core). c.profile) (complete_with core.profile
 pub ends_with : (q : Profile) (core : Core) (js : List Entry) (items : List Item) →
     with_profile q (ends_at (record { core = core; served = js }) items).core ≡ (ends_at (record { core = with_profile q core; served = js }) items).core
 ends_with q core js [] = refl
-ends_with q core js (Byte s b ∷ items) = ends_with q core js items
-ends_with q core js (Starts s m ∷ items) = ends_with q core js items
 ends_with q core js (Completes s m ∷ items) =
     ends_with q (complete core m) js items ∙ ap (λ c. (ends_at (record { core = c; served = js }) items).core) (sym (complete_with q core m))
 ends_with q core js (Serves k ∷ items) = ends_with q core (js ++ k ∷ []) items
+ends_with q core js (item ∷ items) = ends_with q core js items
 
 pub ends_agree : EndsAgree
 ends_agree p q items = ends_with q (start_of p).core [] items
@@ -75,13 +66,9 @@ first_known_with q (Some j) core k later = go (j == k)
 
 known_with : (q : Profile) (core : Core) (k : ℕ) (items : List Item) → known_from (with_profile q core) k items ≡ known_from core k items
 known_with q core k [] = refl
-known_with q core k (Byte s b ∷ items) = known_with q core k items
-known_with q core k (Starts Client m ∷ items) = known_with q core k items
-known_with q core k (Starts Server m ∷ items) =
-    first_known_with q (request_of_reply core m) core k (known_from (with_profile q core) k items)
-    ∙ ap (first_known (request_of_reply core m) core k) (known_with q core k items)
+known_with q core k (Starts Server m ∷ items) = search (first_known_with, known_with q core k items)
 known_with q core k (Completes s m ∷ items) = ap (λ c. known_from c k items) (complete_with q core m) ∙ known_with q (complete core m) k items
-known_with q core k (Serves j ∷ items) = known_with q core k items
+known_with q core k (item ∷ items) = known_with q core k items
 
 -- the counts of the items by the profile Base
 pub known_at_base : (p : Profile) (items : List Item) (k : ℕ) → known_from (start_of p).core k items ≡ known_count items k

@@ -7,12 +7,10 @@ use Rattle.nbd_wire.specs.declared.message.Message.{Message}
 use Rattle.nbd_wire.specs.protocol.Encoding.{enc}
 use Rattle.nbd_wire.specs.protocol.Marks.{Item, Byte, Starts, Completes, Serves, IsSided, block, completed_messages, of_side, pairs}
 use Rattle.nbd_wire.specs.protocol.Captures.{Pair}
-use Rattle.nbd_laws.specs.Bytes.{bytes_of}
+use Rattle.nbd_laws.specs.Bytes.{bytes_of, RunsHoldEachSide, bytes_from}
 use Rattle.nbd_wire.specs.protocol.Rules.{IsRunBut, complete}
 use Rattle.nbd_wire.specs.protocol.Sides.{side, same_side}
 use Rattle.nbd_wire.specs.protocol.States.{Core, start_of}
-use Rattle.nbd_laws.specs.Bytes.{RunsHoldEachSide}
-use Rattle.nbd_laws.specs.Bytes.{bytes_from}
 use Rattle.nbd_wire.specs.protocol.Reading.{Both, get}
 use Rattle.nbd_laws.proofs.reading.ReaderLemmas.{Busy, Idle, Loose, Open, Walk, ended, final, loose, middle, opening, serving}
 use Rattle.nbd_laws.proofs.runs.BlockLemmas.{marked_is_walk}
@@ -27,15 +25,6 @@ bytes_from-cons s p ps = go (same_side s p.from)
     go : (b : Bool) → (if b then p.byte ∷ bytes_from s ps else bytes_from s ps) ≡ (if b then p.byte ∷ [] else []) ++ bytes_from s ps
     go true = refl
     go false = refl
-
-pub bytes_from-append : (s : Side) (ps qs : List Pair) → bytes_from s (ps ++ qs) ≡ bytes_from s ps ++ bytes_from s qs
-bytes_from-append s [] qs = refl
-bytes_from-append s (p ∷ ps) qs = go (same_side s p.from) (bytes_from-append s ps qs)
-  where
-    go : (b : Bool) → bytes_from s (ps ++ qs) ≡ bytes_from s ps ++ bytes_from s qs →
-        (if b then p.byte ∷ bytes_from s (ps ++ qs) else bytes_from s (ps ++ qs)) ≡ (if b then p.byte ∷ bytes_from s ps else bytes_from s ps) ++ bytes_from s qs
-    go true ih = ap (λ l. p.byte ∷ l) ih
-    go false ih = ih
 
 -- a side's bytes stand in its own items
 bytes_of_side : (s : Side) (items : List Item) → bytes_from s (pairs items) ≡ bytes_from s (pairs (of_side s items))
@@ -68,11 +57,7 @@ blocks-append s m ms items = append_assoc (block s m) (flat_map (block s) ms) it
 -- the bytes of blocks and of what stands after them
 bytes_of_blocks : (s : Side) (ms : List Message) (items : List Item) → bytes_from s (pairs (flat_map (block s) ms ++ items)) ≡ flat_map enc ms ++ bytes_from s (pairs items)
 bytes_of_blocks s [] items = refl
-bytes_of_blocks s (m ∷ ms) items =
-    ap (λ l. bytes_from s (pairs l)) (blocks-append s m ms items)
-    ∙ bytes_run s (enc m) (Completes s m ∷ (flat_map (block s) ms ++ items))
-    ∙ ap (λ l. enc m ++ l) (bytes_of_blocks s ms items)
-    ∙ sym (append_assoc (enc m) (flat_map enc ms) (bytes_from s (pairs items)))
+bytes_of_blocks s (m ∷ ms) items = search (blocks-append, bytes_run, flat_map, append_assoc, bytes_of_blocks s ms items)
 
 completed_run : (s : Side) (bs : List ℕ) (items : List Item) → completed_messages (map (λ b. Byte s b) bs ++ items) ≡ completed_messages items
 completed_run s [] items = refl

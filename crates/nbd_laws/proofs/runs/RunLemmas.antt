@@ -1,10 +1,10 @@
 -- The laws over runs.
-use Rattle.std.proofs.Common.{◌≡◌, ℕ, List, [], ◌∷◌, ◌++◌, length, refl, sym, ◌∙◌, ap, subst, inr, Bool, Option, Ok, Err, arith}
+use Rattle.std.proofs.Common.{◌≡◌, ℕ, List, [], ◌∷◌, ◌++◌, length, refl, sym, subst, inr, Bool, Option, Ok, Err, arith}
 use Rattle.nbd_wire.specs.declared.profile.Profile.{Profile}
 use Rattle.nbd_wire.specs.declared.entry.Entry.{Entry}
 use Rattle.nbd_wire.specs.declared.message.Side.{Side}
 use Rattle.nbd_wire.specs.declared.message.Side.TheVariants.{Client, Server}
-use Rattle.nbd_wire.specs.protocol.Marks.{Item, Byte, Starts, Completes, Serves, pairs, completed_messages, service_order, IsMarkedBut}
+use Rattle.nbd_wire.specs.protocol.Marks.{Item, Completes, Serves, pairs, completed_messages, service_order, IsMarkedBut}
 use Rattle.nbd_wire.specs.protocol.Captures.{Pair, ArePairs}
 use Rattle.nbd_wire.specs.protocol.States.{Core, start, start_of}
 use Rattle.nbd_wire.specs.protocol.Rules.{IsRunOf, IsRunBut, Obeys, complete, ends_at, inside_at}
@@ -25,10 +25,9 @@ use Rattle.nbd_laws.proofs.service.PlacingLemmas.{IsDeep, Waits, placed, walk_pl
 
 pub core_end-ends_at : (core : Core) (js : List Entry) (items : List Item) → core_end core items ≡ (ends_at (record { core = core; served = js }) items).core
 core_end-ends_at core js [] = refl
-core_end-ends_at core js (Byte s b ∷ items) = core_end-ends_at core js items
-core_end-ends_at core js (Starts s m ∷ items) = core_end-ends_at core js items
 core_end-ends_at core js (Completes s m ∷ items) = core_end-ends_at (complete core m) js items
 core_end-ends_at core js (Serves k ∷ items) = core_end-ends_at core _ items
+core_end-ends_at core js (item ∷ items) = core_end-ends_at core js items
 
 empty : (bs : List ℕ) → (IsFilled bs → ⊥) → bs ≡ []
 empty [] h = refl
@@ -36,12 +35,7 @@ empty (b ∷ bs) h = absurd (h tt)
 
 -- a walk without stray bytes from nothing that obeys the rules is a run
 pub run_of : {profile : Profile} {P : Type 0} {items : List Item} → (P → ⊥) → Walk P Idles items → Obeys (start_of profile) items → IsRunOf profile items
-run_of {P} {items} no_stray w ob =
-    let m : (client : List ℕ) × (server : List ℕ) × IsMarkedBut items client server × (IsFilled client → P) × (IsFilled server → P) = walk_is_marked w in
-    record {
-      marked = subst (λ c. IsMarkedBut items c []) (empty m.0 (λ f. no_stray (m.3 f))) (subst (λ s. IsMarkedBut items m.0 s) (empty m.1 (λ f. no_stray (m.4 f))) m.2);
-      obeys = ob;
-    }
+run_of {P} {items} no_stray w ob = grind (arith, walk_is_marked, empty)
 
 pub walk_of : {profile : Profile} {items : List Item} → IsRunOf profile items → Walk ⊥ Idles items
 walk_of {items} run = marked_is_walk items [] [] (λ f. f) (λ f. f) run.marked
@@ -114,17 +108,4 @@ run_but_law {profile} judge sound ps end lt e =
 
 -- no run's pairs begin with a list that the reader refuses
 pub no_run : {profile : Profile} (judge : Judge) → IsExact judge → (items : List Item) → IsRunOf profile items → (ps more : List Pair) → ArePairs ps → pairs items ≡ ps ++ more → (fault : WireFault) → reads judge (fresh_of profile) ps ≡ Err fault → ⊥
-no_run {profile} judge exact items run ps more lt e fault refused =
-    let r : IsRead judge (fresh_of profile) ps (within (length ps) items) = marks_law judge exact items run ps more lt e in
-    let q : Ok r.end ≡ Err fault = sym r.reads_it ∙ refused in
-    cc
-
--- two runs that begin with the same pairs complete the same messages within them
-pub same_messages : {profile : Profile} (judge : Judge) → IsExact judge → (items items' : List Item) → IsRunOf profile items → IsRunOf profile items' → (ps more more' : List Pair) → ArePairs ps → pairs items ≡ ps ++ more → pairs items' ≡ ps ++ more' →
-    within (length ps) items ≡ within (length ps) items'
-same_messages {profile} judge exact items items' run run' ps more more' lt e e' =
-    let r : IsRead judge (fresh_of profile) ps (within (length ps) items) = marks_law judge exact items run ps more lt e in
-    let r' : IsRead judge (fresh_of profile) ps (within (length ps) items') = marks_law judge exact items' run' ps more' lt e' in
-    let q : Ok r.end ≡ Ok r'.end = sym r.reads_it ∙ r'.reads_it in
-    let m : r.end ≡ r'.end = cc in
-    sym r.messages_are ∙ ap (λ (x : Reader). x.messages) m ∙ r'.messages_are
+no_run {profile} judge exact items run ps more lt e fault refused = grind (arith, marks_law judge exact items run ps more lt e)

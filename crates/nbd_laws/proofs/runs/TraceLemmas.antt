@@ -1,22 +1,22 @@
 -- What a reader read is a run with exactly the pairs that it read.
-use Rattle.std.proofs.Common.{◌≡◌, ℕ, suc, zero, ◌+◌, ◌<◌, ◌≤◌, ◌⊎◌, List, [], ◌∷◌, ◌++◌, length, refl, sym, ◌∙◌, ap, subst, inl, inr, Ok, Option, Some, None, append_assoc, append-nil, arith, true, false, Bool, not, ◌==◌, ◌&&◌, if◌then◌else◌, length-append, add-one, le_refl, eq-or-lt_of_le, eqb-true, IsTrue, ◌||◌}
+use Rattle.std.proofs.Common.{◌≡◌, ℕ, suc, zero, ◌+◌, ◌<◌, ◌≤◌, ◌⊎◌, List, [], ◌∷◌, ◌++◌, length, refl, sym, ◌∙◌, ap, subst, inl, inr, Ok, Option, Some, None, append_assoc, append-nil, arith, true, false, Bool, not, ◌==◌, ◌&&◌, if◌then◌else◌, length-append, add-one, le_refl, eq-or-lt_of_le, eqb-true, IsTrue}
 use Rattle.std.proofs.lemmas.Bool.{and_parts}
 use Rattle.nbd_wire.specs.protocol.Entries.{Names, NamesWhole, whole}
 use Rattle.nbd_wire.specs.declared.entry.Entry.{Entry}
 use Rattle.nbd_wire.specs.declared.message.Side.{Side}
 use Rattle.nbd_wire.specs.declared.message.Side.TheVariants.{Client, Server}
 use Rattle.nbd_wire.specs.declared.message.Message.{Message}
-use Rattle.nbd_wire.specs.declared.message.Message.TheVariants.{Greeting, ClientFlags, Choice, Answer, Exported, Request, Simple, Chunk, ExtendedRequest, ExtendedChunk}
+use Rattle.nbd_wire.specs.declared.message.Message.TheVariants.{Greeting, Request, Simple}
 use Rattle.nbd_wire.specs.protocol.Encoding.{enc, head}
 use Rattle.nbd_wire.specs.protocol.Sides.{side}
 use Rattle.nbd_wire.specs.protocol.Marks.{Item, Byte, Starts, Completes, Serves, pairs, completed_messages}
 use Rattle.nbd_wire.specs.protocol.Captures.{Pair, ArePairs}
-use Rattle.nbd_wire.specs.protocol.Operations.{Operation, ends_reply, is_finished}
+use Rattle.nbd_wire.specs.protocol.Operations.{Operation, is_finished}
 use Rattle.nbd_wire.specs.protocol.States.{Core, State, operation, target, target_from, with_reply_at}
 use Rattle.nbd_wire.specs.protocol.Sendable.{IsSendable}
-use Rattle.nbd_wire.specs.protocol.Rules.{MayStart, complete, reply_to, core_with_request, gives, inside_at, is_by_chunk, is_reply_to, is_this, makes_due, Obeys, request_of_reply, IsServedFor}
+use Rattle.nbd_wire.specs.protocol.Rules.{MayStart, complete, reply_to, core_with_request, is_by_chunk, is_reply_to, makes_due, Obeys, request_of_reply, IsServedFor}
 use Rattle.nbd_laws.proofs.service.EntryLemmas.{Names-push_cases, NamesWhole-left, NamesWhole-push, served_atomically}
-use Rattle.nbd_laws.proofs.reading.ReaderLemmas.{old-empty, old-filled, IsFilled-snoc, IsMoreAt, AreHeld, kept_next, held_more, held_whole, led, ended_by, with_byte, IsMore, Tracks, get-put_same, get-put_other, put-put, same_or_not, Open, Idle, Busy, Loose, IsNotBusy, Walk, ended, serving, opening, middle, final, loose, IsSoundAt, IsSound}
+use Rattle.nbd_laws.proofs.reading.ReaderLemmas.{old-empty, old-filled, IsFilled-snoc, IsMoreAt, AreHeld, kept_next, held_more, held_whole, led, ended_by, with_byte, IsMore, Tracks, get-put_same, put-put, Open, Idle, Busy, Loose, IsNotBusy, Walk, ended, serving, opening, middle, final, loose, IsSoundAt, IsSound}
 use Rattle.nbd_wire.specs.protocol.Reading.{Both, get, put, IsFilled, Rest, Reader, Reading, More, Whole, Bad, settle, Judge, rest_with, reads, on_ok}
 
 -- each request that has completed was served atomically, and no other
@@ -41,16 +41,8 @@ length-requested false core e = inr (length-append core.entries (e ∷ []) ∙ a
 -- a completed message adds at most one request
 pub length-complete : (core : Core) (m : Message) → (length (complete core m).entries ≡ length core.entries) ⊎ (length (complete core m).entries ≡ suc (length core.entries))
 unfolding complete
-length-complete core (Greeting flags) = inl refl
-length-complete core (ClientFlags flags) = inl refl
-length-complete core (Choice id payload) = inl refl
-length-complete core (Answer option kind payload) = inl refl
-length-complete core (Exported size flags padded) = inl refl
 length-complete core (Request flags command cookie offset len payload) = length-requested _ core _
-length-complete core (ExtendedRequest flags command cookie offset len payload) = length-requested _ core _
-length-complete core (Simple error cookie payload) = inl (length-reply_to (request_of_reply core (Simple error cookie payload)) core (Simple error cookie payload))
-length-complete core (Chunk flags kind cookie payload) = inl (length-reply_to (request_of_reply core (Chunk flags kind cookie payload)) core (Chunk flags kind cookie payload))
-length-complete core (ExtendedChunk flags kind cookie at payload) = inl (length-reply_to (request_of_reply core (ExtendedChunk flags kind cookie at payload)) core (ExtendedChunk flags kind cookie at payload))
+length-complete core m = grind (arith, length-requested, length-reply_to)
 
 target_from-within : (n cookie : ℕ) (es : List Operation) (k : ℕ) → target_from n cookie es ≡ Some k → (0 < k) × (k ≤ n + length es)
 target_from-within n cookie [] k e = absurd (cc)
@@ -66,31 +58,17 @@ target-within cookie es k e = let q : (0 < k) × (k ≤ 0 + length es) = target_
 
 pub answered_by-within : (core : Core) (m : Message) (k : ℕ) → request_of_reply core m ≡ Some k → (0 < k) × (k ≤ length core.entries)
 answered_by-within core (Simple error cookie payload) k e = target-within cookie core.entries k e
-answered_by-within core (Chunk flags kind cookie payload) k e = target-within cookie core.entries k e
-answered_by-within core (ExtendedChunk flags kind cookie at payload) k e = target-within cookie core.entries k e
-answered_by-within core (Greeting flags) k e = absurd (cc)
-answered_by-within core (ClientFlags flags) k e = absurd (cc)
-answered_by-within core (Choice id payload) k e = absurd (cc)
-answered_by-within core (Answer option kind payload) k e = absurd (cc)
-answered_by-within core (Exported size flags padded) k e = absurd (cc)
-answered_by-within core (Request flags command cookie offset len payload) k e = absurd (cc)
-answered_by-within core (ExtendedRequest flags command cookie offset len payload) k e = absurd (cc)
+answered_by-within core m k e = grind (arith, target-within)
 
 -- a request that a message answers has completed
 pub answering : (core : Core) (m : Message) (k : ℕ) → is_reply_to core m k ≡ true → (0 < k) × (k ≤ length core.entries)
-answering core m k h = answered_by-within core m k (is_this_some (request_of_reply core m) h)
-  where
-    is_this_some : (o : Option ℕ) → is_this o k ≡ true → o ≡ Some k
-    is_this_some None h = absurd (cc)
-    is_this_some (Some j) h = ap Some (eqb-true j k h)
+answering core m k h = grind (arith, answered_by-within, eqb-true)
 
 -- what an item makes due is of a request that has completed
 pub due_within : (core : Core) (item : Item) (k x : ℕ) → IsTrue (makes_due core item k x) → (0 < k) × (k ≤ length core.entries)
-due_within core (Byte s b) k x d = absurd (cc)
 due_within core (Starts s m) k x d = answering core m k (and_parts (is_reply_to core m k) (not (is_by_chunk core.profile (operation k core.entries))) d).0
-due_within core (Completes s m) k x d =
-    answering core m k (and_parts (is_reply_to core m k) (is_by_chunk core.profile (operation k core.entries) && (ends_reply m || (inside_at core k x && gives (operation k core.entries) m x))) d).0
-due_within core (Serves e) k x d = absurd (cc)
+due_within core (Completes s m) k x d = grind (arith, answering, and_parts)
+due_within core item k x d = absurd (cc)
 
 pub canonical_serves : (state : State) → IsCanonical state → (item : Item) → IsServedFor state item
 canonical_serves state c item k x d = let w : (0 < k) × (k ≤ length state.core.entries) = due_within state.core item k x d in served_atomically _ state.served k x (c.all k w.0 w.1)
@@ -199,25 +177,16 @@ not_empty (c ∷ cs) f e = (cc)
 pub enc-long : (m : Message) (b : ℕ) → enc m ≡ b ∷ [] → ⊥
 unfolding enc head
 enc-long (Greeting flags) b e = (cc)
-enc-long (ClientFlags flags) b e = (cc)
-enc-long (Choice id payload) b e = (cc)
-enc-long (Answer option kind payload) b e = (cc)
-enc-long (Exported size flags padded) b e = (cc)
-enc-long (Request flags command cookie offset len payload) b e = (cc)
-enc-long (ExtendedRequest flags command cookie offset len payload) b e = (cc)
-enc-long (Simple error cookie payload) b e = (cc)
-enc-long (Chunk flags kind cookie payload) b e = (cc)
-enc-long (ExtendedChunk flags kind cookie at payload) b e = (cc)
+enc-long m b e = (cc)
 
 -- a new guess for one side
 guess_with : (olds ends : Both Rest) (opens : Both Open) (s : Side) (rest : Rest) (o : Open) →
     ((u : Side) → Guess (get (put olds s rest) u) (get ends u) u (get opens u)) → Guess (get olds s) (get ends s) s o →
     (u : Side) → Guess (get olds u) (get ends u) u (get (put opens s o) u)
-guess_with olds ends opens s rest o all here u = go (same_or_not s u)
-  where
-    go : (s ≡ u) ⊎ (s ≡ u → ⊥) → Guess (get olds u) (get ends u) u (get (put opens s o) u)
-    go (inl e) = subst (λ v. Guess (get olds v) (get ends v) v (get (put opens s o) v)) e (subst (λ x. Guess (get olds s) (get ends s) s x) (sym (get-put_same opens s o)) here)
-    go (inr ne) = subst (λ x. Guess (get olds u) (get ends u) u x) (sym (get-put_other opens s u o ne)) (subst (λ r. Guess r (get ends u) u (get opens u)) (get-put_other olds s u rest ne) (all u))
+guess_with olds ends opens Client rest o all here Client = here
+guess_with olds ends opens Client rest o all here Server = all Server
+guess_with olds ends opens Server rest o all here Client = all Client
+guess_with olds ends opens Server rest o all here Server = here
 
 put-again : {A : Type 0} (p : Both A) (s : Side) (a c : A) → put (put p s a) s c ≡ put p s c
 put-again p Client a c = refl
@@ -240,10 +209,7 @@ tracks_service judge old new (inr e) reader items h = h
 
 pub tracks_more : (judge : Judge) (reader : Reader) (s : Side) (b : ℕ) (items : List Item) → Tracks judge (with_byte reader s b) items → ((x : Item) (xs : List Item) → items ≡ x ∷ xs → IsMore judge (with_byte reader s b) s) → Tracks judge reader (Byte s b ∷ items)
 tracks_more judge reader s b [] h more = tt
-tracks_more judge reader s b (Byte t c ∷ items) h more = (more (Byte t c) items refl, h)
-tracks_more judge reader s b (Starts t m ∷ items) h more = (more (Starts t m) items refl, h)
-tracks_more judge reader s b (Serves k ∷ items) h more = (more (Serves k) items refl, h)
-tracks_more judge reader s b (Completes t m ∷ items) h more = absurd h
+tracks_more judge reader s b (item ∷ items) h more = grind arith
 
 module _ (judge : Judge) (reader end : Reader) (js : List Entry) (canonical : IsCanonical (record { core = reader.core; served = js })) (s : Side) (b : ℕ) (ps : List Pair) where
   abbrev rest_of : Rest

@@ -4,7 +4,7 @@ use Rattle.std.proofs.lemmas.Bool.{eqb-true, leb-true, le-leb}
 use Rattle.nbd_wire.specs.declared.entry.Entry.{Entry}
 use Rattle.nbd_wire.specs.declared.commands.TheConstants as commands
 use Rattle.nbd_wire.specs.declared.message.Message.{Message}
-use Rattle.nbd_wire.specs.declared.message.Message.TheVariants.{Greeting, ClientFlags, Choice, Answer, Exported, Request, Simple, Chunk, ExtendedRequest, ExtendedChunk}
+use Rattle.nbd_wire.specs.declared.message.Message.TheVariants.{Request}
 use Rattle.nbd_wire.specs.declared.message.Side.TheVariants.{Client, Server}
 use Rattle.nbd_wire.specs.declared.profile.Profile.{Profile}
 use Rattle.nbd_wire.specs.protocol.Marks.{Item, Byte, Starts, Completes, Serves}
@@ -13,7 +13,7 @@ use Rattle.nbd_wire.specs.protocol.Reports.{first_known, first_shown, known_from
 use Rattle.nbd_wire.specs.protocol.Rules.{Obeys, complete, core_with_request, gives, inside_at, is_by_chunk, is_reply_to, is_this, makes_due, noted, reply_to, request_of_reply, shown_with}
 use Rattle.nbd_wire.specs.protocol.States.{Core, Shown, operation}
 use Rattle.nbd_wire.specs.declared.payloads.Piece.{Piece}
-use Rattle.nbd_wire.specs.protocol.Pieces.{byte_at, holds, is_in, piece_byte, piece_of, piece_offset, piece_size}
+use Rattle.nbd_wire.specs.protocol.Pieces.{byte_at, piece_offset, piece_size}
 use Rattle.nbd_laws.proofs.service.InsideLemmas.{IsSettled, chunk_end, core_end, entries_grow, inside_end, settled_complete}
 use Rattle.nbd_laws.proofs.runs.BegunLemmas.{asks_only}
 use Rattle.nbd_laws.proofs.runs.ProfileLemmas.{profile_stays}
@@ -34,15 +34,9 @@ first_is (Some j) core k later = refl
 -- what is known of a request has completed
 pub known_within : (core : Core) (items : List Item) (k n : ℕ) → known_from core k items ≡ Some n → (0 < k) × (k ≤ length (core_end core items).entries)
 known_within core [] k n e = absurd (cc)
-known_within core (Byte s b ∷ items) k n e = known_within core items k n e
-known_within core (Starts Client m ∷ items) k n e = known_within core items k n e
-known_within core (Starts Server m ∷ items) k n e = go (is_reply_to core m k) refl (sym (first_is (request_of_reply core m) core k (known_from core k items)) ∙ e) (known_within core items k n)
-  where
-    go : (b : Bool) → is_reply_to core m k ≡ b → known_if b core (known_from core k items) ≡ Some n → (known_from core k items ≡ Some n → (0 < k) × (k ≤ length (core_end core items).entries)) → (0 < k) × (k ≤ length (core_end core items).entries)
-    go true r e ih = (let w = answering core m k r in let g = entries_grow core items in (w.0, omega (arith, w.1, g)))
-    go false r e ih = ih e
+known_within core (Starts Server m ∷ items) k n e = grind (arith, first_is, core_end, answering, entries_grow, known_within core items k n)
 known_within core (Completes s m ∷ items) k n e = known_within (complete core m) items k n e
-known_within core (Serves j ∷ items) k n e = known_within core items k n e
+known_within core (item ∷ items) k n e = known_within core items k n e
 
 -- a request that is not served by chunk is due when its first reply starts
 pub due_known : (q : Profile) (items : List Item) (core : Core) (js : List Entry) → Obeys (record { core = core; served = js }) items → core.profile ≡ q → (k x : ℕ) →
@@ -95,31 +89,15 @@ noted_none (Some v) n = refl
 
 first_more : (xs ys : List Shown) (x : ℕ) → first_shown (xs ++ ys) x ≡ or_later (first_shown xs x) (first_shown ys x)
 first_more [] ys x = refl
-first_more (s ∷ xs) ys x = go (is_in s.offset s.size x) (first_more xs ys x)
-  where
-    go : (b : Bool) → first_shown (xs ++ ys) x ≡ or_later (first_shown xs x) (first_shown ys x) →
-        (if b then Some s.count else first_shown (xs ++ ys) x) ≡ or_later (if b then Some s.count else first_shown xs x) (first_shown ys x)
-    go true ih = refl
-    go false ih = ih
+first_more (s ∷ xs) ys x = grind (arith, first_more xs ys x)
 
 first_of_pieces : (ps : List Piece) (n x : ℕ) → first_shown (map (λ p. record { offset = piece_offset p; size = piece_size p; count = n }) ps) x ≡ (if is_some (byte_at ps x) then Some n else None)
 first_of_pieces [] n x = refl
-first_of_pieces (p ∷ ps) n x = go (holds p x) (first_of_pieces ps n x)
-  where
-    go : (b : Bool) → first_shown (map (λ p. record { offset = piece_offset p; size = piece_size p; count = n }) ps) x ≡ (if is_some (byte_at ps x) then Some n else None) →
-        (if b then Some n else first_shown (map (λ p. record { offset = piece_offset p; size = piece_size p; count = n }) ps) x) ≡ (if is_some (if b then Some (piece_byte p x) else byte_at ps x) then Some n else None)
-    go true ih = refl
-    go false ih = ih
+first_of_pieces (p ∷ ps) n x = grind (arith, first_of_pieces ps n x)
 
 first_with : (o : Option Operation) (m : Message) (n x : ℕ) → first_shown (shown_with o m n) x ≡ (if gives o m x && not (ends_reply m) then Some n else None)
 first_with None m n x = refl
-first_with (Some e) m n x = go (e.command == commands.READ) (ends_reply m)
-  where
-    go : (r d : Bool) → first_shown (if r && not d then map (λ p. record { offset = piece_offset p; size = piece_size p; count = n }) (piece_of e.offset m) else []) x
-        ≡ (if (r && is_some (byte_at (piece_of e.offset m) x)) && not d then Some n else None)
-    go false d = refl
-    go true true = ap (λ b. if b then Some n else None) (sym (and_no (is_some (byte_at (piece_of e.offset m) x))))
-    go true false = first_of_pieces (piece_of e.offset m) n x ∙ ap (λ b. if b then Some n else None) (sym (and_yes (is_some (byte_at (piece_of e.offset m) x))))
+first_with (Some e) m n x = grind (arith, and_no, first_of_pieces, and_yes)
 
 noted_is : (o : Option ℕ) (b : Bool) (n : ℕ) → or_later o (if b then Some n else None) ≡ noted o b n
 noted_is (Some v) b n = refl
@@ -158,29 +136,13 @@ request_ended false core e k n = noted_none (core.ended_at k) n
 
 pub shown_complete : (core : Core) (m : Message) (k x : ℕ) → shown_at (complete core m) k x ≡ noted (shown_at core k x) (is_reply_to core m k && shows_at core m k x) (length core.entries)
 unfolding complete
-shown_complete core (Greeting flags) k x = noted_none (shown_at core k x) (length core.entries)
-shown_complete core (ClientFlags flags) k x = noted_none (shown_at core k x) (length core.entries)
-shown_complete core (Choice id p) k x = noted_none (shown_at core k x) (length core.entries)
-shown_complete core (Answer option kind p) k x = noted_none (shown_at core k x) (length core.entries)
-shown_complete core (Exported size flags padded) k x = noted_none (shown_at core k x) (length core.entries)
 shown_complete core (Request flags command cookie offset len p) k x = request_shown (command == commands.DISC) core _ k x (length core.entries)
-shown_complete core (ExtendedRequest flags command cookie offset len p) k x = request_shown (command == commands.DISC) core _ k x (length core.entries)
-shown_complete core (Simple error cookie p) k x = reply_shown (request_of_reply core (Simple error cookie p)) core (Simple error cookie p) k x
-shown_complete core (Chunk flags kind cookie p) k x = reply_shown (request_of_reply core (Chunk flags kind cookie p)) core (Chunk flags kind cookie p) k x
-shown_complete core (ExtendedChunk flags kind cookie at p) k x = reply_shown (request_of_reply core (ExtendedChunk flags kind cookie at p)) core (ExtendedChunk flags kind cookie at p) k x
+shown_complete core m k x = grind (arith, request_shown, reply_shown, noted_none)
 
 pub ended_complete : (core : Core) (m : Message) (k : ℕ) → (complete core m).ended_at k ≡ noted (core.ended_at k) (is_reply_to core m k && ends_reply m) (length core.entries)
 unfolding complete
-ended_complete core (Greeting flags) k = noted_none (core.ended_at k) (length core.entries)
-ended_complete core (ClientFlags flags) k = noted_none (core.ended_at k) (length core.entries)
-ended_complete core (Choice id p) k = noted_none (core.ended_at k) (length core.entries)
-ended_complete core (Answer option kind p) k = noted_none (core.ended_at k) (length core.entries)
-ended_complete core (Exported size flags padded) k = noted_none (core.ended_at k) (length core.entries)
 ended_complete core (Request flags command cookie offset len p) k = request_ended (command == commands.DISC) core _ k (length core.entries)
-ended_complete core (ExtendedRequest flags command cookie offset len p) k = request_ended (command == commands.DISC) core _ k (length core.entries)
-ended_complete core (Simple error cookie p) k = reply_ended (request_of_reply core (Simple error cookie p)) core (Simple error cookie p) k
-ended_complete core (Chunk flags kind cookie p) k = reply_ended (request_of_reply core (Chunk flags kind cookie p)) core (Chunk flags kind cookie p) k
-ended_complete core (ExtendedChunk flags kind cookie at p) k = reply_ended (request_of_reply core (ExtendedChunk flags kind cookie at p)) core (ExtendedChunk flags kind cookie at p) k
+ended_complete core m k = grind (arith, request_ended, reply_ended, noted_none)
 
 -- what was noted, or is noted now
 pub noted_cases : (o : Option ℕ) (b : Bool) (n v : ℕ) → noted o b n ≡ Some v → (o ≡ Some v) ⊎ ((b ≡ true) × (v ≡ n))
@@ -220,11 +182,7 @@ lesser_left : (u n : ℕ) → u ≤ n → lesser_of (Some u) (Some n) ≡ Some u
 lesser_left u n l = ap (λ b. Some (if b then u else n)) (le-leb u n l)
 
 lesser_right : (u n : ℕ) → u ≤ n → lesser_of (Some n) (Some u) ≡ Some u
-lesser_right u n l = go (nat_le n u) refl
-  where
-    go : (b : Bool) → nat_le n u ≡ b → Some (if b then n else u) ≡ Some u
-    go true q = (let a : n ≤ u = leb-true n u q in ap Some (omega (arith, a, l)))
-    go false q = refl
+lesser_right u n l = grind (arith, nat_le, leb-true)
 
 lesser_same : (n : ℕ) → lesser_of (Some n) (Some n) ≡ Some n
 lesser_same n = lesser_left n n (omega arith)
@@ -232,43 +190,18 @@ lesser_same n = lesser_left n n (omega arith)
 -- one more message of its reply
 by_chunk_noted : (within shows ends : Bool) (shown ended : Option ℕ) (n : ℕ) → ((v : ℕ) → shown ≡ Some v → v ≤ n) → ((v : ℕ) → ended ≡ Some v → v ≤ n) →
     by_chunk within (noted shown shows n) (noted ended ends n) ≡ or_later (by_chunk within shown ended) (if ends || (within && shows) then Some n else None)
-by_chunk_noted true shows ends (Some u) (Some v) n hs he = both u v
-  where
-    both : (u v : ℕ) → lesser_of (Some u) (Some v) ≡ or_later (lesser_of (Some u) (Some v)) (if ends || (true && shows) then Some n else None)
-    both u v = refl
-by_chunk_noted true shows true (Some u) None n hs he = lesser_left u n (hs u refl)
-by_chunk_noted true shows false (Some u) None n hs he = refl
-by_chunk_noted true true ends None (Some v) n hs he = lesser_right v n (he v refl)
-by_chunk_noted true false ends None (Some v) n hs he = refl
-by_chunk_noted true true true None None n hs he = lesser_same n
-by_chunk_noted true true false None None n hs he = refl
-by_chunk_noted true false true None None n hs he = refl
-by_chunk_noted true false false None None n hs he = refl
+by_chunk_noted true shows ends (Some u) (Some v) n hs he = grind arith
 by_chunk_noted false shows ends shown (Some v) n hs he = refl
-by_chunk_noted false shows true shown None n hs he = refl
-by_chunk_noted false shows false shown None n hs he = refl
+by_chunk_noted within shows ends shown ended n hs he = grind (arith, lesser_left, lesser_right, lesser_same)
 
 -- what a READ by chunk has shown at the end is what fell due on the way
 pub due_chunk : (q : Profile) (items : List Item) (core : Core) (js : List Entry) → Obeys (record { core = core; served = js }) items → IsSettled core → core.profile ≡ q → IsBounded core → (k x : ℕ) →
     is_by_chunk q (operation k (core_end core items).entries) ≡ true →
     by_chunk (inside_at (core_end core items) k x) (shown_at (core_end core items) k x) ((core_end core items).ended_at k)
     ≡ or_later (by_chunk (inside_at (core_end core items) k x) (shown_at core k x) (core.ended_at k)) (due_from core items k x)
-due_chunk q [] core js ob settled prof h k x chunk = none (by_chunk (inside_at core k x) (shown_at core k x) (core.ended_at k))
-  where
-    none : (o : Option ℕ) → o ≡ or_later o None
-    none None = refl
-    none (Some n) = refl
+due_chunk q [] core js ob settled prof h k x chunk = grind arith
 due_chunk q (Byte s b ∷ items) core js ob settled prof h k x chunk = due_chunk q items core js ob.1 settled prof h k x chunk
-due_chunk q (Starts s m ∷ items) core js ob settled prof h k x chunk =
-    due_chunk q items core js ob.1 settled prof h k x chunk
-    ∙ ap (or_later (by_chunk (inside_at (core_end core items) k x) (shown_at core k x) (core.ended_at k))) (sym (go (is_reply_to core m k) refl))
-  where
-    go : (b : Bool) → is_reply_to core m k ≡ b → known_if (b && not (is_by_chunk core.profile (operation k core.entries))) core (due_from core items k x) ≡ due_from core items k x
-    go true r =
-        let w = answering core m k r in
-        let c : is_by_chunk core.profile (operation k core.entries) ≡ true = ap (λ p. is_by_chunk p (operation k core.entries)) prof ∙ chunk_end q core items k w.1 ∙ chunk in
-        ap (λ b. known_if (not b) core (due_from core items k x)) c
-    go false r = refl
+due_chunk q (Starts s m ∷ items) core js ob settled prof h k x chunk = grind (arith, core_end, answering, chunk_end, due_chunk q items core js ob.1 settled prof h k x chunk)
 due_chunk q (Completes s m ∷ items) core js ob settled prof h k x chunk =
     due_chunk q items next js ob.1 (settled_complete core m ob.0.0 settled) (profile_stays core m ∙ prof) (bounded_complete core m h) k x chunk
     ∙ ap (λ o. or_later o later) (here (is_reply_to core m k) refl)

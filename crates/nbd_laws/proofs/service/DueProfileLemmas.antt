@@ -1,5 +1,5 @@
 -- What is due in the one profile, and in the other.
-use Rattle.std.proofs.Common.{◌≡◌, ℕ, ◌≤◌, ◌==◌, List, refl, sym, ◌∙◌, ap, subst, Option, Some, None, Bool, true, false, arith, if◌then◌else◌, nat_le, eqb-true}
+use Rattle.std.proofs.Common.{◌≡◌, ℕ, ◌≤◌, ◌==◌, List, refl, sym, ◌∙◌, ap, Option, Some, None, Bool, true, false, arith, if◌then◌else◌, nat_le, eqb-true}
 use Rattle.std.proofs.lemmas.Bool.{leb-true}
 use Rattle.nbd_wire.specs.declared.commands.TheConstants as commands
 use Rattle.nbd_wire.specs.declared.entry.Entry.{Entry}
@@ -7,9 +7,9 @@ use Rattle.nbd_wire.specs.declared.profile.Profile.{Profile}
 use Rattle.nbd_wire.specs.declared.profile.Profile.TheVariants.{Base, Wide}
 use Rattle.nbd_wire.specs.protocol.Marks.{Item}
 use Rattle.nbd_wire.specs.protocol.Operations.{Operation}
-use Rattle.nbd_wire.specs.protocol.Reports.{due_by_chunk, due_in, due_of, inside_in, known_count, operations_of, report}
-use Rattle.nbd_wire.specs.protocol.Rules.{IsRunOf, ends_at}
-use Rattle.nbd_wire.specs.protocol.States.{Core, operation, start}
+use Rattle.nbd_wire.specs.protocol.Reports.{due_by_chunk, due_in, due_of, report}
+use Rattle.nbd_wire.specs.protocol.Rules.{IsRunOf}
+use Rattle.nbd_wire.specs.protocol.States.{Core}
 use Rattle.nbd_wire.specs.protocol.Verdicts.{IsFaultless}
 use Rattle.nbd_laws.specs.Profiles.{AnswersAtOnce}
 use Rattle.nbd_laws.proofs.requests.ReportLemmas.{asked-report, stated, told_if}
@@ -21,11 +21,7 @@ abbrev Sooner : Option ℕ → ℕ → Type 0
 Sooner κ n = (m : ℕ) × (κ ≡ Some m) × (m ≤ n)
 
 chunk_sooner : (within : Bool) (shown ended κ : Option ℕ) (n : ℕ) → ((v : ℕ) → shown ≡ Some v → Sooner κ v) → ((v : ℕ) → ended ≡ Some v → Sooner κ v) → by_chunk within shown ended ≡ Some n → Sooner κ n
-chunk_sooner true (Some u) (Some v) κ n s e h = go (nat_le u v) h
-  where
-    go : (b : Bool) → Some (if b then u else v) ≡ Some n → Sooner κ n
-    go true q = (let r = s u refl in let same : u ≡ n = cc in subst (Sooner κ) same r)
-    go false q = (let r = e v refl in let same : v ≡ n = cc in subst (Sooner κ) same r)
+chunk_sooner true (Some u) (Some v) κ n s e h = grind (arith, nat_le)
 chunk_sooner true (Some u) None κ n s e h = s n h
 chunk_sooner true None ended κ n s e h = e n h
 chunk_sooner false shown ended κ n s e h = e n h
@@ -34,17 +30,10 @@ chunk_sooner false shown ended κ n s e h = e n h
 later_told : (core : Core) (κ : ℕ → Option ℕ) (k : ℕ) (o : Option Operation) (within : ℕ → Bool) (x n : ℕ) → IsSooner k (κ k) core → due_of Wide within (told_if core κ k o) x ≡ Some n →
     Sooner (due_of Base within (told_if core κ k o) x) n
 later_told core κ k None within x n s h = absurd (cc)
-later_told core κ k (Some e) within x n s h = go (e.command == commands.READ) h
-  where
-    go : (b : Bool) → (if b then due_by_chunk within (stated core κ k e) x else κ k) ≡ Some n → Sooner (κ k) n
-    go false q = (n, q, omega arith)
-    go true q = chunk_sooner (within x) (shown_at core k x) (core.ended_at k) (κ k) n (λ v e. (let r = s.shown x v e in (r.0, r.1, r.2))) (λ v e. (let r = s.ended v e in (r.0, r.1, r.2))) q
+later_told core κ k (Some e) within x n s h = grind (arith, stated, chunk_sooner, shown_at)
 
 later_in : {profile : Profile} (items : List Item) → IsRunOf profile items → (k x n : ℕ) → due_in Wide (report items) k x ≡ Some n → Sooner (due_in Base (report items) k x) n
-later_in items run k x n h =
-    subst (λ o. Sooner (due_of Base (inside_in (report items) k) o x) n) (sym (asked-report items k))
-    (later_told (ends_at start items).core (known_count items) k (operation k (operations_of items)) (inside_in (report items) k) x n (sooner_at_end items run k)
-    (sym (ap (λ o. due_of Wide (inside_in (report items) k) o x) (asked-report items k)) ∙ h))
+later_in items run k x n h = grind (arith, asked-report, later_told, sooner_at_end)
 
 -- what has no fault in Base has none in Wide
 pub faultless_wide : {profile : Profile} (items : List Item) (order : List Entry) → IsRunOf profile items → IsFaultless Base (report items) order → IsFaultless Wide (report items) order
@@ -56,14 +45,7 @@ faultless_wide items order run h = record {
 
 chunk_at_once : (within : Bool) (shown κ : Option ℕ) → ((v : ℕ) → shown ≡ Some v → Sooner κ v) → by_chunk within shown κ ≡ κ
 chunk_at_once true (Some v) None s = absurd (let r = s v refl in let z : None ≡ Some r.0 = r.1 in (cc))
-chunk_at_once true (Some v) (Some n) s = go (nat_le v n) refl
-  where
-    r : Sooner (Some n) v
-    r = s v refl
-
-    go : (b : Bool) → nat_le v n ≡ b → Some (if b then v else n) ≡ Some n
-    go true q = (let a : v ≤ n = leb-true v n q in let l : r.0 ≤ v = r.2 in let z : Some n ≡ Some r.0 = r.1 in let w : n ≡ r.0 = cc in ap Some (omega (arith, a, l, w)))
-    go false q = refl
+chunk_at_once true (Some v) (Some n) s = grind (arith, nat_le, leb-true)
 chunk_at_once true None κ s = refl
 chunk_at_once false shown κ s = refl
 
@@ -81,7 +63,4 @@ at_once_told Wide core κ k (Some e) within x s once = go (e.command == commands
 
 -- where READs are answered at once, the same is due in each profile
 pub due_at_once : {profile : Profile} (p : Profile) (items : List Item) → IsRunOf profile items → AnswersAtOnce (report items) → (k x : ℕ) → due_in p (report items) k x ≡ due_in Base (report items) k x
-due_at_once p items run once k x =
-    subst (λ o. due_of p (inside_in (report items) k) o x ≡ due_of Base (inside_in (report items) k) o x) (sym (asked-report items k))
-    (at_once_told p (ends_at start items).core (known_count items) k (operation k (operations_of items)) (inside_in (report items) k) x (sooner_at_end items run k)
-    (λ e q c. once k (stated (ends_at start items).core (known_count items) k e) (asked-report items k ∙ ap (told_if (ends_at start items).core (known_count items) k) q) c))
+due_at_once p items run once k x = grind (arith, asked-report, at_once_told, sooner_at_end, stated, told_if)

@@ -13,10 +13,6 @@ pub Names-left : (es fs : List Entry) (k : ℕ) → Names es k → Names (es ++ 
 Names-left (e ∷ es) fs k = elim [ inl q ↦ inl q | inr h ↦ inr (Names-left es fs k h) ]
 Names-left [] fs k = λ h. absurd h
 
-pub Names-right : (es fs : List Entry) (k : ℕ) → Names fs k → Names (es ++ fs) k
-Names-right [] fs k h = h
-Names-right (e ∷ es) fs k h = inr (Names-right es fs k h)
-
 pub Names-append_cases : (es fs : List Entry) (k : ℕ) → Names (es ++ fs) k → Names es k ⊎ Names fs k
 Names-append_cases [] fs k h = inr h
 Names-append_cases (e ∷ es) fs k h = elim h [ inl q ↦ inl (inl q) | inr n ↦ elim (Names-append_cases es fs k n) [ inl a ↦ inl (inr a) | inr b ↦ inr b ] ]
@@ -130,13 +126,6 @@ pub record HasNoFault (count : ℕ) (due : ℕ → ℕ → Option ℕ) (inside :
   pub fine : AreFine count inside [] order
   pub in_time : IsInTime due order
   pub served : (k x n : ℕ) → 0 < k → k ≤ count → due k x ≡ Some n → IsServedAt (inside k) order k x
-
-pub fine_named : (count : ℕ) (inside : ℕ → ℕ → Bool) (before order : List Entry) (k : ℕ) → AreFine count inside before order → Names order k → (0 < k) × (k ≤ count)
-fine_named count inside before [] k f n = absurd n
-fine_named count inside before (e ∷ order) k f n = elim n [
-  | inl q ↦ subst (λ j. (0 < j) × (j ≤ count)) q (f.0.0, f.0.1)
-  | inr m ↦ fine_named count inside (before ++ e ∷ []) order k f.1 m
-]
 
 pub AreFine-left : (count : ℕ) (inside : ℕ → ℕ → Bool) (before es fs : List Entry) → AreFine count inside before (es ++ fs) → AreFine count inside before es
 AreFine-left count inside before [] fs f = tt

@@ -1,16 +1,16 @@
 -- What lies inside a request does not change while messages complete.
-use Rattle.std.proofs.Common.{◌≡◌, ℕ, zero, suc, ◌<◌, ◌≤◌, ◌==◌, List, [], ◌∷◌, ◌++◌, length, refl, sym, ◌∙◌, ap, subst, inl, inr, Option, Some, None, Bool, true, false, arith, le_refl}
+use Rattle.std.proofs.Common.{◌≡◌, ℕ, zero, suc, ◌<◌, ◌≤◌, ◌==◌, List, [], ◌∷◌, ◌++◌, length, refl, sym, ◌∙◌, ap, inl, inr, Option, Some, None, Bool, true, false, arith, le_refl}
 use Rattle.nbd_wire.specs.declared.commands.TheConstants as commands
 use Rattle.nbd_wire.specs.declared.entry.Entry.{Entry}
 use Rattle.nbd_wire.specs.declared.message.Message.{Message}
-use Rattle.nbd_wire.specs.declared.message.Message.TheVariants.{Greeting, ClientFlags, Choice, Answer, Exported, Request, Simple, Chunk, ExtendedRequest, ExtendedChunk}
+use Rattle.nbd_wire.specs.declared.message.Message.TheVariants.{Greeting, ClientFlags, Choice, Answer, Exported, Request}
 use Rattle.nbd_wire.specs.declared.profile.Profile.{Profile}
 use Rattle.nbd_wire.specs.declared.profile.Profile.TheVariants.{Base, Wide}
 use Rattle.nbd_wire.specs.protocol.Marks.{Item, Byte, Starts, Completes, Serves}
 use Rattle.nbd_wire.specs.protocol.Operations.{Exporting, Operation, is_proper}
-use Rattle.nbd_wire.specs.protocol.Rules.{MayComplete, Obeys, complete, core_with_request, inside_at, inside_operation, is_by_chunk, reply_to, request_of_reply}
+use Rattle.nbd_wire.specs.protocol.Rules.{MayComplete, Obeys, complete, core_with_request, inside_at, inside_operation, is_by_chunk, reply_to}
 use Rattle.nbd_wire.specs.protocol.States.{Core, Phase, Greet, Flags, Choosing, Naming, Aborting, Answering, Transmission, export_in, operation, with_reply, with_reply_at}
-use Rattle.nbd_laws.proofs.runs.PrefixLemmas.{InTransmission, asks, gives, in_transmission, phase-complete, replies, transmission_row, asks_more, gives_more}
+use Rattle.nbd_laws.proofs.runs.PrefixLemmas.{InTransmission, asks, in_transmission, phase-complete, transmission_row}
 use Rattle.nbd_laws.proofs.runs.TraceLemmas.{length-complete}
 
 -- the core after the items
@@ -23,12 +23,8 @@ core_end core (Serves e ∷ items) = core_end core items
 
 pub entries_grow : (core : Core) (items : List Item) → length core.entries ≤ length (core_end core items).entries
 entries_grow core [] = le_refl _
-entries_grow core (Byte s b ∷ items) = entries_grow core items
-entries_grow core (Starts s m ∷ items) = entries_grow core items
-entries_grow core (Completes s m ∷ items) =
-    let ih : length (complete core m).entries ≤ length (core_end (complete core m) items).entries = entries_grow (complete core m) items in
-    elim (length-complete core m) [ inl e ↦ omega arith | inr e ↦ omega arith ]
-entries_grow core (Serves e ∷ items) = entries_grow core items
+entries_grow core (Completes s m ∷ items) = grind (arith, length-complete, entries_grow (complete core m) items)
+entries_grow core (item ∷ items) = entries_grow core items
 
 -- requests come in transmission alone
 abbrev pub IsSettled : Core → Type 0
@@ -36,9 +32,7 @@ IsSettled core = 0 < length core.entries → (export : Exporting) × (core.phase
 
 -- a message completes in a phase without requests
 settled_before : (core end : Core) (phase : Phase) → IsSettled core → core.phase ≡ phase → ((export : Exporting) → phase ≡ Transmission export → ⊥) → end.entries ≡ core.entries → IsSettled end
-settled_before core end phase settled q other same l =
-    let t : (export : Exporting) × (core.phase ≡ Transmission export) = settled (subst (λ es. 0 < length es) same l) in
-    absurd (other t.0 (sym q ∙ t.1))
+settled_before core end phase settled q other same l = grind arith
 
 settled_in : (core : Core) (phase : Phase) (m : Message) → core.phase ≡ phase → MayComplete core phase m → IsSettled core → IsSettled (complete core m)
 unfolding MayComplete complete
@@ -47,8 +41,7 @@ settled_in core Flags (ClientFlags flags) q ok h = settled_before core (complete
 settled_in core Choosing (Choice id p) q ok h = settled_before core (complete core (Choice id p)) Choosing h q (λ export t. cc) refl
 settled_in core Naming (Exported size flags padded) q ok h = settled_before core (complete core (Exported size flags padded)) Naming h q (λ export t. cc) refl
 settled_in core Aborting (Answer option kind p) q ok h = settled_before core (complete core (Answer option kind p)) Aborting h q (λ export t. cc) refl
-settled_in core (Answering asked asked_with info) (Answer option kind p) q ok h =
-    settled_before core (complete core (Answer option kind p)) (Answering asked asked_with info) h q (λ export t. cc) refl
+settled_in core (Answering asked asked_with info) (Answer option kind p) q ok h = grind (arith, settled_before)
 settled_in core (Transmission export) m q ok h = λ l. (export, phase-complete core export m (transmission_row core export m ok) ∙ q)
 settled_in core phase m q ok h = absurd ok
 
@@ -66,10 +59,8 @@ inside_replied export j m [] k = refl
 inside_replied export zero m (e ∷ es) k = refl
 inside_replied export (suc zero) m (e ∷ es) zero = refl
 inside_replied export (suc zero) m (e ∷ es) (suc zero) = same_inside export e m
-inside_replied export (suc zero) m (e ∷ es) (suc (suc k)) = refl
-inside_replied export (suc (suc j)) m (e ∷ es) zero = refl
-inside_replied export (suc (suc j)) m (e ∷ es) (suc zero) = refl
 inside_replied export (suc (suc j)) m (e ∷ es) (suc (suc k)) = inside_replied export (suc j) m es (suc k)
+inside_replied export j m es k = refl
 
 inside_reply_to : (export : Option Exporting) (o : Option ℕ) (core : Core) (m : Message) (k : ℕ) → inside_operation export (operation k (reply_to o core m).entries) ≡ inside_operation export (operation k core.entries)
 inside_reply_to export (Some j) core m k = inside_replied export j m core.entries k
@@ -90,10 +81,7 @@ inside_transmitted : (core : Core) (export : Exporting) (m : Message) → InTran
     inside_operation o (operation k (complete core m).entries) ≡ inside_operation o (operation k core.entries)
 unfolding complete
 inside_transmitted core export m (asks flags command cookie offset len p h) o k l = ap (inside_operation o) (operation_requested (command == commands.DISC) core _ k l)
-inside_transmitted core export m (asks_more flags command cookie offset len p h) o k l = ap (inside_operation o) (operation_requested (command == commands.DISC) core _ k l)
-inside_transmitted core export m (replies error cookie p h) o k l = inside_reply_to o (request_of_reply core (Simple error cookie p)) core (Simple error cookie p) k
-inside_transmitted core export m (gives flags kind cookie p h) o k l = inside_reply_to o (request_of_reply core (Chunk flags kind cookie p)) core (Chunk flags kind cookie p) k
-inside_transmitted core export m (gives_more flags kind cookie at p h) o k l = inside_reply_to o (request_of_reply core (ExtendedChunk flags kind cookie at p)) core (ExtendedChunk flags kind cookie at p) k
+inside_transmitted core export m x o k l = grind (arith, operation_requested, inside_reply_to)
 
 inside_complete : (core : Core) (m : Message) → MayComplete core core.phase m → IsSettled core → (k : ℕ) → 0 < k → k ≤ length core.entries → inside_at (complete core m) k ≡ inside_at core k
 inside_complete core m ok settled k p l =
@@ -106,24 +94,19 @@ inside_complete core m ok settled k p l =
 pub inside_end : (items : List Item) (core : Core) (js : List Entry) → IsSettled core → Obeys (record { core = core; served = js }) items →
     (k : ℕ) → 0 < k → k ≤ length core.entries → inside_at core k ≡ inside_at (core_end core items) k
 inside_end [] core js settled ob k p l = refl
-inside_end (Byte s b ∷ items) core js settled ob k p l = inside_end items core js settled ob.1 k p l
-inside_end (Starts s m ∷ items) core js settled ob k p l = inside_end items core js settled ob.1 k p l
 inside_end (Completes s m ∷ items) core js settled ob k p l =
     let more : k ≤ length (complete core m).entries = elim (length-complete core m) [ inl e ↦ omega arith | inr e ↦ omega arith ] in
     sym (inside_complete core m ob.0.0 settled k p l) ∙ inside_end items (complete core m) js (settled_complete core m ob.0.0 settled) ob.1 k p more
 inside_end (Serves e ∷ items) core js settled ob k p l = inside_end items core (js ++ e ∷ []) settled ob.1 k p l
+inside_end (item ∷ items) core js settled ob k p l = inside_end items core js settled ob.1 k p l
 
 -- a reply changes nothing of whether its request is served by chunk
 chunk_replied : (q : Profile) (j : ℕ) (m : Message) (es : List Operation) (k : ℕ) → is_by_chunk q (operation k (with_reply_at j m es)) ≡ is_by_chunk q (operation k es)
 chunk_replied q j m [] k = refl
-chunk_replied q zero m (e ∷ es) k = refl
-chunk_replied q (suc zero) m (e ∷ es) zero = refl
 chunk_replied Base (suc zero) m (e ∷ es) (suc zero) = refl
 chunk_replied Wide (suc zero) m (e ∷ es) (suc zero) = refl
-chunk_replied q (suc zero) m (e ∷ es) (suc (suc k)) = refl
-chunk_replied q (suc (suc j)) m (e ∷ es) zero = refl
-chunk_replied q (suc (suc j)) m (e ∷ es) (suc zero) = refl
 chunk_replied q (suc (suc j)) m (e ∷ es) (suc (suc k)) = chunk_replied q (suc j) m es (suc k)
+chunk_replied q j m es k = refl
 
 chunk_reply_to : (q : Profile) (o : Option ℕ) (core : Core) (m : Message) (k : ℕ) → is_by_chunk q (operation k (reply_to o core m).entries) ≡ is_by_chunk q (operation k core.entries)
 chunk_reply_to q (Some j) core m k = chunk_replied q j m core.entries k
@@ -131,23 +114,13 @@ chunk_reply_to q None core m k = refl
 
 chunk_complete : (q : Profile) (core : Core) (m : Message) (k : ℕ) → k ≤ length core.entries → is_by_chunk q (operation k core.entries) ≡ is_by_chunk q (operation k (complete core m).entries)
 unfolding complete
-chunk_complete q core (Greeting flags) k l = refl
-chunk_complete q core (ClientFlags flags) k l = refl
-chunk_complete q core (Choice id p) k l = refl
-chunk_complete q core (Answer option kind p) k l = refl
-chunk_complete q core (Exported size flags padded) k l = refl
 chunk_complete q core (Request flags command cookie offset len p) k l = ap (is_by_chunk q) (sym (operation_requested (command == commands.DISC) core _ k l))
-chunk_complete q core (ExtendedRequest flags command cookie offset len p) k l = ap (is_by_chunk q) (sym (operation_requested (command == commands.DISC) core _ k l))
-chunk_complete q core (Simple error cookie p) k l = sym (chunk_reply_to q (request_of_reply core (Simple error cookie p)) core (Simple error cookie p) k)
-chunk_complete q core (Chunk flags kind cookie p) k l = sym (chunk_reply_to q (request_of_reply core (Chunk flags kind cookie p)) core (Chunk flags kind cookie p) k)
-chunk_complete q core (ExtendedChunk flags kind cookie at p) k l = sym (chunk_reply_to q (request_of_reply core (ExtendedChunk flags kind cookie at p)) core (ExtendedChunk flags kind cookie at p) k)
+chunk_complete q core m k l = grind (arith, operation_requested, chunk_reply_to)
 
 -- whether a request is served by chunk is the same at the end
 pub chunk_end : (q : Profile) (core : Core) (items : List Item) (k : ℕ) → k ≤ length core.entries → is_by_chunk q (operation k core.entries) ≡ is_by_chunk q (operation k (core_end core items).entries)
 chunk_end q core [] k l = refl
-chunk_end q core (Byte s b ∷ items) k l = chunk_end q core items k l
-chunk_end q core (Starts s m ∷ items) k l = chunk_end q core items k l
 chunk_end q core (Completes s m ∷ items) k l =
     let more : k ≤ length (complete core m).entries = elim (length-complete core m) [ inl e ↦ omega arith | inr e ↦ omega arith ] in
     chunk_complete q core m k l ∙ chunk_end q (complete core m) items k more
-chunk_end q core (Serves e ∷ items) k l = chunk_end q core items k l
+chunk_end q core (item ∷ items) k l = chunk_end q core items k l

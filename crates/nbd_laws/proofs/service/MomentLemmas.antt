@@ -33,14 +33,7 @@ unfolding report
 export-report items = refl
 
 pub inside-report : (items : List Item) → inside_in (report items) ≡ inside_at (ends_at start items).core
-inside-report items = λ i k. (
-    ap (λ o. inside_asked o (asked_of_report k)) (export-report items)
-    ∙ ap (inside_asked (export_of items)) (asked-report items k)
-    ∙ inside-stated (ends_at start items).core (known_count items) k (operation k (operations_of items))
-    ) i
-  where
-    asked_of_report : ℕ → Option Asked
-    asked_of_report k = asked_at k (report items).asked
+inside-report items = grind (arith, export-report, asked-report, inside-stated)
 
 of_none : (p : Profile) (within : ℕ → Bool) (x : ℕ) → due_of p within None x ≡ None
 of_none Base within x = refl
@@ -49,11 +42,7 @@ of_none Wide within x = refl
 of_some : (p : Profile) (core : Core) (κ : ℕ → Option ℕ) (k : ℕ) (e : Operation) (within : ℕ → Bool) (x : ℕ) (d : Option ℕ) → (is_by_chunk p (Some e) ≡ false → κ k ≡ d) →
     (is_by_chunk p (Some e) ≡ true → by_chunk (within x) (shown_at core k x) (core.ended_at k) ≡ d) → due_of p within (Some (stated core κ k e)) x ≡ d
 of_some Base core κ k e within x d other is_chunk = other refl
-of_some Wide core κ k e within x d other is_chunk = go (e.command == commands.READ) refl
-  where
-    go : (b : Bool) → (e.command == commands.READ) ≡ b → (if b then due_by_chunk within (stated core κ k e) x else κ k) ≡ d
-    go true q = is_chunk q
-    go false q = other q
+of_some Wide core κ k e within x d other is_chunk = grind (arith, stated)
 
 -- when a request is due, by what messages have led to at the end
 due_at_end : (profile : Profile) (items : List Item) → IsRunOf profile items → (k x : ℕ) →

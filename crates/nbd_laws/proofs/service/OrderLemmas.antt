@@ -30,9 +30,7 @@ module _ (core next : Core) (item : Item) (items : List Item) (js : List Entry) 
 
   -- what it makes due is served before it
   for_end : (k x : ℕ) → IsTrue (makes_due core item k x) → IsServedAt (inside_at (core_end next items) k) js k x
-  for_end k x d =
-      let w : (0 < k) × (k ≤ length core.entries) = due_within core item k x d in
-      subst (λ within. IsServedAt within js k x) (same k w.0 w.1) (for_it k x d)
+  for_end k x d = grind (arith, due_within)
 
   answered_now : (k x n : ℕ) → due_here k x ≡ Some n → IsServedAt (inside_at (core_end next items) k) (js ++ service_order items) k x
   answered_now k x n q = go (makes_due core item k x) refl q

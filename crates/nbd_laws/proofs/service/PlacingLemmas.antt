@@ -28,19 +28,11 @@ rest n (e ∷ order) = if nat_le e.request n then rest n order else e ∷ order
 
 ready_and_rest : (n : ℕ) (order : List Entry) → order ≡ ready n order ++ rest n order
 ready_and_rest n [] = refl
-ready_and_rest n (e ∷ order) = go (nat_le e.request n) (ready_and_rest n order)
-  where
-    go : (b : Bool) → order ≡ ready n order ++ rest n order → e ∷ order ≡ (if b then e ∷ ready n order else []) ++ (if b then rest n order else e ∷ order)
-    go true ih = ap (λ l. e ∷ l) ih
-    go false ih = refl
+ready_and_rest n (e ∷ order) = grind (arith, nat_le, ready_and_rest n order)
 
 ready_within : (n : ℕ) (order : List Entry) (k : ℕ) → Names (ready n order) k → k ≤ n
 ready_within n [] k h = absurd h
-ready_within n (e ∷ order) k h = go (nat_le e.request n) refl h (ready_within n order k)
-  where
-    go : (b : Bool) → nat_le e.request n ≡ b → Names (if b then e ∷ ready n order else []) k → (Names (ready n order) k → k ≤ n) → k ≤ n
-    go true q h ih = elim h [ inl s ↦ subst (λ j. j ≤ n) s (leb-true e.request n q) | inr m ↦ ih m ]
-    go false q h ih = absurd h
+ready_within n (e ∷ order) k h = grind (arith, nat_le, leb-true, ready_within n order k)
 
 -- the first entry waits for a request that has not completed
 abbrev pub Waits : ℕ → List Entry → Type 0
@@ -49,11 +41,7 @@ Waits n (e ∷ order) = n < e.request
 
 rest_waits : (n : ℕ) (order : List Entry) → Waits n (rest n order)
 rest_waits n [] = tt
-rest_waits n (e ∷ order) = go (nat_le e.request n) refl (rest_waits n order)
-  where
-    go : (b : Bool) → nat_le e.request n ≡ b → Waits n (rest n order) → Waits n (if b then rest n order else e ∷ order)
-    go true q ih = ih
-    go false q ih = leb-false e.request n q
+rest_waits n (e ∷ order) = grind (arith, nat_le, leb-false, rest_waits n order)
 
 abbrev pub serve_all : List Entry → List Item → List Item
 serve_all [] items = items
@@ -82,21 +70,18 @@ walk_serve_all (k ∷ ks) w = serving k (walk_serve_all ks w)
 
 pub served_placed : (core : Core) (order : List Entry) (items : List Item) → service_order (placed core order items) ≡ order
 served_placed core order [] = served_serve_all order [] ∙ append-nil order
-served_placed core order (Byte s b ∷ items) = served_placed core order items
-served_placed core order (Starts s m ∷ items) = served_placed core order items
 served_placed core order (Completes s m ∷ items) =
     let n : ℕ = length (complete core m).entries in
     served_serve_all (ready n order) _ ∙ ap (λ l. ready n order ++ l) (served_placed (complete core m) (rest n order) items) ∙ sym (ready_and_rest n order)
-served_placed core order (Serves k ∷ items) = served_placed core order items
+served_placed core order (item ∷ items) = served_placed core order items
 
 pub pairs_placed : (core : Core) (order : List Entry) (items : List Item) → pairs (placed core order items) ≡ pairs items
 pairs_placed core order [] = pairs_serve_all order []
 pairs_placed core order (Byte s b ∷ items) = ap (λ l. record { from = s; byte = b } ∷ l) (pairs_placed core order items)
-pairs_placed core order (Starts s m ∷ items) = pairs_placed core order items
 pairs_placed core order (Completes s m ∷ items) =
     let n : ℕ = length (complete core m).entries in
     pairs_serve_all (ready n order) _ ∙ pairs_placed (complete core m) (rest n order) items
-pairs_placed core order (Serves k ∷ items) = pairs_placed core order items
+pairs_placed core order (item ∷ items) = pairs_placed core order items
 
 pub walk_placed : {P : Type 0} {o : Both Open} {items : List Item} → Walk P o items → (core : Core) (order : List Entry) → Walk P o (placed core order items)
 walk_placed (ended c s) core order = walk_serve_all order (ended c s)
@@ -109,10 +94,7 @@ walk_placed (loose s b p e w) core order = loose s b p e (walk_placed w core ord
 
 obeys_serve_all : (core : Core) (js ks : List Entry) (items : List Item) → AreFine (length core.entries) (inside_at core) js ks → Obeys (record { core = core; served = js ++ ks }) items → Obeys (record { core = core; served = js }) (serve_all ks items)
 obeys_serve_all core js [] items fine ob = subst (λ l. Obeys (record { core = core; served = l }) items) (append-nil js) ob
-obeys_serve_all core js (e ∷ ks) items fine ob = (
-  fine.0,
-  obeys_serve_all core (js ++ e ∷ []) ks items fine.1 (subst (λ l. Obeys (record { core = core; served = l }) items) (sym (append_assoc js (e ∷ []) ks)) ob),
-)
+obeys_serve_all core js (e ∷ ks) items fine ob = grind (arith, append_assoc, obeys_serve_all core (js ++ e ∷ []) ks items fine.1 (subst (λ l. Obeys (record { core = core; served = l }) items) (sym (append_assoc js (e ∷ []) ks)) ob))
 
 -- what waits serves nothing that is due
 waiting_unserved : (κ : ℕ → ℕ → Option ℕ) (n : ℕ) (order : List Entry) (k x m : ℕ) → Waits n order → IsInTime κ order → is_served order k x ≡ true → κ k x ≡ Some m → m ≤ n → ⊥
@@ -235,10 +217,8 @@ module _ (κ : ℕ → ℕ → Option ℕ) (last : Core) (deep : IsDeep κ (insi
 
   -- the placing obeys the rules
   pub obeys_placed : (items : List Item) (core : Core) (js₀ js order : List Entry) → Obeys (record { core = core; served = js₀ }) items → Fits core js order items → Obeys (record { core = core; served = js }) (placed core order items)
-  obeys_placed [] core js₀ js order ob f =
-      obeys_serve_all core js order [] (subst (λ (c : Core). AreFine (length c.entries) (inside_at c) js order) (sym f.end) f.fine) tt
-  obeys_placed (Byte s b ∷ items) core js₀ js order ob f =
-      (tt, obeys_placed items core js₀ js order ob.1 (record { fine = f.fine; in_time = f.in_time; waits = f.waits; due = f.due; served = f.served; settled = f.settled; end = f.end }))
+  obeys_placed [] core js₀ js order ob f = grind (arith, obeys_serve_all)
+  obeys_placed (Byte s b ∷ items) core js₀ js order ob f = grind (arith, obeys_placed items core js₀ js order ob.1 (record { fine = f.fine; in_time = f.in_time; waits = f.waits; due = f.due; served = f.served; settled = f.settled; end = f.end }))
   obeys_placed (Starts s m ∷ items) core js₀ js order ob f = (
     (ob.0.0, ob.0.1, ob.0.2, for_it core core (Starts s m) items js₀ js order ob f (λ k x. refl)),
     obeys_placed items core js₀ js order ob.1 (record {

@@ -2,7 +2,7 @@
 use Rattle.std.proofs.Common.{◌≡◌, ℕ, List, [], ◌∷◌, refl, sym, ◌∙◌, ap, Option}
 use Rattle.nbd_wire.specs.declared.message.Side.TheVariants.{Client, Server}
 use Rattle.nbd_wire.specs.protocol.Reports.{Report, first_known, known_count, known_from, report, asked_list}
-use Rattle.nbd_wire.specs.protocol.Marks.{Item, Byte, Starts, Completes, Serves, without_service}
+use Rattle.nbd_wire.specs.protocol.Marks.{Item, Starts, Completes, without_service}
 use Rattle.nbd_wire.specs.protocol.Rules.{request_of_reply, complete, ends_at}
 use Rattle.nbd_wire.specs.protocol.States.{Core, start, start_of, export_in}
 use Rattle.nbd_laws.proofs.runs.FollowLemmas.{bare, follows, follows_unserved, pairs_unserved, walk_unserved}
@@ -14,18 +14,14 @@ use Rattle.nbd_laws.specs.Sameness.{SameMarks, SameReports, ReportsIgnoreService
 
 core_end_unserved : (core : Core) (items : List Item) → core_end core items ≡ core_end core (without_service items)
 core_end_unserved core [] = refl
-core_end_unserved core (Byte s b ∷ items) = core_end_unserved core items
-core_end_unserved core (Starts s m ∷ items) = core_end_unserved core items
 core_end_unserved core (Completes s m ∷ items) = core_end_unserved (complete core m) items
-core_end_unserved core (Serves k ∷ items) = core_end_unserved core items
+core_end_unserved core (item ∷ items) = core_end_unserved core items
 
 known_unserved : (core : Core) (k : ℕ) (items : List Item) → known_from core k items ≡ known_from core k (without_service items)
 known_unserved core k [] = refl
-known_unserved core k (Byte s b ∷ items) = known_unserved core k items
-known_unserved core k (Starts Client m ∷ items) = known_unserved core k items
 known_unserved core k (Starts Server m ∷ items) = ap (first_known (request_of_reply core m) core k) (known_unserved core k items)
 known_unserved core k (Completes s m ∷ items) = known_unserved (complete core m) k items
-known_unserved core k (Serves j ∷ items) = known_unserved core k items
+known_unserved core k (item ∷ items) = known_unserved core k items
 
 pub core_of_unserved : (items items' : List Item) → without_service items ≡ without_service items' → (ends_at start items).core ≡ (ends_at start items').core
 core_of_unserved items items' e =

@@ -1,5 +1,5 @@
 -- Tests that decide the rules of negotiation by computing, and what a message needs to start.
-use Rattle.std.proofs.Common.{◌≡◌, ℕ, zero, suc, ◌+◌, ◌<◌, ◌≤◌, ◌^◌, ◌⊎◌, ◌==◌, ◌&&◌, ◌||◌, not, nat_le, nat_lt, List, [], ◌∷◌, length, refl, ap, subst, inl, inr, Option, Some, None, Bool, true, false, if◌then◌else◌, IsTrue, is_some, eqb-true, arith, sym, ◌∙◌, eq-eqb}
+use Rattle.std.proofs.Common.{◌≡◌, ℕ, zero, suc, ◌+◌, ◌<◌, ◌≤◌, ◌^◌, ◌⊎◌, ◌==◌, ◌&&◌, ◌||◌, not, nat_le, nat_lt, List, [], ◌∷◌, length, refl, ap, subst, inl, inr, Option, Some, None, Bool, true, false, if◌then◌else◌, IsTrue, is_some, eqb-true, arith, eq-eqb}
 use Rattle.std.proofs.lemmas.Bool.{eqb-false, leb-true, ltb-true}
 use Rattle.nbd_wire.specs.declared.fault.WireFault.{WireFault}
 use Rattle.nbd_wire.specs.declared.entry.Entry.{Entry}
@@ -18,7 +18,7 @@ use Rattle.nbd_wire.specs.protocol.Rules.{IsServedFor, MayStartIn, gives, inside
 use Rattle.nbd_wire.specs.protocol.Marks.{Completes, Starts}
 use Rattle.nbd_wire.specs.protocol.Sendable.{carries_payload, IsPayload, IsSendable}
 use Rattle.nbd_wire.specs.protocol.Sides.{same_side}
-use Rattle.nbd_wire.specs.protocol.States.{Core, Phase, State, Greet, Flags, Choosing, Naming, Aborting, Answering, Ended, Transmission, export_in, operation}
+use Rattle.nbd_wire.specs.protocol.States.{Core, Phase, State, Transmission, export_in, operation}
 
 -- both tests pass
 pub both : (a b : Bool) → IsTrue (a && b) → IsTrue a × IsTrue b
@@ -114,55 +114,7 @@ is_sendable (ExtendedChunk flags kind cookie offset payload) =
 pub sendable : (m : Message) → IsTrue (is_sendable m) → IsSendable m
 unfolding IsSendable
 sendable (Greeting flags) e = ltb-true flags (2 ^ 16) e
-sendable (ClientFlags flags) e = ltb-true flags (2 ^ 32) e
-sendable (Choice id payload) e = (let h = both _ _ e in (ltb-true id (2 ^ 32) h.0, payload_is payload h.1))
-sendable (Answer option kind payload) e = (let h = both _ _ e in let g = both _ _ h.1 in (ltb-true option (2 ^ 32) h.0, ltb-true kind (2 ^ 32) g.0, payload_is payload g.1))
-sendable (Exported size flags padded) e = (let h = both _ _ e in (ltb-true size (2 ^ 64) h.0, ltb-true flags (2 ^ 16) h.1))
-sendable (Request flags command cookie offset len payload) e =
-    let a = both (nat_lt flags (2 ^ 16)) _ e in
-    let b = both (nat_lt command (2 ^ 16)) _ a.1 in
-    let c = both (nat_lt cookie (2 ^ 64)) _ b.1 in
-    let d = both (nat_lt offset (2 ^ 64)) _ c.1 in
-    let f = both (nat_lt len (2 ^ 32)) _ d.1 in
-    let g = both (length payload == (if command == commands.WRITE then len else 0)) (are_bytes payload) f.1 in (
-      ltb-true flags (2 ^ 16) a.0,
-      ltb-true command (2 ^ 16) b.0,
-      ltb-true cookie (2 ^ 64) c.0,
-      ltb-true offset (2 ^ 64) d.0,
-      ltb-true len (2 ^ 32) f.0,
-      eqb-true (length payload) (if command == commands.WRITE then len else 0) g.0,
-      bytes_are payload g.1,
-    )
-sendable (Simple error cookie payload) e =
-    let a = both (nat_lt error (2 ^ 32)) _ e in
-    let b = both (nat_lt cookie (2 ^ 64)) _ a.1 in
-    (ltb-true error (2 ^ 32) a.0, ltb-true cookie (2 ^ 64) b.0, payload_is payload b.1)
-sendable (Chunk flags kind cookie payload) e =
-    let a = both (nat_lt flags (2 ^ 16)) _ e in
-    let b = both (nat_lt kind (2 ^ 16)) _ a.1 in
-    let c = both (nat_lt cookie (2 ^ 64)) _ b.1 in
-    (ltb-true flags (2 ^ 16) a.0, ltb-true kind (2 ^ 16) b.0, ltb-true cookie (2 ^ 64) c.0, payload_is payload c.1)
-sendable (ExtendedRequest flags command cookie offset len payload) e =
-    let a = both (nat_lt flags (2 ^ 16)) _ e in
-    let b = both (nat_lt command (2 ^ 16)) _ a.1 in
-    let c = both (nat_lt cookie (2 ^ 64)) _ b.1 in
-    let d = both (nat_lt offset (2 ^ 64)) _ c.1 in
-    let f = both (nat_lt len (2 ^ 64)) _ d.1 in
-    let g = both (length payload == (if carries_payload flags command then len else 0)) (is_payload payload) f.1 in (
-      ltb-true flags (2 ^ 16) a.0,
-      ltb-true command (2 ^ 16) b.0,
-      ltb-true cookie (2 ^ 64) c.0,
-      ltb-true offset (2 ^ 64) d.0,
-      ltb-true len (2 ^ 64) f.0,
-      eqb-true (length payload) (if carries_payload flags command then len else 0) g.0,
-      payload_is payload g.1,
-    )
-sendable (ExtendedChunk flags kind cookie offset payload) e =
-    let a = both (nat_lt flags (2 ^ 16)) _ e in
-    let b = both (nat_lt kind (2 ^ 16)) _ a.1 in
-    let c = both (nat_lt cookie (2 ^ 64)) _ b.1 in
-    let d = both (nat_lt offset (2 ^ 64)) _ c.1 in
-    (ltb-true flags (2 ^ 16) a.0, ltb-true kind (2 ^ 16) b.0, ltb-true cookie (2 ^ 64) c.0, ltb-true offset (2 ^ 64) d.0, payload_is payload d.1)
+sendable m e = grind (arith, ltb-true, both, eqb-true, bytes_are, payload_is)
 
 abbrev pub is_turn : Option Side → Side → Bool
 is_turn (Some t) s = same_side t s
@@ -189,20 +141,8 @@ may_start_in phase core s m = is_turn (turn phase) s
 
 pub starts_in : (phase : Phase) (core : Core) (s : Side) (m : Message) → IsTrue (may_start_in phase core s m) → MayStartIn phase core s m
 unfolding MayStartIn
-starts_in (Transmission export) core Client m e =
-    let h = both (is_request m) (not core.disconnected && same_bool (is_extended m) core.extended) e in
-    let g = both (not core.disconnected) (same_bool (is_extended m) core.extended) h.1 in
-    (h.0, was_false core.disconnected g.0, same_bools (is_extended m) core.extended g.1)
-starts_in (Transmission export) core Server m e =
-    let h = both (is_some (request_of_reply core m)) (same_bool (is_extended m) core.extended) e in
-    (h.0, same_bools (is_extended m) core.extended h.1)
-starts_in Greet core s m e = turn_is (turn Greet) s e
-starts_in Flags core s m e = turn_is (turn Flags) s e
-starts_in Choosing core s m e = turn_is (turn Choosing) s e
-starts_in Naming core s m e = turn_is (turn Naming) s e
-starts_in Aborting core s m e = turn_is (turn Aborting) s e
-starts_in (Answering option payload info) core s m e = turn_is (turn (Answering option payload info)) s e
-starts_in Ended core s m e = turn_is (turn Ended) s e
+starts_in (Transmission export) core Client m e = grind (arith, both, was_false, same_bools)
+starts_in phase core s m e = grind (arith, both, same_bools, turn_is)
 
 abbrev pub names : List Entry → ℕ → Bool
 names [] k = false
@@ -232,8 +172,7 @@ true_is_in_parts [] k h n = n
 true_is_in_parts (e ∷ es) k h n =
     let a = both (not (e.request == k) || is_some e.part) (is_in_parts es k) h in
     elim n [
-      | inl q ↦ (let some : IsTrue (is_some e.part) = then_too (e.request == k) (is_some e.part) a.0 (eq-eqb e.request k q.0) in
-          let none : false ≡ true = ap (λ p. is_some p) (sym q.1) ∙ some in absurd (cc))
+      | inl q ↦ grind (arith, then_too, eq-eqb)
       | inr m ↦ true_is_in_parts es k a.1 m
     ]
 
@@ -255,9 +194,7 @@ true_served (Some export) (Some e) es k h x =
           then_too (inside_of (is_proper export e) (Some export) e.command e.offset e.length x) (is_served es k x)
           (all_at e.offset e.length (λ x. not (inside_of (is_proper export e) (Some export) e.command e.offset e.length x) || is_served es k x) a.1 x r.0 r.1) i);
     }
-true_served None (Some e) es k h x =
-    let a = both (names es k) _ h in
-    record { named = true_names es k a.0; covered = λ i. absurd (let q : false ≡ true = (both (not (e.command == commands.BLOCK_STATUS)) false i).1 in cc) }
+true_served None (Some e) es k h x = grind (arith, both, true_names)
 
 abbrev pub served_for : Core → List Entry → Option ℕ → Bool
 served_for core es (Some k) = served_inside (export_in core.phase) (operation k core.entries) es k
@@ -303,10 +240,7 @@ true_is_fresh within before e h = go e.part h
           (λ n. true_is_in_parts before e.request a.0 n),
           elim [
             | inl empty ↦ absurd (omega arith)
-            | inr bad ↦ elim bad [
-              | inl out ↦ (let q : true ≡ false = sym (each out.0 out.1).0 ∙ out.2 in absurd (cc))
-              | inr twice ↦ (let q : true ≡ false = sym twice.2 ∙ was_false (is_served before e.request twice.0) (each twice.0 twice.1).1 in absurd (cc))
-            ]
+            | inr bad ↦ grind (arith, was_false)
           ],
         )
 

@@ -99,14 +99,13 @@ may_follow item next = true
 pub follows_it : (item next : Item) → IsTrue (may_follow item next) → MayFollow item next
 follows_it (Starts s m) (Byte t b) h = same_sides s t h
 follows_it (Starts s m) (Starts t n) h = absurd (cc)
-follows_it (Starts s m) (Completes t n) h = absurd (cc)
-follows_it (Starts s m) (Serves k) h = absurd (cc)
 follows_it (Byte s b) (Completes t m) h = same_sides s t h
 follows_it (Completes s m) (Completes t n) h = absurd (cc)
 follows_it (Serves k) (Completes t m) h = absurd (cc)
 follows_it (Byte s b) next h = tt
 follows_it (Completes s m) next h = tt
 follows_it (Serves k) next h = tt
+follows_it item next h = absurd (cc)
 
 abbrev pub is_tight : List Item → Bool
 is_tight [] = true
@@ -114,21 +113,13 @@ is_tight (item ∷ []) = true
 is_tight (item ∷ next ∷ items) = may_follow item next && is_tight (next ∷ items)
 
 pub tight : (items : List Item) → IsTrue (is_tight items) → IsTight items
-tight [] h = tt
-tight (item ∷ []) h = tt
 tight (item ∷ next ∷ items) h = (let a = both (may_follow item next) (is_tight (next ∷ items)) h in (follows_it item next a.0, tight (next ∷ items) a.1))
+tight items h = tt
 
 -- items that pass the tests are a run of the profile
 pub is_run_of : (profile : Profile) (items : List Item) → of_side Client items ≡ flat_map (block Client) (ended_messages Client items) ++ [] → of_side Server items ≡ flat_map (block Server) (ended_messages Server items) ++ [] →
     IsTrue (is_tight items) → IsTrue (obeys (start_of profile) items) → IsRunOf profile items
-is_run_of profile items c s t o = record {
-  marked = record {
-    client_side = record { messages = ended_messages Client items; blocks = c };
-    server_side = record { messages = ended_messages Server items; blocks = s };
-    tight = tight items t;
-  };
-  obeys = true_obeys items (start_of profile) o;
-}
+is_run_of profile items c s t o = search (tight, true_obeys)
 
 pub is_run : (items : List Item) → of_side Client items ≡ flat_map (block Client) (ended_messages Client items) ++ [] → of_side Server items ≡ flat_map (block Server) (ended_messages Server items) ++ [] →
     IsTrue (is_tight items) → IsTrue (obeys start items) → IsRunOf Base items

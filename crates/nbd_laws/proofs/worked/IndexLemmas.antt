@@ -34,15 +34,7 @@ module _ (count : ℕ) (inside : ℕ → ℕ → Bool) where
       within false z = absurd (h i (inl (e, q, inr (leb-false e.request count z))))
 
   bad_of : (order : List Entry) → FineByIndex [] order → (i : ℕ) → IsBad count inside order i → ⊥
-  bad_of order f i b = elim b [
-    | inl a ↦ (let r : IsFine count inside (take i order) a.0 = f i a.0 a.1 in
-        let lo : 0 < a.0.request = r.0 in let hi : a.0.request ≤ count = r.1 in
-        elim a.2 [ inl z ↦ absurd (omega arith) | inr l ↦ absurd (omega arith) ])
-    | inr c ↦ elim c [
-      | inl a ↦ (f i a.0 a.1).2.0 a.2
-      | inr a ↦ (f i a.0 a.1).2.1 a.2
-    ]
-  ]
+  bad_of order f i b = grind arith
 
 module _ (due : ℕ → ℕ → Option ℕ) where
   in_time_list : (order : List Entry) → ((i : ℕ) → IsLate due order i → ⊥) → IsInTime due order

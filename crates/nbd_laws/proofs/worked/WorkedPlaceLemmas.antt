@@ -104,3 +104,5 @@ context_in_base = at_of Base (flat refused.context_head) 120 (record { from = Se
 pub status_missing : IsPlaceOf Wide (flat refused.status_missing) status_asked_messages IncompleteStatus
 unfolding complete next_phase target has has_only is_proper is_proper_option queries_of context_of info_of is_listed is_go content_of failure_of status_of ends_reply is_failing piece_of
 status_missing = at_of Wide (flat refused.status_missing) 281 (record { from = Server; byte = 0 }) status_asked_messages IncompleteStatus refl refl refl refl refl
+
+pub ruleset worked_places = (client_first, wrong_greeting, old_greeting, wrong_old_greeting, greedy_client, strange_client, unasked_reply, long_disconnect, context_in_base, status_missing)

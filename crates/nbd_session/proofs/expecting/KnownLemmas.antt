@@ -1,11 +1,11 @@
 -- What is known of a side's bytes, and what is read of them.
-use Rattle.std.proofs.Common.{◌≡◌, ℕ, ◌+◌, ◌<◌, ◌==◌, List, ◌++◌, length, refl, ◌∙◌, ap, Option, Some, None, Bool, true, false, nat_lt, if◌then◌else◌, arith, length-append}
+use Rattle.std.proofs.Common.{◌≡◌, ℕ, ◌+◌, ◌<◌, List, ◌++◌, length, refl, ◌∙◌, ap, Option, Some, None, Bool, nat_lt, if◌then◌else◌, arith, length-append}
 use Rattle.std.proofs.lemmas.Bool.{le-ltb, eq-eqb}
 use Rattle.nbd_wire.specs.declared.fault.WireFault.{WireFault}
 use Rattle.nbd_wire.specs.protocol.States.{Core}
 use Rattle.nbd_laws.specs.Awaited.{awaited_length_by}
 use Rattle.nbd_wire.specs.protocol.Decisions.{Decision}
-use Rattle.nbd_wire.specs.protocol.Reading.{last_reading, read_by, reading_by_decision, staged_reading_by, Bad, More, Whole}
+use Rattle.nbd_wire.specs.protocol.Reading.{last_reading, read_by, reading_by_decision, Bad, More, Whole}
 use Rattle.nbd_laws.proofs.judge.AwaitedLemmas.{in_head, in_payload}
 use Rattle.nbd_session.specs.declared.expected.Expected.{Expected}
 use Rattle.nbd_session.specs.internal.Expecting.{expected_decision, last_fault_by, message_of, payload_length_of}
@@ -13,10 +13,7 @@ use Rattle.nbd_session.specs.internal.Known.{IsExpected}
 
 at_last : (d : Decision) (bytes : List ℕ) (fault : Option WireFault) → length bytes ≡ d.head_length + d.payload_length → d.head_fault ≡ None → d.last_fault ≡ fault →
     read_by d bytes ≡ last_reading fault d.message
-at_last d bytes fault len clean last =
-    let a : nat_lt (length bytes) d.head_length ≡ false = le-ltb (length bytes) d.head_length (omega (arith, len)) in
-    let b : (length bytes == d.head_length + d.payload_length) ≡ true = eq-eqb (length bytes) (d.head_length + d.payload_length) len in
-    λ i. staged_reading_by (a i) (clean i) (b i) (last_reading (last i) d.message)
+at_last d bytes fault len clean last = grind (arith, nat_lt, le-ltb, eq-eqb)
 
 module _ (decided : List ℕ → Option Decision) (core : Core) (head payload : List ℕ) (x : Expected) (known : IsExpected decided core head x) where
   abbrev d : Decision
@@ -48,7 +45,4 @@ short_more o d head is l = ap (λ o. reading_by_decision o head) is ∙ in_head 
 
 -- a head whose last byte has a fault
 pub refused_head : (o : Option Decision) (d : Decision) (head : List ℕ) (fault : WireFault) → o ≡ Some d → d.head_length ≡ length head → d.head_fault ≡ Some fault → reading_by_decision o head ≡ Bad fault
-refused_head o d head fault is len bad =
-    let a : nat_lt (length head) d.head_length ≡ false = le-ltb (length head) d.head_length (omega (arith, len)) in
-    ap (λ o. reading_by_decision o head) is
-    ∙ (λ i. staged_reading_by (a i) (bad i) (length head == d.head_length + d.payload_length) (last_reading d.last_fault d.message))
+refused_head o d head fault is len bad = grind (arith, nat_lt, le-ltb)

@@ -98,12 +98,7 @@ good_error profile asked proper takes info head payload h now len none is error 
 
 -- an answer whose head has no fault has the option's number
 pub right_option : (asked : ℕ) (head : List ℕ) (h : AnswerHead) → answered_fault asked (number_at 0 8 head) (number_at 8 4 head) None ≡ None → h ≡ answer_fields_of head → h.option ≡ asked
-right_option asked head h none is = ap (λ (f : AnswerHead). f.option) is ∙ go (number_at 0 8 head == ANSWER_MAGIC) (number_at 8 4 head == asked) refl none
-  where
-    go : (m o : Bool) → (number_at 8 4 head == asked) ≡ o → fault_if (not m) BadMagic (fault_if (not o) WrongOption None) ≡ None → number_at 8 4 head ≡ asked
-    go m true q e = eqb-true (number_at 8 4 head) asked q
-    go true false q e = absurd (let w : Some WrongOption ≡ None = e in cc)
-    go false false q e = absurd (let w : Some BadMagic ≡ None = e in cc)
+right_option asked head h none is = grind (arith, eqb-true)
 
 -- a success
 pub good_success : (profile : Profile) (asked : ℕ) (proper takes : Bool) (info : Option Exporting) (head payload : List ℕ) (h : AnswerHead) (now : Core) → now.profile ≡ profile → length head ≡ 20 → h.option ≡ asked → answered_fault asked (number_at 0 8 head) (number_at 8 4 head) None ≡ None → h ≡ answer_fields_of head →
@@ -124,22 +119,11 @@ module _ (asked : ℕ) (head : List ℕ) where
   no_answer e = ap (λ b. fault_if (not b) BadMagic (fault_if (not (number_at 8 4 head == asked)) WrongOption None)) (none_read (number_at 0 8 head == ANSWER_MAGIC) (answer_fields_of head) e)
 
   pub other_answer : (h : AnswerHead) → Some h ≡ answer_head_of head → (h.option ≡ asked → ⊥) → answered_fault asked (number_at 0 8 head) (number_at 8 4 head) None ≡ Some WrongOption
-  other_answer h e ne =
-      let r = some_read (number_at 0 8 head == ANSWER_MAGIC) (answer_fields_of head) h e in
-      let other : (number_at 8 4 head == asked) ≡ false = ne_eqb _ _ (λ q. ne (ap (λ (f : AnswerHead). f.option) r.1 ∙ q)) in
-      (λ i. fault_if (not (r.0 i)) BadMagic (fault_if (not (other i)) WrongOption None))
+  other_answer h e ne = grind (arith, some_read, ne_eqb)
 
   pub this_answer : (h : AnswerHead) → Some h ≡ answer_head_of head → h.option ≡ asked → (answered_fault asked (number_at 0 8 head) (number_at 8 4 head) None ≡ None) × (h ≡ answer_fields_of head)
-  this_answer h e is =
-      let r = some_read (number_at 0 8 head == ANSWER_MAGIC) (answer_fields_of head) h e in
-      let same : (number_at 8 4 head == asked) ≡ true = eq-eqb _ _ (sym (ap (λ (f : AnswerHead). f.option) r.1) ∙ is) in
-      ((λ i. fault_if (not (r.0 i)) BadMagic (fault_if (not (same i)) WrongOption None)), r.1)
+  this_answer h e is = grind (arith, some_read, eq-eqb)
 
 pub bad_success : (profile : Profile) (asked : ℕ) (proper takes : Bool) (info : Option Exporting) (selection : Selection) (head : List ℕ) (h : AnswerHead) (f : WireFault) → answered_fault asked (number_at 0 8 head) (number_at 8 4 head) None ≡ None → h ≡ answer_fields_of head →
     is_error h.kind ≡ false → success_fault profile asked proper takes info h.kind h.length ≡ Some f → (answer profile asked proper takes info selection head).head_fault ≡ Some f
-bad_success profile asked proper takes info selection head h f none is error bad =
-    let success = success_fault profile asked proper takes info (number_at 12 4 head) (number_at 16 4 head) in
-    right_answer asked head (if is_error (number_at 12 4 head) then None else success) none
-    ∙ ap (λ b. (if b then None else success)) (sym (ap (λ (f : AnswerHead). is_error f.kind) is) ∙ error)
-    ∙ sym (ap (λ (f : AnswerHead). success_fault profile asked proper takes info f.kind f.length) is)
-    ∙ bad
+bad_success profile asked proper takes info selection head h f none is error bad = grind (arith, right_answer)

@@ -3,7 +3,7 @@ use Rattle.std.proofs.Common.{◌≡◌, ℕ, List, length, refl, sym, ◌∙◌
 use Rattle.nbd_wire.specs.declared.fault.WireFault.{WireFault}
 use Rattle.nbd_wire.specs.declared.message.Side.{Side}
 use Rattle.nbd_wire.specs.protocol.Operations.{Exporting}
-use Rattle.nbd_wire.specs.protocol.States.{Core, Phase, Greet, Flags, Choosing, Naming, Aborting, Answering, Ended, Transmission}
+use Rattle.nbd_wire.specs.protocol.States.{Core, Phase, Greet, Flags, Choosing, Naming, Aborting, Answering, Transmission}
 use Rattle.nbd_session.specs.internal.Counted.{decision_by_count, operation_counted}
 use Rattle.nbd_wire.specs.protocol.Decisions.{Decision, export_answer}
 use Rattle.nbd_wire.specs.protocol.Reading.{decision_with}
@@ -18,65 +18,29 @@ use Rattle.nbd_state.specs.declared.state.Phase.TheVariants as program
 use Rattle.nbd_session.specs.internal.Expecting.{HasHeadLength, IsRefusedHead, whole_head_by}
 
 pub flags_of : (p : Phase) → program.Flags ≡ phase_shown p → p ≡ Flags
-flags_of Greet e = absurd (cc)
 flags_of Flags e = refl
-flags_of Choosing e = absurd (cc)
-flags_of Naming e = absurd (cc)
-flags_of Aborting e = absurd (cc)
-flags_of (Answering option given info) e = absurd (cc)
-flags_of Ended e = absurd (cc)
-flags_of (Transmission export) e = absurd (cc)
+flags_of p e = absurd (cc)
 
 pub choosing_of : (p : Phase) → program.Choosing ≡ phase_shown p → p ≡ Choosing
-choosing_of Greet e = absurd (cc)
-choosing_of Flags e = absurd (cc)
 choosing_of Choosing e = refl
-choosing_of Naming e = absurd (cc)
-choosing_of Aborting e = absurd (cc)
-choosing_of (Answering option given info) e = absurd (cc)
-choosing_of Ended e = absurd (cc)
-choosing_of (Transmission export) e = absurd (cc)
+choosing_of p e = absurd (cc)
 
 pub greet_of : (p : Phase) → program.Greet ≡ phase_shown p → p ≡ Greet
 greet_of Greet e = refl
-greet_of Flags e = absurd (cc)
-greet_of Choosing e = absurd (cc)
-greet_of Naming e = absurd (cc)
-greet_of Aborting e = absurd (cc)
-greet_of (Answering option given info) e = absurd (cc)
-greet_of Ended e = absurd (cc)
-greet_of (Transmission export) e = absurd (cc)
+greet_of p e = absurd (cc)
 
 pub aborting_of : (p : Phase) → program.Aborting ≡ phase_shown p → p ≡ Aborting
-aborting_of Greet e = absurd (cc)
-aborting_of Flags e = absurd (cc)
-aborting_of Choosing e = absurd (cc)
-aborting_of Naming e = absurd (cc)
 aborting_of Aborting e = refl
-aborting_of (Answering option given info) e = absurd (cc)
-aborting_of Ended e = absurd (cc)
-aborting_of (Transmission export) e = absurd (cc)
+aborting_of p e = absurd (cc)
 
 pub transmission_of : (p : Phase) (x : Export) → program.Transmission x ≡ phase_shown p → (export : Exporting) × (p ≡ Transmission export)
-transmission_of Greet x e = absurd (cc)
-transmission_of Flags x e = absurd (cc)
-transmission_of Choosing x e = absurd (cc)
-transmission_of Naming x e = absurd (cc)
-transmission_of Aborting x e = absurd (cc)
-transmission_of (Answering option given info) x e = absurd (cc)
-transmission_of Ended x e = absurd (cc)
 transmission_of (Transmission export) x e = (export, refl)
+transmission_of p x e = absurd (cc)
 
 pub answering_of : (p : Phase) (c : Chosen) → program.Answering c ≡ phase_shown p →
     (option : ℕ) × (given : List ℕ) × (info : Option Exporting) × (p ≡ Answering option given info) × (c ≡ record { option = option; proper = is_proper_option option given; takes = takes_contexts option given; info = export_shown_if info })
-answering_of Greet c e = absurd (cc)
-answering_of Flags c e = absurd (cc)
-answering_of Choosing c e = absurd (cc)
-answering_of Naming c e = absurd (cc)
-answering_of Aborting c e = absurd (cc)
 answering_of (Answering option given info) c e = (option, given, info, refl, (cc))
-answering_of Ended c e = absurd (cc)
-answering_of (Transmission export) c e = absurd (cc)
+answering_of p c e = absurd (cc)
 
 -- a head of a phase's message is refused where the judge's decision of it has the fault
 pub refused_in : (counted : ℕ) (core : Core) (s : Side) (head : List ℕ) (fault : WireFault) (p : Phase) (d : Decision) → core.phase ≡ p →
@@ -93,14 +57,8 @@ exporting-shown None = refl
 exporting-shown (Some export) = refl
 
 pub naming_of : (p : Phase) → program.Naming ≡ phase_shown p → p ≡ Naming
-naming_of Greet e = absurd (cc)
-naming_of Flags e = absurd (cc)
-naming_of Choosing e = absurd (cc)
 naming_of Naming e = refl
-naming_of Aborting e = absurd (cc)
-naming_of (Answering option given info) e = absurd (cc)
-naming_of Ended e = absurd (cc)
-naming_of (Transmission export) e = absurd (cc)
+naming_of p e = absurd (cc)
 
 -- a phase's message has this length of its head, and bytes of this length are whole
 pub head_in : (state : State) (s : Side) (head : List ℕ) (n : ℕ) (phase : program_phase.Phase) → state.phase ≡ phase →

@@ -1,9 +1,9 @@
 -- A reply whose head has come.
-use Rattle.std.proofs.Common.{◌≡◌, ℕ, zero, suc, ◌+◌, ◌<◌, ◌≤◌, [], ◌∷◌, ◌==◌, ◌&&◌, ◌||◌, ◌++◌, not, List, length, drop, arith, nat_le, nat_lt, inl, inr, Result, Ok, Err, IfOk, IfErr, refl, sym, ◌∙◌, ap, subst, Option, Some, None, Bool, true, false, if◌then◌else◌, slice_get}
+use Rattle.std.proofs.Common.{◌≡◌, ℕ, zero, suc, ◌<◌, [], ◌∷◌, ◌==◌, ◌&&◌, ◌||◌, ◌++◌, not, List, length, drop, arith, nat_le, nat_lt, inl, inr, Result, Ok, Err, IfOk, IfErr, refl, sym, ◌∙◌, ap, subst, Option, Some, None, Bool, true, false, if◌then◌else◌, slice_get}
 use Rattle.nbd_wire.specs.declared.commands.TheConstants as commands
 use Rattle.nbd_wire.specs.declared.fault.WireFault.{WireFault}
-use Rattle.nbd_wire.specs.declared.fault.WireFault.TheVariants.{BadMagic, SimpleForbidden, ChunkForbidden, OutOfProfile}
-use Rattle.nbd_wire.specs.declared.magics.TheConstants.{CHUNK_MAGIC, EXTENDED_CHUNK_MAGIC, SIMPLE_MAGIC}
+use Rattle.nbd_wire.specs.declared.fault.WireFault.TheVariants.{SimpleForbidden}
+use Rattle.nbd_wire.specs.declared.magics.TheConstants.{EXTENDED_CHUNK_MAGIC, SIMPLE_MAGIC}
 use Rattle.nbd_wire.specs.declared.message.Message.TheVariants as messages
 use Rattle.nbd_wire.specs.protocol.Payloads.{number_at}
 use Rattle.nbd_wire.specs.declared.heads.transmission.ChunkHead.{ChunkHead}
@@ -12,10 +12,10 @@ use Rattle.nbd_wire.specs.protocol.Operations.{Exporting, Operation, asks_status
 use Rattle.nbd_wire.specs.protocol.States.{Core, Transmission, in_force, operation, target}
 use Rattle.nbd_laws.proofs.requests.OutstandingLemmas.{find}
 use Rattle.nbd_session.specs.internal.Counted.{operation_counted}
-use Rattle.nbd_wire.specs.protocol.Decisions.{Decision, begins, chunk_last_fault, chunk_to, extended_chunk_to, extended_last_fault, extended_reply_by, no_reply, reply_by, reply_in, reply_with, simple_of, simple_to}
-use Rattle.nbd_wire.specs.protocol.Reading.{Bad, last_reading, reading_by_decision, staged_reading_by}
+use Rattle.nbd_wire.specs.protocol.Decisions.{Decision, begins, chunk_to, extended_chunk_to, extended_reply_by, reply_by, reply_in, reply_with, simple_to}
+use Rattle.nbd_wire.specs.protocol.Reading.{Bad, reading_by_decision}
 use Rattle.nbd_wire.specs.protocol.Tests.{fault_if}
-use Rattle.nbd_wire.specs.protocol.Transmission.{is_none_yet, chunk_head_fault, extended_head_fault, simple_fault, simple_last_fault, simple_payload_length}
+use Rattle.nbd_wire.specs.protocol.Transmission.{is_none_yet, simple_fault, simple_last_fault, simple_payload_length}
 use Rattle.nbd_laws.proofs.judge.SteadyLemmas.{begun_true, no_chunk}
 use Rattle.nbd_state.specs.Showing.{IsShown}
 use Rattle.nbd_laws.specs.Selecting.{AreAskedWith}
@@ -44,10 +44,7 @@ module _ (export : Exporting) (core : Core) (counted place : ℕ) (exchanges : L
   -- whether a simple reply is forbidden, by the exchange
   same_test : (h : SimpleHead) (found : IsPlaceOf export core counted h.cookie exchanges (Some place)) → IsShown export found.0 x →
       (not (is_none_yet found.0.replies) || (((found.0.command == commands.READ) && core.structured) || (asks_status found.0 && (h.error == 0)))) ≡ is_simple_forbidden core x.asked h.error
-  same_test h found shown =
-      let contexts : found.0.contexts ≡ in_force core = asked_at (in_force core) (place + 1) core.entries found.0 asked_with found.3 in
-      (λ i. sym shown.replied i || (((sym shown.command i == commands.READ) && core.structured)
-      || (((sym shown.command i == commands.BLOCK_STATUS) && not (length (contexts i) == 0)) && (h.error == 0))))
+  same_test h found shown = grind (arith, asked_at)
 
   shown_here : (h : SimpleHead) (found : IsPlaceOf export core counted h.cookie exchanges (Some place)) → IsShown export found.0 x
   shown_here h found =
@@ -61,27 +58,11 @@ module _ (export : Exporting) (core : Core) (counted place : ℕ) (exchanges : L
 
   pub simple_is : (h : SimpleHead) (len : ℕ) → IsPlaceOf export core counted h.cookie exchanges (Some place) → is_simple_forbidden core x.asked h.error ≡ false →
       len ≡ (if (x.asked.command == commands.READ) && (h.error == 0) then x.asked.length else 0) → IsSimpleOf export core (operation_counted counted core h.cookie) h.error h.cookie (Simple h place len)
-  simple_is h len found free is =
-      let e : Operation = found.0 in
-      let shown : IsShown export e x = shown_here h found in
-      let no = same_test h found shown ∙ free in
-      record {
-        no_fault = ap (λ to. simple_fault core.structured to h.error) found.2 ∙ ap (λ b. fault_if b SimpleForbidden None) no;
-        length_is = is ∙ (λ i. if (shown.command i == commands.READ) && (h.error == 0) then shown.length i else 0) ∙ sym (ap (λ to. simple_payload_length to h.error) found.2);
-        last_is = λ payload. ap (λ to. simple_last_fault export to h.error) (found.3 ∙ sym found.2);
-        message_is = λ payload. refl;
-        placed = found.6;
-      }
+  simple_is h len found free is = grind (arith, shown_here, same_test)
 
 module _ (export : Exporting) (core : Core) (counted place : ℕ) (exchanges : List Exchange) where
   pub chunk_is : (h : ChunkHead) → is_too_long h.at h.length ≡ false → IsPlaceOf export core counted h.cookie exchanges (Some place) → core.structured ≡ true → IsChunkOf export core (operation_counted counted core h.cookie) h (Chunk h place)
-  chunk_is h short found structured = record {
-    no_fault = ap (λ b. fault_if b OutOfProfile (chunk_head_fault core.structured (operation_counted counted core h.cookie))) short ∙ ap (chunk_head_fault core.structured) found.2 ∙ ap (λ b. fault_if (not b) ChunkForbidden None) structured;
-    length_is = refl;
-    last_is = λ payload. ap (λ to. chunk_fault_to core.profile export to h payload) (found.3 ∙ sym found.2);
-    message_is = λ payload. refl;
-    placed = found.6;
-  }
+  chunk_is h short found structured = grind arith
 
 module _ (export : Exporting) (core : Core) (counted : ℕ) (short : core.extended ≡ false) (head : List ℕ) (h : SimpleHead) (begun : begins SIMPLE_MAGIC head ≡ true) (len : length head ≡ 16) (is : h ≡ record { error = number_at 4 4 head; cookie = number_at 8 8 head }) where
   by_simple : (bytes : List ℕ) → begins SIMPLE_MAGIC bytes ≡ true → reply_with export (operation_counted counted core) core bytes ≡ simple_to export core (operation_counted counted core (number_at 8 8 bytes)) bytes
@@ -133,28 +114,8 @@ module _ (export : Exporting) (core : Core) (counted : ℕ) where
   }
 
   decided_by_fields : (x : Bool) (bytes : List ℕ) → chunk_decided x export core (named (number_at 8 8 bytes)) bytes ≡ by_fields x (chunk_fields x bytes) (drop (chunk_head_length x) bytes)
-  decided_by_fields false bytes = λ i. record {
-    head_length = 20;
-    head_fault = chunk_head_fault core.structured (named (number_at 8 8 bytes));
-    payload_length = number_at 16 4 bytes;
-    last_fault = last (named (number_at 8 8 bytes)) i;
-    message = messages.Chunk (number_at 4 2 bytes) (number_at 6 2 bytes) (number_at 8 8 bytes) (drop 20 bytes);
-  }
-    where
-      last : (to : Option Operation) → chunk_last_fault core.profile export to bytes ≡ chunk_fault_to core.profile export to (chunk_fields false bytes) (drop 20 bytes)
-      last None = refl
-      last (Some e) = refl
-  decided_by_fields true bytes = λ i. record {
-    head_length = 32;
-    head_fault = extended_head_fault core.structured (named (number_at 8 8 bytes)) (number_at 24 8 bytes);
-    payload_length = number_at 24 8 bytes;
-    last_fault = last (named (number_at 8 8 bytes)) i;
-    message = messages.ExtendedChunk (number_at 4 2 bytes) (number_at 6 2 bytes) (number_at 8 8 bytes) (number_at 16 8 bytes) (drop 32 bytes);
-  }
-    where
-      last : (to : Option Operation) → extended_last_fault core.profile export to bytes ≡ chunk_fault_to core.profile export to (chunk_fields true bytes) (drop 32 bytes)
-      last None = refl
-      last (Some e) = refl
+  decided_by_fields false bytes = grind arith
+  decided_by_fields true bytes = grind arith
 
   by_chunk : (x : Bool) → core.extended ≡ x → (bytes : List ℕ) → begins (chunk_magic x) bytes ≡ true → reply_with export named core bytes ≡ by_fields x (chunk_fields x bytes) (drop (chunk_head_length x) bytes)
   by_chunk false extended bytes b =
@@ -225,10 +186,7 @@ module _ (export : Exporting) (core : Core) (counted : ℕ) (head : List ℕ) wh
 
   -- the length that a reply's bytes tell is that which the judge sees
   pub reply_begins : (x : Bool) → core.extended ≡ x → (n : ℕ) → HasReplyLength x head n → (reply_with export (operation_counted counted core) core head).head_length ≡ n
-  reply_begins false extended n (inl a) =
-      let none : nat_le 4 (length head) ≡ false = lt-leb 4 (length head) a.0 in
-      length_in false extended
-      ∙ ap (λ (d : Decision). d.head_length) (λ i. reply_by (none i && (number_at 0 4 head == CHUNK_MAGIC)) (none i && (number_at 0 4 head == SIMPLE_MAGIC)) export core there head) ∙ sym a.1
+  reply_begins false extended n (inl a) = grind (arith, nat_le, lt-leb, length_in)
   reply_begins false extended n (inr (inl a)) =
       length_in false extended ∙ ap (λ (d : Decision). d.head_length) (λ i. reply_by (no_chunk head a.0 i) (a.0 i) export core there head) ∙ sym a.1
   reply_begins false extended n (inr (inr b)) =
@@ -241,16 +199,7 @@ module _ (export : Exporting) (core : Core) (counted : ℕ) (head : List ℕ) wh
 
   -- bytes that begin with another number than a reply's
   pub no_reply_bad : (x : Bool) → core.extended ≡ x → (fault : WireFault) → IsNoReply x head fault → reading_by_decision (Some (reply_with export (operation_counted counted core) core head)) head ≡ Bad fault
-  no_reply_bad x extended fault o = ap (λ d. reading_by_decision (Some d) head) (ap (λ x. reply_in x export core there head) extended) ∙ go x o
-    where
-      bad : 4 ≤ length head → fault ≡ BadMagic → reading_by_decision (Some (no_reply head)) head ≡ Bad fault
-      bad long f =
-          let a : nat_lt (length head) 4 ≡ false = le-ltb (length head) 4 long in
-          (λ i. staged_reading_by (a i) (Some BadMagic) (length head == 4) (last_reading None (simple_of head))) ∙ ap Bad (sym f)
-
-      go : (x : Bool) → IsNoReply x head fault → reading_by_decision (Some (reply_in x export core there head)) head ≡ Bad fault
-      go false (f, long, s, c) = (λ i. reading_by_decision (Some (reply_by (c i) (s i) export core there head)) head) ∙ bad long f
-      go true (f, long, c) = (λ i. reading_by_decision (Some (extended_reply_by (c i) export core there head)) head) ∙ bad long f
+  no_reply_bad x extended fault o = grind (arith, nat_lt, le-ltb)
 
 pub reply_whole : (x : Bool) (head : List ℕ) (n : ℕ) → HasReplyLength x head n → length head ≡ n → IsReplyHead x head
 reply_whole false head n (inl a) e = (let f : n ≡ 4 = a.1 in absurd (omega (arith, a.0, e, f)))

@@ -1,5 +1,5 @@
 -- A request whose head has come.
-use Rattle.std.proofs.Common.{◌≡◌, ℕ, ◌<◌, ◌≤◌, ◌+◌, ◌==◌, ◌&&◌, not, List, ◌++◌, length, drop, min, refl, sym, ◌∙◌, ap, Option, Some, None, Bool, true, false, arith}
+use Rattle.std.proofs.Common.{◌≡◌, ℕ, ◌≤◌, ◌+◌, ◌==◌, not, List, ◌++◌, length, min, sym, ◌∙◌, ap, Option, Some, None, Bool, true, false, arith}
 use Rattle.nbd_wire.specs.declared.fault.WireFault.{WireFault}
 use Rattle.nbd_wire.specs.declared.fault.WireFault.TheVariants.{BadMagic, BadDisconnect, OutOfProfile}
 use Rattle.nbd_wire.specs.declared.heads.transmission.RequestHead.{RequestHead}
@@ -34,11 +34,7 @@ by_fields x now magic h message = record {
 
 module _ (x : Bool) (now : Core) (extended : now.extended ≡ x) where
   request_decided : (bytes : List ℕ) → request now bytes ≡ by_fields x now (number_at 0 4 bytes == request_magic x) (request_fields x bytes) ((request_by x now bytes).message)
-  request_decided bytes = ap (λ b. request_by b now bytes) extended ∙ go x
-    where
-      go : (x : Bool) → request_by x now bytes ≡ by_fields x now (number_at 0 4 bytes == request_magic x) (request_fields x bytes) ((request_by x now bytes).message)
-      go false = refl
-      go true = refl
+  request_decided bytes = grind arith
 
   pub request_head_is : (bytes : List ℕ) → (request now bytes).head_length ≡ request_head_length x
   request_head_is bytes = ap (λ (d : Decision). d.head_length) (request_decided bytes)
@@ -89,18 +85,4 @@ same_message true now head payload b len =
 
 pub good_request : (x : Bool) (now : Core) → now.extended ≡ x → (head payload : List ℕ) (h : RequestHead) → AreBytes head → length head ≡ request_head_length x → Some h ≡ request_head_of x head →
     is_beyond h ≡ false → is_bad_disconnect h ≡ false → request now (head ++ payload) ≡ expected_decision now (Request h) (length head) payload
-good_request x now extended head payload h b len e within good =
-    let r = some_read (number_at 0 4 head == request_magic x) (request_fields x head) h e in
-    let same : request_fields x (head ++ payload) ≡ h = same_fields x head payload len ∙ sym r.1 in
-    let magic : (number_at 0 4 (head ++ payload) == request_magic x) ≡ true = ap (λ n. n == request_magic x) (fields_stay (request_head_length x) head payload len 0 4 (four x)) ∙ r.0 in
-    let message : (request_by x now (head ++ payload)).message ≡ message_of (Request h) payload = same_message x now head payload b len ∙ ap (λ g. message_of (Request g) payload) (sym r.1) in
-    let is : h.extended ≡ x = ap (λ (g : RequestHead). g.extended) r.1 in
-    request_decided x now extended (head ++ payload)
-    ∙ (λ i. by_fields x now (magic i) (same i) (message i))
-    ∙ (λ i. record {
-      head_length = sym len i;
-      head_fault = fault_if (within i) OutOfProfile (fault_if (good i) BadDisconnect None);
-      payload_length = request_length (sym is i) h.flags h.command h.length;
-      last_fault = cookie_fault h.command (target h.cookie now.entries);
-      message = message_of (Request h) payload;
-    })
+good_request x now extended head payload h b len e within good = grind (arith, some_read, same_fields, fields_stay, four, same_message, request_decided)

@@ -1,14 +1,12 @@
 -- What a chunk and the end of its reply are refused for, by the sizes of pieces.
 use Rattle.std.proofs.Common.{◌≡◌, ◌⊎◌, ℕ, ◌+◌, ◌≤◌, ◌==◌, if◌then◌else◌, eqb-true, List, [], ◌∷◌, ◌++◌, length, min, refl, sym, ◌∙◌, ap, arith, Bool, true, false, not, ◌&&◌, ◌||◌, nat_le, Option, Some, None, fold, subst, inl, inr, add_assoc, zero-add, ne_eqb, is_some}
-use Rattle.nbd_wire.specs.declared.chunks.TheConstants as chunks
 use Rattle.nbd_wire.specs.declared.message.Message.{Message}
-use Rattle.nbd_wire.specs.declared.message.Message.TheVariants.{Chunk}
 use Rattle.nbd_wire.specs.declared.payloads.Failure.{Failure}
 use Rattle.nbd_wire.specs.declared.payloads.Piece.{Piece}
-use Rattle.nbd_wire.specs.protocol.Payloads.{content_of, failure_of, number_at, status_of}
+use Rattle.nbd_wire.specs.protocol.Payloads.{content_of, failure_of, status_of, number_at}
 use Rattle.nbd_wire.specs.protocol.Operations.{Operation, Exporting, has_failed, is_error_chunk, is_failing, is_proper, pieces}
 use Rattle.nbd_wire.specs.protocol.Flags.{has}
-use Rattle.nbd_wire.specs.protocol.Pieces.{piece_of, piece_size, chunk_piece}
+use Rattle.nbd_wire.specs.protocol.Pieces.{piece_size, chunk_piece, piece_of}
 use Rattle.nbd_wire.specs.protocol.States.{with_reply}
 use Rattle.nbd_wire.specs.declared.fault.WireFault.{WireFault}
 use Rattle.nbd_wire.specs.declared.fault.WireFault.TheVariants.{BadChunk, BadContent}
@@ -20,13 +18,15 @@ use Rattle.nbd_wire.specs.protocol.Statuses.{is_settled, status_in}
 use Rattle.nbd_session.specs.internal.Asking.{done_by, elsewhere_fault, finish_by, is_status, lacks_by}
 use Rattle.nbd_session.specs.internal.Expecting.{chunk_fault_by}
 use Rattle.nbd_wire.specs.protocol.Tests.{fault_if}
-use Rattle.nbd_wire.specs.protocol.Transmission.{chunk_fault, content_fault, done_fault, finish_fault, fits_failure, fits_read, fits_status, offset_fault, read_as, status_if, status_kind, total}
+use Rattle.nbd_wire.specs.protocol.Transmission.{chunk_fault, content_fault, done_fault, finish_fault, fits_failure, fits_read, fits_status, read_as, status_if, status_kind, total, offset_fault}
 use Rattle.nbd_state.proofs.ReplyLemmas.{any-snoc, or-false, proper-same}
 use Rattle.nbd_laws.proofs.judge.BoolLemmas.{and_true}
 use Rattle.nbd_laws.proofs.judge.KindLemmas.{kind_content, kind_error, kind_status, no_other}
 use Rattle.nbd_wire.specs.declared.profile.Profile.{Profile}
 use Rattle.nbd_laws.proofs.requests.LaidLemmas.{pieces-snoc}
 use Rattle.nbd_laws.proofs.judge.TidyLemmas.{failure_kind, no_content, none_content, status_content}
+use Rattle.nbd_wire.specs.declared.message.Message.TheVariants.{Chunk}
+use Rattle.nbd_wire.specs.declared.chunks.TheConstants as chunks
 
 -- a sum that stops at a limit
 pub fold-total : (limit n : ℕ) (ps : List Piece) → n ≤ limit → fold (λ sum p. min (sum + piece_size p) limit) n ps ≡ min (n + total ps) limit
@@ -56,10 +56,7 @@ module _ (at : Option ℕ) (export : Exporting) (e : Operation) (flags kind cook
   with_this = with_reply e this
 
   total-more : (o : Option Piece) → content_of kind payload ≡ o → total (pieces with_this) ≡ total (pieces e) + total (chunk_piece o)
-  total-more o q =
-      ap total (pieces-snoc e.offset e.replies this)
-      ∙ total-append (pieces e) (piece_of e.offset this)
-      ∙ ap (λ ps. total (pieces e) + total ps) (chunk_gives flags kind cookie payload e.offset at ∙ ap chunk_piece q)
+  total-more o q = grind (arith, pieces-snoc, total-append, chunk_gives)
 
   failed-more : has_failed with_this ≡ (has_failed e || is_error_chunk kind)
   failed-more = any-snoc is_failing e.replies this ∙ ap (λ b. has_failed e || b) (chunk_fails flags kind cookie payload at)
@@ -174,20 +171,10 @@ module _ (at : Option ℕ) (profile : Profile) (export : Exporting) (e : Operati
   payload_fault = chunk_fault (is_some at) (kind == chunks.NONE) export e (with_reply e (chunk_with at flags kind cookie payload)) flags (read_as profile kind) payload
 
   pub fault_first : (fault : WireFault) → payload_fault ≡ Some fault → chunk_fault_by at profile export e flags kind cookie payload ≡ Some fault
-  fault_first fault q = go at fault q
-    where
-      go : (at : Option ℕ) (fault : WireFault) →
-          chunk_fault (is_some at) (kind == chunks.NONE) export e (with_reply e (chunk_with at flags kind cookie payload)) flags (read_as profile kind) payload ≡ Some fault → chunk_fault_by at profile export e flags kind cookie payload ≡ Some fault
-      go None fault q = q
-      go (Some offset) fault q = ap (λ f. offset_fault f e offset) q
+  fault_first fault q = grind arith
 
   pub elsewhere_last : payload_fault ≡ None → chunk_fault_by at profile export e flags kind cookie payload ≡ elsewhere_fault at e.offset
-  elsewhere_last q = go at q
-    where
-      go : (at : Option ℕ) →
-          chunk_fault (is_some at) (kind == chunks.NONE) export e (with_reply e (chunk_with at flags kind cookie payload)) flags (read_as profile kind) payload ≡ None → chunk_fault_by at profile export e flags kind cookie payload ≡ elsewhere_fault at e.offset
-      go None q = q
-      go (Some offset) q = ap (λ f. offset_fault f e offset) q
+  elsewhere_last q = grind arith
 
 -- a status chunk
 pub status_is : (at : Option ℕ) (x : Bool) → is_some at ≡ x → (flags cookie : ℕ) (payload : List ℕ) → status_in (chunk_with at flags (status_kind x) cookie payload) ≡ option_to_list (status_of x payload)
@@ -205,18 +192,7 @@ module _ (wide : Bool) (at : Option ℕ) (export : Exporting) (e : Operation) (f
   judged = chunk_fault wide false export e with_status flags (status_kind wide) payload
 
   no_failure : failure_of (status_kind wide) payload ≡ None
-  no_failure = go (failure_of (status_kind wide) payload) refl
-    where
-      low : (x : Bool) → status_kind x ≤ 6
-      low true = omega arith
-      low false = omega arith
-
-      go : (o : Option Failure) → failure_of (status_kind wide) payload ≡ o → failure_of (status_kind wide) payload ≡ None
-      go None q = q
-      go (Some failure) q = elim (failure_kind (status_kind wide) payload failure q) [
-        | inl r ↦ absurd (let l = low wide in omega (arith, r, l))
-        | inr r ↦ absurd (let l = low wide in omega (arith, r, l))
-      ]
+  no_failure = grind (arith, failure_kind)
 
   -- what it says, where contexts are in force
   status_here : (x : Bool) → status_if x e.contexts (status_kind x) payload ≡ (if not (length e.contexts == 0) then status_of x payload else None)

@@ -1,5 +1,5 @@
 -- How far all extents but the last reach.
-use Rattle.std.proofs.Common.{◌≡◌, ℕ, ◌+◌, ◌-◌, ◌<◌, ◌≤◌, List, [], ◌∷◌, refl, sym, ◌∙◌, ap, Bool, true, false, not, nat_le, nat_lt, arith, leb-true, leb-false, le-leb, ltb-true, ltb-false}
+use Rattle.std.proofs.Common.{◌≡◌, ℕ, ◌+◌, ◌-◌, ◌<◌, ◌≤◌, List, [], ◌∷◌, sym, ◌∙◌, ap, Bool, true, false, not, nat_le, nat_lt, arith, leb-true, leb-false, le-leb, ltb-true, ltb-false}
 use Rattle.std.proofs.lemmas.Bool.{lt-leb}
 use Rattle.std.proofs.lemmas.List.Sums.{sum_by-cons}
 use Rattle.nbd_wire.specs.protocol.Contexts.{Extent, reach}
@@ -10,11 +10,7 @@ abbrev pub Within : ℕ → List Extent → Bool
 Within size extents = nat_le size (reach (but_last extents))
 
 less : (a b c : ℕ) → b < a → nat_le (a - b) c ≡ nat_le a (b + c)
-less a b c l = go (nat_le a (b + c)) refl
-  where
-    go : (t : Bool) → nat_le a (b + c) ≡ t → nat_le (a - b) c ≡ nat_le a (b + c)
-    go true q = le-leb (a - b) c (let m = leb-true a (b + c) q in omega (arith, m, l)) ∙ sym q
-    go false q = lt-leb (a - b) c (let m = leb-false a (b + c) q in omega (arith, m, l)) ∙ sym q
+less a b c l = grind (arith, nat_le, le-leb, leb-true, lt-leb, leb-false)
 
 -- one extent more
 reach-cons : (x : Extent) (xs : List Extent) → reach (x ∷ xs) ≡ x.length + reach xs
@@ -33,11 +29,4 @@ within_passed whole left all x y before later xs b r l h =
 
 -- none is left behind the last
 pub within_last : (whole left : ℕ) (all : List Extent) (x : Extent) (before later : List Extent) → before ≡ x ∷ later → later ≡ [] → Within whole all ≡ Within left before → not (Within whole all) ≡ nat_lt 0 left
-within_last whole left all x before later b r h = ap not (h ∙ ap (Within left) (b ∙ ap (λ k. x ∷ k) r)) ∙ over left
-  where
-    over : (n : ℕ) → not (nat_le n 0) ≡ nat_lt 0 n
-    over n = go (nat_lt 0 n) refl
-      where
-        go : (t : Bool) → nat_lt 0 n ≡ t → not (nat_le n 0) ≡ nat_lt 0 n
-        go true q = ap not (lt-leb n 0 (ltb-true 0 n q)) ∙ sym q
-        go false q = ap not (le-leb n 0 (ltb-false 0 n q)) ∙ sym q
+within_last whole left all x before later b r h = grind (arith, nat_le, nat_lt, lt-leb, ltb-true, le-leb, ltb-false)

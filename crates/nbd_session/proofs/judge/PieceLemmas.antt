@@ -6,13 +6,12 @@ use Rattle.nbd_wire.specs.declared.message.Side.{Side}
 use Rattle.nbd_wire.specs.declared.message.Side.TheVariants.{Client, Server}
 use Rattle.nbd_wire.specs.protocol.Encoding.{AreBytes}
 use Rattle.nbd_wire.specs.protocol.Captures.{Pair, side_pairs}
-use Rattle.nbd_laws.specs.Bytes.{bytes_of}
 use Rattle.nbd_session.specs.Pushed.{Stretch, mixture}
 use Rattle.nbd_session.specs.declared.fault.SessionFault.{SessionFault}
 use Rattle.nbd_session.specs.declared.fault.SessionFault.TheVariants.{Memory}
 use Rattle.nbd_session.specs.declared.held.Held.{Held}
 use Rattle.nbd_session.specs.internal.Holdings.{holding_of, incoming_of}
-use Rattle.nbd_session.specs.Incoming.{bytes_come, incoming_with}
+use Rattle.nbd_session.specs.Incoming.{incoming_with, bytes_come}
 use Rattle.nbd_session.specs.internal.Known.{IsCome, IsKnown, awaited, decided}
 use Rattle.nbd_session.proofs.steps.KnownLemmas.{come_with}
 use Rattle.nbd_session.proofs.steps.HoldingLemmas.{rest_is}
@@ -28,6 +27,7 @@ use Rattle.nbd_state.proofs.PlacedLemmas.{shown_length}
 use Rattle.nbd_session.proofs.pushed.OpenByteLemmas.{read_is_run_but}
 use Rattle.nbd_session.proofs.pushed.PushLemmas.{first_fits, left_stretches, sent-append}
 use Rattle.nbd_session.proofs.steps.StepLemmas.{held_of, pairs-taken}
+use Rattle.nbd_laws.specs.Bytes.{bytes_of}
 
 -- the stretches' bytes are those of both sides
 pub length-mixed : (stretches : List Stretch) (client server : List ℕ) → AreStretchesOf stretches client server → length (mixture stretches client server) ≡ stretch_total Client stretches + stretch_total Server stretches
@@ -52,11 +52,7 @@ side_total Client stretches = omega arith
 side_total Server stretches = omega arith
 
 pub total_fits : (held : Held) (s : Side) → Stands held → stretch_total s (stretches_of held.stretches.items) ≤ held.taken
-total_fits held s st =
-    let one : stretch_total s (stretches_of held.stretches.items) ≤ stretch_total Client (stretches_of held.stretches.items) + stretch_total Server (stretches_of held.stretches.items) = side_total s (stretches_of held.stretches.items) in
-    let all : length (held_pairs (holding_of held)) ≡ stretch_total Client (stretches_of held.stretches.items) + stretch_total Server (stretches_of held.stretches.items) =
-    length-mixed (stretches_of held.stretches.items) (bytes_of Client held.messages.items ++ (bytes_come held.client)) (bytes_of Server held.messages.items ++ (bytes_come held.server)) st.read_to.are_stretches in
-    omega (arith, one, all, st.taken_is)
+total_fits held s st = grind (arith, side_total, length-mixed)
 
 -- something is missing until the next length at which something is decided
 pub awaits_some : (held : Held) (s : Side) (n : ℕ) (st : Stands held) → length (rest_of (holding_of held) s) + n ≡ awaited st.reader s → 0 < n
@@ -92,10 +88,7 @@ module _ (held taken : Held) (s : Side) (left : List ℕ) (count : ℕ) (st : St
   pairs_added = ap held_pairs counts ∙ pairs-taken (holding_of held) s (take count left) (length st.reader.core.entries) st.read_to.are_stretches
 
   pub taken_counts : taken.taken ≡ held.taken + length (take count left) → taken.taken ≡ length (held_pairs (holding_of taken))
-  taken_counts e =
-      let n : length (held_pairs (holding_of taken)) ≡ length (held_pairs (holding_of held)) + length (take count left) =
-      ap length pairs_added ∙ length-append (held_pairs (holding_of held)) (side_pairs s (take count left)) ∙ ap (λ k. length (held_pairs (holding_of held)) + k) (length-sent s (take count left)) in
-      omega (arith, e, n, st.taken_is)
+  taken_counts e = grind (arith, pairs_added, length-append, length-sent)
 
   pub is_taken : taken.state ≡ held.state → taken.taken ≡ held.taken + length (take count left) → ((i : ℕ) → Fits w8 (slice_index_or left i 0)) →
       (n : ℕ) → length (rest_of (holding_of held) s) + n ≡ awaited st.reader s → count ≤ n →
@@ -182,11 +175,7 @@ refused_memory held new s piece st holding same = record {
     has_pairs = ap held_pairs holding ∙ sym (append-nil (held_pairs (holding_of held)));
     has_messages = ap (λ h. h.messages) holding ∙ sym (append-nil held.messages.items);
   };
-  shut = record {
-    run = subst HoldsRun (sym holding) (standing_run held st);
-    taken_is = same ∙ st.taken_is ∙ sym (ap (λ h. length (held_pairs h)) holding);
-    cause = tt;
-  };
+  shut = grind (arith, standing_run);
   profile_is = ap (λ (h : Holding). h.profile) holding;
 }
 

@@ -5,9 +5,9 @@ use Rattle.nbd_wire.specs.declared.profile.Profile.{Profile}
 use Rattle.nbd_wire.specs.declared.message.Side.TheVariants.{Client, Server}
 use Rattle.nbd_wire.specs.declared.message.Side.{Side}
 use Rattle.nbd_wire.specs.declared.message.Message.{Message}
-use Rattle.nbd_wire.specs.protocol.Marks.{Item, Byte, Starts, Completes, Serves, completed_messages, pairs}
+use Rattle.nbd_wire.specs.protocol.Marks.{Item, Completes, completed_messages, pairs}
 use Rattle.nbd_wire.specs.protocol.Captures.{Pair, ArePairs, side_pairs}
-use Rattle.nbd_laws.specs.Bytes.{bytes_of}
+use Rattle.nbd_laws.specs.Bytes.{bytes_of, bytes_from}
 use Rattle.nbd_wire.specs.protocol.Within.{CompletesExactlyOf, IsOfNoRunOf, within}
 use Rattle.nbd_wire.specs.declared.fault.WireFault.{WireFault}
 use Rattle.nbd_wire.specs.declared.fault.WireFault.TheVariants.{Unfinished}
@@ -32,7 +32,6 @@ use Rattle.nbd_session.specs.internal.Stopped.{IsStopped}
 use Rattle.nbd_laws.proofs.judge.AwaitedLemmas.{reads_below}
 use Rattle.nbd_laws.proofs.judge.BlockLemmas.{extended, reads-append, with_rest}
 use Rattle.nbd_laws.proofs.judge.ExactLemmas.{exact, none_refused}
-use Rattle.nbd_laws.specs.Bytes.{bytes_from}
 use Rattle.nbd_laws.proofs.runs.RunByteLemmas.{AreBytesOf, run_bytes}
 use Rattle.nbd_session.proofs.pushed.OpenByteLemmas.{read_is_run_but}
 use Rattle.nbd_session.proofs.pushed.PushLemmas.{sent-append}
@@ -122,13 +121,12 @@ are_prefix (p ∷ ps) qs a = (a.0, are_prefix ps qs a.1)
 but_last : (ps qs : List Pair) (p q : Pair) → ps ++ p ∷ [] ≡ qs ++ q ∷ [] → ps ≡ qs
 but_last [] [] p q e = refl
 but_last [] (x ∷ []) p q e = absurd (cc)
-but_last [] (x ∷ y ∷ qs) p q e = absurd (cc)
 but_last (x ∷ []) [] p q e = absurd (cc)
-but_last (x ∷ y ∷ ps) [] p q e = absurd (cc)
 but_last (x ∷ ps) (y ∷ qs) p q e =
     let same : x ≡ y = cc in
     let rest : ps ++ p ∷ [] ≡ qs ++ q ∷ [] = cc in
     ap (λ z. z ∷ ps) same ∙ ap (λ l. y ∷ l) (but_last ps qs p q rest)
+but_last ps qs p q e = absurd (cc)
 
 pub stopped_reads : (h : Holding) (fault : WireFault) (st : IsStopped h fault) → reads by_tests (fresh_of h.profile) (held_pairs h) ≡ Err fault
 stopped_reads h fault st =
@@ -183,10 +181,8 @@ stands_accepted held closed st = record { under_way = stands_under_way held clos
 
 within_all : (items : List Item) → within (length (pairs items)) items ≡ completed_messages items
 within_all [] = refl
-within_all (Byte s b ∷ items) = within_all items
-within_all (Starts s m ∷ items) = within_all items
 within_all (Completes s m ∷ items) = ap (λ l. m ∷ l) (within_all items)
-within_all (Serves k ∷ items) = within_all items
+within_all (item ∷ items) = within_all items
 
 -- the open bytes where reading stands are those that a run with its bytes and messages leaves
 opens : {profile : Profile} (ps : List Pair) (messages : List Message) (client server : List ℕ) → (u : IsUnderWayOf profile ps messages) → HasRunOf profile ps messages client server → (u.end.rests.client.bytes ≡ client) × (u.end.rests.server.bytes ≡ server)
@@ -230,12 +226,7 @@ held_run held st =
 
 unfinished_end : (held : Held) → Stands held → (client server : List ℕ) → (bytes_come held.client) ≡ client → (bytes_come held.server) ≡ server → (at : ℕ) (fault : SessionFault) →
     at ≡ length (held_pairs (holding_of held)) → open_end_fault client server at ≡ Some fault → EndsIn (session_view held None) fault
-unfinished_end held st client server c s at Memory n e = absurd (no_memory client server e)
-  where
-    no_memory : (client server : List ℕ) → open_end_fault client server at ≡ Some Memory → ⊥
-    no_memory [] [] e = (cc)
-    no_memory (b ∷ client) server e = (cc)
-    no_memory [] (b ∷ server) e = (cc)
+unfinished_end held st client server c s at Memory n e = grind arith
 unfinished_end held st client server c s at (Wire place fault) n e =
     let is = some_unfinished client server e in
     inr (

@@ -1,10 +1,10 @@
 -- The request that a reply answers, by how many requests had completed when the reply started.
-use Rattle.std.proofs.Common.{◌≡◌, ℕ, suc, ◌+◌, ◌<◌, ◌≤◌, List, [], ◌∷◌, ◌++◌, length, refl, sym, ◌∙◌, ap, subst, inl, inr, Option, Some, None, Bool, true, false, if◌then◌else◌, arith, append-nil}
+use Rattle.std.proofs.Common.{◌≡◌, ℕ, suc, ◌+◌, ◌<◌, ◌≤◌, List, [], ◌∷◌, ◌++◌, length, refl, sym, ◌∙◌, ap, subst, inl, inr, Option, Some, None, Bool, if◌then◌else◌, arith, append-nil}
 use Rattle.std.proofs.lemmas.Bool.{le-leb, lt-leb}
 use Rattle.nbd_wire.specs.declared.message.Side.{Side}
 use Rattle.nbd_wire.specs.declared.message.Side.TheVariants.{Client, Server}
 use Rattle.nbd_wire.specs.protocol.Operations.{Operation, Exporting}
-use Rattle.nbd_wire.specs.protocol.States.{Core, Phase, Greet, Flags, Choosing, Naming, Aborting, Answering, Ended, Transmission, is_awaiting, target, target_from}
+use Rattle.nbd_wire.specs.protocol.States.{Core, Phase, Greet, Flags, Choosing, Naming, Aborting, Answering, Ended, Transmission, target, target_from}
 use Rattle.nbd_session.specs.internal.Counted.{decision_by_count, operation_counted, within}
 use Rattle.nbd_wire.specs.protocol.Decisions.{operation_if, operation_of}
 use Rattle.nbd_wire.specs.protocol.Reading.{decision, decision_with, by_tests, More, Rest, old_of}
@@ -14,11 +14,7 @@ use Rattle.nbd_laws.proofs.judge.SoundLemmas.{kept_later, turn_of_reading}
 
 above : (n cookie : ℕ) (es : List Operation) (j : ℕ) → target_from n cookie es ≡ Some j → n < j
 above n cookie [] j h = absurd (cc)
-above n cookie (e ∷ es) j h = go (is_awaiting cookie e) h (above (suc n) cookie es j)
-  where
-    go : (b : Bool) → (if b then Some (suc n) else target_from (suc n) cookie es) ≡ Some j → (target_from (suc n) cookie es ≡ Some j → suc n < j) → n < j
-    go true h ih = let q : suc n ≡ j = cc in omega (arith, q)
-    go false h ih = let l : suc n < j = ih h in omega (arith, l)
+above n cookie (e ∷ es) j h = grind (arith, above (suc n) cookie es j)
 
 within_some : (count k : ℕ) → k ≤ count → within count (Some k) ≡ Some k
 within_some count k l = ap (λ (b : Bool). if b then Some k else None) (le-leb k count l)
@@ -29,12 +25,7 @@ within_none count (Some k) h = ap (λ (b : Bool). if b then Some k else None) (l
 
 prefix_from : (n cookie : ℕ) (es more : List Operation) (count : ℕ) → count ≡ n + length es → target_from n cookie es ≡ within count (target_from n cookie (es ++ more))
 prefix_from n cookie [] more count c = sym (within_none count (target_from n cookie more) (λ k e. (let l : n < k = above n cookie more k e in omega (arith, l, c))))
-prefix_from n cookie (e ∷ es) more count c = go (is_awaiting cookie e) (prefix_from (suc n) cookie es more count (omega (arith, c)))
-  where
-    go : (b : Bool) → target_from (suc n) cookie es ≡ within count (target_from (suc n) cookie (es ++ more)) →
-        (if b then Some (suc n) else target_from (suc n) cookie es) ≡ within count (if b then Some (suc n) else target_from (suc n) cookie (es ++ more))
-    go true ih = sym (within_some count (suc n) (omega (arith, c)))
-    go false ih = ih
+prefix_from n cookie (e ∷ es) more count c = grind (arith, within_some, prefix_from (suc n) cookie es more count (omega (arith, c)))
 
 -- the outstanding request with a cookie, of the first requests only
 pub target_prefix : (cookie : ℕ) (es more : List Operation) → target cookie es ≡ within (length es) (target cookie (es ++ more))
@@ -52,19 +43,13 @@ pub decided_is_counted : (phase : Phase) (old now : Core) (s : Side) (bytes : Li
 decided_is_counted (Transmission export) old now Server bytes h = ap (λ to. decision_with (Transmission export) to now Server bytes) (λ i cookie. entry_is_counted old now (h export refl refl) cookie i)
 decided_is_counted (Transmission export) old now Client bytes h = refl
 decided_is_counted Greet old now Server bytes h = refl
-decided_is_counted Greet old now Client bytes h = refl
 decided_is_counted Flags old now Server bytes h = refl
-decided_is_counted Flags old now Client bytes h = refl
 decided_is_counted Choosing old now Server bytes h = refl
-decided_is_counted Choosing old now Client bytes h = refl
 decided_is_counted Naming old now Server bytes h = refl
-decided_is_counted Naming old now Client bytes h = refl
 decided_is_counted Aborting old now Server bytes h = refl
-decided_is_counted Aborting old now Client bytes h = refl
 decided_is_counted (Answering option given info) old now Server bytes h = refl
-decided_is_counted (Answering option given info) old now Client bytes h = refl
 decided_is_counted Ended old now Server bytes h = refl
-decided_is_counted Ended old now Client bytes h = refl
+decided_is_counted phase old now s bytes h = refl
 
 none_added : (core : Core) → IsAppended core core
 none_added core = record { more = []; entries_are = sym (append-nil core.entries); structured_is = refl; profile_is = refl; extended_is = refl }

@@ -12,7 +12,7 @@ use Rattle.nbd_wire.specs.protocol.Reports.{Report, asked_list, asked_of, known_
 use Rattle.nbd_wire.specs.protocol.Operations.{Operation}
 use Rattle.nbd_wire.specs.protocol.Rules.{IsRunOf, MayComplete, complete, ends_at}
 use Rattle.nbd_wire.specs.protocol.States.{start, Core, start_of, export_in}
-use Rattle.nbd_session.proofs.log.FoldLemmas.{core_of}
+use Rattle.nbd_session.proofs.log.FoldLemmas.{core_of, core_is, ends_folded}
 use Rattle.nbd_state.specs.Logs.{LogEntry, known_by}
 use Rattle.nbd_session.specs.internal.Logging.{log_with, log_of_pairs, log_of_rest}
 use Rattle.nbd_session.proofs.log.Logs.{log_from, log_of, report_by}
@@ -21,9 +21,8 @@ use Rattle.nbd_wire.specs.protocol.Entries.{Names, NamesWhole, whole}
 use Rattle.nbd_laws.proofs.service.EntryLemmas.{Names-push_cases, NamesWhole-left, NamesWhole-push}
 use Rattle.nbd_laws.proofs.reading.ReaderLemmas.{AreHeld, Busy, Idle, IsFilled-snoc, IsSound, IsSoundAt, Loose, Open, Walk, at_once, ended, final, get-put_same, held_more, held_whole, kept_next, loose, middle, old-empty, old-filled, opening, serving, with_byte}
 use Rattle.nbd_wire.specs.protocol.Reading.{Bad, Both, IsFilled, Judge, Reader, More, Reading, Rest, Whole, fresh_of, get, rest_with, old_of, on_ok, put, reads, settle}
-use Rattle.nbd_session.proofs.log.FoldLemmas.{core_is, ends_folded}
 use Rattle.nbd_laws.proofs.runs.FollowLemmas.{Follows, HasEnd, IsBegun, IsSidedOpen, completes_later, each_with, follows}
-use Rattle.nbd_laws.proofs.runs.PrefixLemmas.{IsSame, same_message}
+use Rattle.nbd_laws.proofs.judge.SameLemmas.{IsSame, same_message}
 use Rattle.nbd_session.proofs.log.KnownLemmas.{known-log}
 use Rattle.nbd_laws.proofs.reading.MarkLemmas.{AreInStep, InStep, in_step_completed, in_step_sided, in_step_with, within_middle, within_opening}
 use Rattle.nbd_laws.specs.Profiles.{with_profile}

@@ -87,10 +87,6 @@ pub logged_at_once : (judge : Judge) (reader : Reader) (s : Side) (n : ℕ) (mor
     log_of_pairs judge reader (side_pairs s more) ≡ log_with (extended reader.core (get reader.rests s) more) (judge (old_of reader.core (get reader.rests s)) reader.core s ((get reader.rests s).bytes ++ more))
 logged_at_once judge reader s n more f l g = logged_once judge s n more reader (get reader.rests s) refl f l g
 
-filled_right : (xs ys : List ℕ) → IsFilled ys → IsFilled (xs ++ ys)
-filled_right [] ys f = f
-filled_right (x ∷ xs) ys f = tt
-
 -- up to the awaited length they are logged as they are judged once
 pub logged_up_to : (reader : Reader) (s : Side) (more : List ℕ) → AreHeld by_tests reader → IsFilled more →
     length ((get reader.rests s).bytes ++ more) ≤ awaited_length (old_of reader.core (get reader.rests s)) reader.core s (get reader.rests s).bytes →

@@ -6,7 +6,7 @@ use Rattle.nbd_wire.specs.protocol.Marks.{Item, pairs}
 use Rattle.nbd_wire.specs.protocol.Reports.{report, asked_of, asked_list}
 use Rattle.nbd_wire.specs.protocol.Operations.{Operation, Exporting}
 use Rattle.nbd_wire.specs.protocol.Rules.{IsRunOf, IsRunBut}
-use Rattle.nbd_wire.specs.protocol.States.{Core, Phase, Shown, Greet, Flags, Choosing, Naming, Aborting, Answering, Ended, Transmission, start, export_in}
+use Rattle.nbd_wire.specs.protocol.States.{Core, Phase, Shown, Greet, start, export_in}
 use Rattle.nbd_state.specs.declared.asked.Exchange.{Exchange}
 use Rattle.nbd_session.specs.declared.held.Held.{Held}
 use Rattle.nbd_state.specs.declared.state.State.{State}
@@ -31,31 +31,11 @@ use Rattle.nbd_laws.proofs.requests.SoundnessLemmas.{reports_are_sound}
 
 export_same : (phase : Phase) → exporting_if (export_of (phase_shown phase)) ≡ export_in phase
 export_same Greet = refl
-export_same Flags = refl
-export_same Choosing = refl
-export_same Naming = refl
-export_same Aborting = refl
-export_same (Answering option payload info) = refl
-export_same Ended = refl
-export_same (Transmission export) = refl
+export_same phase = refl
 
 one_told : (export : Exporting) (e : Operation) (x : Exchange) (known : Option ℕ) (shown : List Shown) (ended : Option ℕ) → IsShown export e x → x.asked.known_at ≡ known → shown_in x.asked ≡ shown → x.asked.ended_at ≡ ended →
     report_of_request x.asked ≡ asked_of (Some export) known shown ended e
-one_told export e x known shown ended s k sh en = λ i. record {
-  flags = s.flags i;
-  command = s.command i;
-  cookie = s.cookie i;
-  offset = s.offset i;
-  length = s.length i;
-  payload = s.payload i;
-  proper = s.proper i;
-  outside = s.outside i;
-  known_at = k i;
-  shown = sh i;
-  ended_at = en i;
-  outcome = s.outcome_is i;
-  pieces = s.pieces_are i;
-}
+one_told export e x known shown ended s k sh en = grind arith
 
 -- the exchanges have what is noted of the requests from number n + 1 on
 record AreNotedFrom (n : ℕ) (core : Core) (known : ℕ → Option ℕ) (xs : List Exchange) : Type 0 where
@@ -84,15 +64,10 @@ all_told n core (Some export) q known (e ∷ es) (x ∷ xs) s h =
     ∷ all_told (suc n) core (Some export) q known es xs s.1 (noted_rest n core known x xs h) i)
 all_told n core None q known (e ∷ es) (x ∷ xs) s h = absurd s
 all_told n core (Some export) q known [] (x ∷ xs) s h = absurd s
-all_told n core None q known [] (x ∷ xs) s h = absurd s
-all_told n core (Some export) q known (e ∷ es) [] s h = absurd s
-all_told n core None q known (e ∷ es) [] s h = absurd s
+all_told n core export q known es xs s h = absurd s
 
 by_place : (log : List LogEntry) (xs : List Exchange) → AreKnown log xs → (place : ℕ) (x : Exchange) → slice_get xs place ≡ Some x → x.asked.known_at ≡ known_by start.core (suc (0 + place)) log
-by_place log xs known place x at = known place x at ∙ ap (λ k. known_by start.core k log) (next place)
-  where
-    next : (place : ℕ) → place + 1 ≡ suc (0 + place)
-    next place = omega arith
+by_place log xs known place x at = grind arith
 
 told_by_log : (state : State) (core : Core) (log : List LogEntry) → Shows state core → AreKnown log state.exchanges.items → transcript_report (export_of state.phase) state.exchanges.items ≡ report_by core log
 told_by_log state core log shows known = λ i. record {

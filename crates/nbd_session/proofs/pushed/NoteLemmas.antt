@@ -37,10 +37,7 @@ module _ (items : List program.Stretch) (i : ℕ) (last : program.Stretch) (s : 
 
   -- it grows
   pub noted_grown : same_side s last.from ≡ true → stretches_of (slice_set items i (record { from = last.from; length = last.length + n })) ≡ stretches_with (stretches_of items) s n
-  noted_grown t =
-      map-set stretch_of items i (record { from = last.from; length = last.length + n })
-      ∙ sym (noted-set (stretches_of items) i (stretch_of last) s n stretches_long (ap (λ x. same_side s x.from) as_stretch ∙ t)
-      ∙ ap (λ x. slice_set (stretches_of items) i (longer x n)) as_stretch)
+  noted_grown t = grind (arith, map-set, noted-set, stretches_long, as_stretch, slice_set, longer)
 
   -- or another one is pushed
   pub noted_pushed : same_side s last.from ≡ false → stretches_of (items ++ record { from = s; length = n } ∷ []) ≡ stretches_with (stretches_of items) s n
@@ -59,8 +56,4 @@ noted_after (x ∷ xs) s n f =
 
 -- the last one is of this side
 pub is_last_of : (items : List program.Stretch) (last : program.Stretch) (s : Side) (i : ℕ) → length items ≡ i + 1 → last ≡ get_or items i last → is_of s (slice_get items (length items - 1)) ≡ true → same_side s last.from ≡ true
-is_last_of items last s i long there t =
-    let at : i ≡ length items - 1 = omega (arith, long) in
-    ap (λ x. same_side s x.from) there
-    ∙ sym (ap (is_of s) (slice_get-get_or items i last (omega (arith, long))))
-    ∙ ap (λ j. is_of s (slice_get items j)) at ∙ t
+is_last_of items last s i long there t = grind (arith, slice_get-get_or, slice_get)

@@ -10,7 +10,7 @@ use Rattle.nbd_wire.specs.declared.message.Message.{Message}
 use Rattle.nbd_wire.specs.protocol.Encoding.{enc}
 use Rattle.nbd_wire.specs.protocol.Marks.{Item, Byte, Starts, Completes, Serves, IsSided, IsTight, MayFollow, block, completed_messages, of_side, pairs}
 use Rattle.nbd_wire.specs.protocol.Captures.{Pair, ArePairs, side_pairs}
-use Rattle.nbd_laws.specs.Bytes.{bytes_of}
+use Rattle.nbd_laws.specs.Bytes.{bytes_of, bytes_from}
 use Rattle.nbd_wire.specs.protocol.Rules.{IsRunBut, Obeys, after, complete}
 use Rattle.nbd_wire.specs.protocol.Sides.{side, same_side}
 use Rattle.nbd_wire.specs.protocol.States.{State, start_of}
@@ -18,27 +18,14 @@ use Rattle.nbd_wire.specs.protocol.Reading.{by_tests, Bad, Both, Judge, Reader, 
 use Rattle.nbd_laws.proofs.reading.ReaderLemmas.{AreHeld, IsSound, IsSoundAt, Open, Walk, ended, final, held_more, held_whole, kept_next, loose, middle, opening, serving, with_byte}
 use Rattle.nbd_laws.proofs.runs.BlockLemmas.{IsCalm, byte_other, byte_same, marked_is_walk}
 use Rattle.nbd_session.specs.internal.Standing.{with_more}
-use Rattle.nbd_laws.specs.Bytes.{bytes_from}
 use Rattle.nbd_laws.proofs.runs.RunLemmas.{fresh_held, run_but_law}
 use Rattle.nbd_laws.proofs.runs.RunByteLemmas.{AreBytesOf, byte_from, bytes_from-cons, run_bytes}
 use Rattle.nbd_laws.proofs.judge.SoundLemmas.{sound}
+use Rattle.nbd_session.proofs.pushed.PushLemmas.{bytes_of-snoc}
 
 -- what a reader holds of a side's bytes
 abbrev pub held_bytes : Side → Reader → List ℕ
 held_bytes s reader = bytes_of s reader.messages ++ (get reader.rests s).bytes
-
-bytes_of-snoc : (s : Side) (messages : List Message) (m : Message) → bytes_of s (messages ++ m ∷ []) ≡ bytes_of s messages ++ (if same_side s (side m) then enc m else [])
-bytes_of-snoc s [] m = one (same_side s (side m))
-  where
-    one : (b : Bool) → (if b then enc m ++ [] else []) ≡ (if b then enc m else [])
-    one true = append-nil (enc m)
-    one false = refl
-bytes_of-snoc s (n ∷ messages) m = go (same_side s (side n)) (bytes_of-snoc s messages m)
-  where
-    go : (b : Bool) → bytes_of s (messages ++ m ∷ []) ≡ bytes_of s messages ++ (if same_side s (side m) then enc m else []) →
-        (if b then enc n ++ bytes_of s (messages ++ m ∷ []) else bytes_of s (messages ++ m ∷ [])) ≡ (if b then enc n ++ bytes_of s messages else bytes_of s messages) ++ (if same_side s (side m) then enc m else [])
-    go true ih = ap (λ l. enc n ++ l) ih ∙ sym (append_assoc (enc n) (bytes_of s messages) (if same_side s (side m) then enc m else []))
-    go false ih = ih
 
 bytes_more : (s t : Side) (b : ℕ) (reader : Reader) → held_bytes s (record reader { rests = put reader.rests t (rest_with reader.core (get reader.rests t) b) }) ≡ held_bytes s reader ++ byte_from s t b
 bytes_more Client Client b reader = sym (append_assoc (bytes_of Client reader.messages) reader.rests.client.bytes (b ∷ []))
@@ -169,22 +156,16 @@ sided_with Server Client items rest more d = sided_still Client Server items res
 sided_with Server Server items rest more d = sided_more Server items rest more d
 
 byte_after : (x : Item) (s : Side) (b : ℕ) → IsCalm x → MayFollow x (Byte s b)
-byte_after (Byte t c) s b k = tt
 byte_after (Starts t m) s b k = absurd k
-byte_after (Completes t m) s b k = tt
-byte_after (Serves j) s b k = tt
+byte_after x s b k = tt
 
 starts_after : (x : Item) (s : Side) (m : Message) → IsCalm x → MayFollow x (Starts s m)
-starts_after (Byte t c) s m k = tt
 starts_after (Starts t n) s m k = absurd k
-starts_after (Completes t n) s m k = tt
-starts_after (Serves j) s m k = tt
+starts_after x s m k = tt
 
 serves_after : (x : Item) (i : Entry) → IsCalm x → MayFollow x (Serves i)
-serves_after (Byte t c) i k = tt
 serves_after (Starts t n) i k = absurd k
-serves_after (Completes t n) i k = tt
-serves_after (Serves j) i k = tt
+serves_after x i k = tt
 
 bytes_tight : (x : Item) (s : Side) (bs : List ℕ) → IsCalm x → IsTight (x ∷ bytes_items s bs)
 bytes_tight x s [] k = tt
@@ -218,9 +199,7 @@ pairs_bytes s (b ∷ bs) = ap (λ l. record { from = s; byte = b } ∷ l) (pairs
 pub pairs_more : (items : List Item) (s : Side) (bs : List ℕ) → pairs (items ++ bytes_items s bs) ≡ pairs items ++ side_pairs s bs
 pairs_more [] s bs = pairs_bytes s bs
 pairs_more (Byte t b ∷ items) s bs = ap (λ l. record { from = t; byte = b } ∷ l) (pairs_more items s bs)
-pairs_more (Starts t m ∷ items) s bs = pairs_more items s bs
-pairs_more (Completes t m ∷ items) s bs = pairs_more items s bs
-pairs_more (Serves k ∷ items) s bs = pairs_more items s bs
+pairs_more (item ∷ items) s bs = pairs_more items s bs
 
 completed_bytes : (s : Side) (bs : List ℕ) → completed_messages (bytes_items s bs) ≡ []
 completed_bytes s [] = refl
@@ -228,10 +207,8 @@ completed_bytes s (b ∷ bs) = completed_bytes s bs
 
 pub completed_more : (items : List Item) (s : Side) (bs : List ℕ) → completed_messages (items ++ bytes_items s bs) ≡ completed_messages items
 completed_more [] s bs = completed_bytes s bs
-completed_more (Byte t b ∷ items) s bs = completed_more items s bs
-completed_more (Starts t m ∷ items) s bs = completed_more items s bs
 completed_more (Completes t m ∷ items) s bs = ap (λ l. m ∷ l) (completed_more items s bs)
-completed_more (Serves k ∷ items) s bs = completed_more items s bs
+completed_more (item ∷ items) s bs = completed_more items s bs
 
 -- bytes of a side may come at the end of a run but for loose bytes: they stand after that side's
 pub run_but_more : {profile : Profile} (items : List Item) (client server : List ℕ) (s : Side) (more : List ℕ) → IsRunBut profile items client server →

@@ -36,12 +36,9 @@ left_alike : (s u t : Side) (n : ℕ) (more bytes : List ℕ) → (u ≡ t → n
     bytes_after_stretch u (record { from = t; length = n }) (with_more s u more bytes) ≡ with_more s u more (bytes_after_stretch u (record { from = t; length = n }) bytes)
 left_alike Client Client Client n more bytes l = drop-append-le n bytes more (l refl)
 left_alike Client Client Server n more bytes l = refl
-left_alike Client Server Client n more bytes l = refl
-left_alike Client Server Server n more bytes l = refl
 left_alike Server Client Client n more bytes l = refl
-left_alike Server Client Server n more bytes l = refl
-left_alike Server Server Client n more bytes l = refl
 left_alike Server Server Server n more bytes l = drop-append-le n bytes more (l refl)
+left_alike s u t n more bytes l = refl
 
 -- after the first stretch the others are of what is left
 pub left_stretches : (t : Side) (n : ℕ) (stretches : List Stretch) (client server : List ℕ) → AreStretchesOf (record { from = t; length = n } ∷ stretches) client server →
@@ -124,13 +121,10 @@ mixed-noted (stretch ∷ next ∷ stretches) client server s more h =
 
 total-one : (u s t : Side) (n m : ℕ) → stretch_total u (stretches_with (record { from = t; length = n } ∷ []) s m) ≡ stretch_total u (record { from = t; length = n } ∷ []) + (if same_side u s then m else 0)
 total-one Client Client Client n m = omega arith
-total-one Client Client Server n m = omega arith
 total-one Client Server Client n m = omega arith
-total-one Client Server Server n m = omega arith
 total-one Server Client Client n m = omega arith
-total-one Server Client Server n m = omega arith
 total-one Server Server Client n m = omega arith
-total-one Server Server Server n m = omega arith
+total-one u s t n m = omega arith
 
 total-noted : (u : Side) (stretches : List Stretch) (s : Side) (m : ℕ) → stretch_total u (stretches_with stretches s m) ≡ stretch_total u stretches + (if same_side u s then m else 0)
 total-noted u [] s m = omega arith
@@ -148,20 +142,8 @@ length-with_more Server Server more bytes = omega (arith, length-append bytes mo
 -- they are the stretches of the longer bytes
 pub stretches-noted : (stretches : List Stretch) (client server : List ℕ) (s : Side) (more : List ℕ) → AreStretchesOf stretches client server →
     AreStretchesOf (stretches_with stretches s (length more)) (with_more s Client more client) (with_more s Server more server)
-stretches-noted stretches client server s more h = record {
-  of_client = total-noted Client stretches s (length more) ∙ ap (λ n. n + (if same_side Client s then length more else 0)) h.of_client ∙ sym (length-with_more Client s more client);
-  of_server = total-noted Server stretches s (length more) ∙ ap (λ n. n + (if same_side Server s then length more else 0)) h.of_server ∙ sym (length-with_more Server s more server);
-}
+stretches-noted stretches client server s more h = grind (arith, total-noted, length-with_more)
 
 pub bytes_of-snoc : (s : Side) (messages : List Message) (m : Message) → bytes_of s (messages ++ m ∷ []) ≡ bytes_of s messages ++ (if same_side s (side m) then enc m else [])
-bytes_of-snoc s [] m = one (same_side s (side m))
-  where
-    one : (b : Bool) → (if b then enc m ++ [] else []) ≡ (if b then enc m else [])
-    one true = append-nil (enc m)
-    one false = refl
-bytes_of-snoc s (n ∷ messages) m = go (same_side s (side n)) (bytes_of-snoc s messages m)
-  where
-    go : (b : Bool) → bytes_of s (messages ++ m ∷ []) ≡ bytes_of s messages ++ (if same_side s (side m) then enc m else []) →
-        (if b then enc n ++ bytes_of s (messages ++ m ∷ []) else bytes_of s (messages ++ m ∷ [])) ≡ (if b then enc n ++ bytes_of s messages else bytes_of s messages) ++ (if same_side s (side m) then enc m else [])
-    go true ih = ap (λ l. enc n ++ l) ih ∙ sym (append_assoc (enc n) (bytes_of s messages) (if same_side s (side m) then enc m else []))
-    go false ih = ih
+bytes_of-snoc s [] m = grind (arith, append-nil)
+bytes_of-snoc s (n ∷ messages) m = grind (arith, append_assoc, bytes_of-snoc s messages m)

@@ -1,5 +1,5 @@
 -- The stretches as a list that is written at its end: its last element grows, or one more is pushed.
-use Rattle.std.proofs.Common.{◌≡◌, ℕ, zero, suc, ◌+◌, List, [], ◌∷◌, ◌++◌, length, refl, sym, ◌∙◌, ap, Some, Bool, true, false, if◌then◌else◌, arith, slice_get, slice_set, get_or}
+use Rattle.std.proofs.Common.{◌≡◌, ℕ, zero, suc, ◌+◌, List, [], ◌∷◌, ◌++◌, length, refl, sym, ◌∙◌, ap, Bool, true, false, if◌then◌else◌, arith, slice_set, get_or}
 use Rattle.std.proofs.Math.Seq.{set-append_seam}
 use Rattle.nbd_wire.specs.declared.message.Side.{Side}
 use Rattle.nbd_session.specs.Pushed.{Stretch}
@@ -55,11 +55,6 @@ noted-push_by stretches i last s n h e =
     behind [] = refl
     behind (x ∷ xs) = ap (λ l. x ∷ l) (behind xs)
 
--- no stretch yet: one is pushed
-pub noted-push_first : (stretches : List Stretch) (s : Side) (n : ℕ) → length stretches ≡ 0 → stretches_with stretches s n ≡ stretches ++ stretch_of s n ∷ []
-noted-push_first [] s n e = refl
-noted-push_first (x ∷ xs) s n e = absurd (omega (arith, e))
-
 -- the last stretch is of this side: a write at its place
 pub noted-set : (stretches : List Stretch) (i : ℕ) (d : Stretch) (s : Side) (n : ℕ) → length stretches ≡ i + 1 → same_side s (get_or stretches i d).from ≡ true → stretches_with stretches s n ≡ slice_set stretches i (longer (get_or stretches i d) n)
 noted-set stretches i d s n l e = noted-set_by stretches i (get_or stretches i d) s n (ends_with stretches i d l) e
@@ -67,12 +62,3 @@ noted-set stretches i d s n l e = noted-set_by stretches i (get_or stretches i d
 -- it is of the other side: one more is pushed
 pub noted-push : (stretches : List Stretch) (i : ℕ) (d : Stretch) (s : Side) (n : ℕ) → length stretches ≡ i + 1 → same_side s (get_or stretches i d).from ≡ false → stretches_with stretches s n ≡ stretches ++ stretch_of s n ∷ []
 noted-push stretches i d s n l e = noted-push_by stretches i (get_or stretches i d) s n (ends_with stretches i d l) e
-
--- the same where the last stretch was found at its place
-found : (stretches : List Stretch) (i : ℕ) (last : Stretch) → length stretches ≡ i + 1 → slice_get stretches i ≡ Some last → EndsWith stretches i last
-found [] i last l e = absurd (omega (arith, l))
-found (x ∷ []) zero last l e = let q : x ≡ last = cc in record { before = []; is = ap (λ y. y ∷ []) q; length_is = refl }
-found (x ∷ y ∷ xs) zero last l e = absurd (omega (arith, l))
-found (x ∷ xs) (suc i) last l e =
-    let ih : EndsWith xs i last = found xs i last (omega (arith, l)) e in
-    record { before = x ∷ ih.before; is = ap (λ m. x ∷ m) ih.is; length_is = ap suc ih.length_is }

@@ -1,5 +1,5 @@
 -- What is decided of a side's bytes once they were taken.
-use Rattle.std.proofs.Common.{◌≡◌, ℕ, suc, ◌-◌, ◌<◌, ◌≤◌, List, [], ◌∷◌, ◌++◌, length, refl, sym, ◌∙◌, ap, subst, Option, Some, None, Bool, true, false, Result, Ok, Err, IfErr, IsErrAnd, OnOk, OnErr, append-nil, arith}
+use Rattle.std.proofs.Common.{◌≡◌, ℕ, suc, ◌-◌, ◌<◌, ◌≤◌, List, [], ◌∷◌, ◌++◌, length, refl, sym, ◌∙◌, ap, subst, Option, Some, None, Bool, true, false, Result, Ok, Err, OnOk, OnErr, append-nil, arith}
 use Rattle.std.proofs.lemmas.Option.{same_Some}
 use Rattle.nbd_state.specs.Places.{place_at}
 use Rattle.nbd_wire.specs.declared.fault.WireFault.{WireFault}
@@ -29,7 +29,7 @@ use Rattle.nbd_session.specs.internal.Standing.{Holding, count_at_server, held_p
 use Rattle.nbd_session.specs.internal.Steps.{IsExpecting, IsHeadRefused, IsShut, IsTaken, IsWhole, Knows, Stands, knows_by, IsSame}
 use Rattle.nbd_session.proofs.expecting.ReplyLemmas.{placed_within}
 use Rattle.nbd_session.proofs.expecting.KnownLemmas.{expected_bad, expected_more, expected_whole, refused_head, short_more}
-use Rattle.nbd_session.proofs.steps.HoldingLemmas.{holding_expected, incoming_here, incoming_other, rest_is}
+use Rattle.nbd_session.proofs.steps.HoldingLemmas.{holding_expected, incoming_here, incoming_other, rest_is, same_but}
 use Rattle.nbd_session.proofs.steps.SettleLemmas.{IsRead, settled_more, shut_wire}
 use Rattle.nbd_session.proofs.steps.StepLemmas.{decided_held}
 
@@ -44,12 +44,7 @@ pub stands_in : (state : State) (core : Core) → Shows state core → (x : Expe
 stands_in state core s (expectations.Simple head place len) t = let l = placed_within core.entries head.cookie place t in omega (arith, l, shown_length _ core.entries state.exchanges.items s.are_shown)
 stands_in state core s (expectations.Chunk head place) t =
     let l = placed_within core.entries head.cookie place t in (omega (arith, l, shown_length _ core.entries state.exchanges.items s.are_shown), placed_in state core s head.cookie head.cookie place t refl)
-stands_in state core s (expectations.Greeting flags) l = tt
-stands_in state core s (expectations.ClientFlags flags) l = tt
-stands_in state core s (expectations.Choice head) l = tt
-stands_in state core s (expectations.Answer head proper) l = tt
-stands_in state core s (expectations.Exported size flags padded) l = tt
-stands_in state core s (expectations.Request head) l = tt
+stands_in state core s x l = tt
 
 no_cookie : (x : Bool) (r : RequestHead) (payload : List ℕ) → cookie_of (request_with x r payload) ≡ None
 no_cookie false r payload = refl
@@ -58,12 +53,8 @@ no_cookie true r payload = refl
 pub answers_at : (state : State) (core : Core) → Shows state core → (x : Expected) (payload : List ℕ) → IsPlaced core x → Answers state (message_of x payload) (place_answered x)
 answers_at state core s (expectations.Simple head place len) payload t cookie c = placed_in state core s head.cookie cookie place t c
 answers_at state core s (expectations.Chunk head place) payload t cookie c = placed_in state core s head.cookie cookie place t (sym (chunk_cookie head.flags head.kind head.cookie payload head.at) ∙ c)
-answers_at state core s (expectations.Greeting flags) payload t cookie c = absurd (cc)
-answers_at state core s (expectations.ClientFlags flags) payload t cookie c = absurd (cc)
-answers_at state core s (expectations.Choice head) payload t cookie c = absurd (cc)
-answers_at state core s (expectations.Answer head proper) payload t cookie c = absurd (cc)
-answers_at state core s (expectations.Exported size flags padded) payload t cookie c = absurd (cc)
 answers_at state core s (expectations.Request head) payload t cookie c = absurd (let q : None ≡ Some cookie = sym (no_cookie head.extended head payload) ∙ c in cc)
+answers_at state core s x payload t cookie c = absurd (cc)
 
 module _ (held : Held) (s : Side) (x : Expected) (e : IsExpecting held s x) (payload : List ℕ) (is : payload ≡ (incoming_of held s).payload) where
   -- bytes are missing
@@ -104,13 +95,8 @@ module _ (held : Held) (s : Side) (e : Option Expected) (t : IsTaken held s) (k 
   come (Some x) k = k
   come None k = (k.0, λ d is. (let same : k.1 ≡ d = same_Some _ _ (sym k.2 ∙ is) in let len : k.1.head_length ≡ d.head_length = ap (λ (x : Decision). x.head_length) same in let short = k.3 in omega (arith, short, len)))
 
-  state_same : (u : Side) → (with_expected held u e).state ≡ held.state
-  state_same Client = refl
-  state_same Server = refl
-
-  taken_same : (u : Side) → (with_expected held u e).taken ≡ held.taken
-  taken_same Client = refl
-  taken_same Server = refl
+  state_same : (with_expected held s e).state ≡ held.state
+  state_same = ap (λ (h : Held). h.state) (same_but held s (record (incoming_of held s) { expected = e }))
 
   pub taken_expecting : IsTaken (with_expected held s e) s
   taken_expecting = record {
@@ -122,9 +108,9 @@ module _ (held : Held) (s : Side) (e : Option Expected) (t : IsTaken held s) (k 
     are_bytes = t.are_bytes;
     up_to = t.up_to;
     holding_is = holding_expected held s e ∙ t.holding_is;
-    shows = subst (λ state. Shows state t.reader.core) (sym (state_same s)) t.shows;
-    known = subst (λ (state : State). AreKnown (log_of_pairs by_tests (fresh_of t.before.profile) (held_pairs t.before)) state.exchanges.items) (sym (state_same s)) t.known;
-    taken_is = taken_same s ∙ t.taken_is ∙ sym (ap (λ h. length (held_pairs h)) (holding_expected held s e));
+    shows = subst (λ state. Shows state t.reader.core) (sym state_same) t.shows;
+    known = subst (λ (state : State). AreKnown (log_of_pairs by_tests (fresh_of t.before.profile) (held_pairs t.before)) state.exchanges.items) (sym state_same) t.known;
+    taken_is = ap (λ (h : Held). h.taken) (same_but held s (record (incoming_of held s) { expected = e })) ∙ t.taken_is ∙ sym (ap (λ h. length (held_pairs h)) (holding_expected held s e));
     come = subst (IsCome (decided t.reader s) t.reader.core) (sym here) (come e k);
     knows = λ u ne. subst (IsKnown (decided t.reader u) t.reader.core) (sym (incoming_other held s u (record (incoming_of held s) { expected = e }) ne)) (t.knows u ne);
   }
@@ -172,12 +158,7 @@ module _ (held : Held) (s : Side) (head : List ℕ) (is : head ≡ (incoming_of 
   counted_so t bytes = decided_so t bytes ∙ ap (λ n. decision_by_count n t.reader.core s bytes) (sym (ap (λ (h : Holding). h.counted) t.holding_is))
 
   pub length_refused : (fault : WireFault) → ((core : Core) (counted : ℕ) → Shows held.state core → reading_by_decision (decision_by_count counted core s head) head ≡ Bad fault) → IsHeadRefused held s fault
-  length_refused fault bad t = (
-    (bare_come t).0,
-    ap (λ o. reading_by_decision o (incoming_of held s).head) (decided_so t (incoming_of held s).head)
-        ∙ subst (λ h. reading_by_decision (decision_by_count (count_at_server s t.before.server t.before.counted (length t.reader.core.entries)) t.reader.core s h) h ≡ Bad fault) is
-        (bad t.reader.core (count_at_server s t.before.server t.before.counted (length t.reader.core.entries)) t.shows),
-  )
+  length_refused fault bad t = grind (arith, bare_come, decided_so)
 
   module _ (n : ℕ) (known : HasHeadLength held.state s head n) where
     length_decided : (t : IsTaken held s) → (d : Decision) × (decided t.reader s (incoming_of held s).head ≡ Some d) × (d.head_length ≡ n)
@@ -201,13 +182,7 @@ module _ (held : Held) (s : Side) (head : List ℕ) (is : head ≡ (incoming_of 
         known.whole (omega (arith, l, same, len, low))
 
   pub head_refused : (fault : WireFault) → ((core : Core) → Shows held.state core → IsRefusedHead held.counted core s head fault) → IsHeadRefused held s fault
-  head_refused fault bad t =
-      let b = bad t.reader.core t.shows in (
-        (bare_come t).0,
-        refused_head (decided t.reader s (incoming_of held s).head) b.decision (incoming_of held s).head fault
-            (counted_so t (incoming_of held s).head ∙ subst (λ h. decision_by_count held.counted t.reader.core s h ≡ Some b.decision) is b.decided)
-            (b.length_is ∙ ap length is) b.fault_is,
-      )
+  head_refused fault bad t = grind (arith, bare_come, refused_head, counted_so)
 
   filled_right : (xs ys : List ℕ) → IsFilled ys → IsFilled (xs ++ ys)
   filled_right [] ys f = f
@@ -223,23 +198,11 @@ module _ (held : Held) (s : Side) (head : List ℕ) (is : head ≡ (incoming_of 
       (subst IsFilled (rest_is held s) (subst (λ h. IsFilled (rest_of h s)) (sym t.holding_is) (rest_filled s t.before t.more (length t.reader.core.entries) t.filled)))
 
   pub knows_expected : (x : Expected) → ((core : Core) → Shows held.state core → IsExpectedOf held.counted core s head x) → ((core : Core) → Shows held.state core → IsPlaced core x) → Knows held s (Some x)
-  knows_expected x expected placed t = (
-    record {
-      filled = head_filled t;
-      placed = placed t.reader.core t.shows;
-      is = λ payload. counted_so t ((incoming_of held s).head ++ payload) ∙ subst (λ h. IsExpectedOf held.counted t.reader.core s h x) is (expected t.reader.core t.shows) payload;
-    },
-    (let none = ap length (bare_come t).0 in omega (arith, none)),
-  )
+  knows_expected x expected placed t = grind (arith, head_filled, counted_so, bare_come)
 
 -- a head that was decided before
 pub knows_again : (held : Held) (s : Side) (x : Expected) → (incoming_of held s).expected ≡ Some x → Knows held s (Some x)
 knows_again held s x is t = subst (is_come_by (decided t.reader s) t.reader.core (incoming_of held s).head (incoming_of held s).payload) is t.come
-
--- the fault of a call is handed on
-pub handed_wire : (A : Type 0) (r : Result A WireFault) (fault : WireFault) (Q : WireFault → Type 0) → IsErrAnd r (λ other. other ≡ fault) → Q fault → IfErr r Q
-handed_wire A (Ok a) fault Q e q = tt
-handed_wire A (Err other) fault Q e q = subst Q (sym e) q
 
 -- of a result that both clauses speak of
 pub on_ok_both : {A E : Type 0} (r : Result A E) (P Q R : Type 0) → OnOk r P → OnOk r Q → (P → Q → R) → OnOk r R

@@ -1,39 +1,19 @@
 -- A side whose message was taken out of what has come.
-use Rattle.std.proofs.Common.{◌≡◌, ◌++◌, ◌∷◌, [], refl, ◌∙◌, ap}
+use Rattle.std.proofs.Common.{◌≡◌, ◌++◌, ◌∷◌, [], ◌∙◌, ap}
 use Rattle.nbd_wire.specs.declared.message.Message.{Message}
 use Rattle.nbd_wire.specs.declared.message.Side.{Side}
 use Rattle.nbd_wire.specs.declared.message.Side.TheVariants.{Client, Server}
 use Rattle.nbd_session.specs.declared.held.Held.{Held}
-use Rattle.nbd_session.specs.Incoming.{IncomingView, bytes_come, nothing_come}
+use Rattle.nbd_session.specs.Incoming.{bytes_come, nothing_come}
 use Rattle.nbd_session.specs.Views.{stretches_of}
 use Rattle.nbd_session.specs.internal.Holdings.{holding_of, incoming_of, with_incoming}
 use Rattle.nbd_session.proofs.steps.AcceptLemmas.{accepted_holding}
-use Rattle.nbd_session.proofs.steps.HoldingLemmas.{incoming_here, incoming_other}
+use Rattle.nbd_session.proofs.steps.HoldingLemmas.{incoming_here, incoming_other, same_but}
 use Rattle.nbd_session.proofs.steps.StepLemmas.{with_message}
 
 same_incoming : (mid new : Held) → new.client ≡ mid.client → new.server ≡ mid.server → (u : Side) → incoming_of new u ≡ incoming_of mid u
 same_incoming mid new c v Client = c
 same_incoming mid new c v Server = v
-
-counted_same : (held : Held) (s : Side) (v : IncomingView) → (with_incoming held s v).counted ≡ held.counted
-counted_same held Client v = refl
-counted_same held Server v = refl
-
-stretches_same : (held : Held) (s : Side) (v : IncomingView) → (with_incoming held s v).stretches ≡ held.stretches
-stretches_same held Client v = refl
-stretches_same held Server v = refl
-
-taken_same : (held : Held) (s : Side) (v : IncomingView) → (with_incoming held s v).taken ≡ held.taken
-taken_same held Client v = refl
-taken_same held Server v = refl
-
-messages_same : (held : Held) (s : Side) (v : IncomingView) → (with_incoming held s v).messages ≡ held.messages
-messages_same held Client v = refl
-messages_same held Server v = refl
-
-state_same : (held : Held) (s : Side) (v : IncomingView) → (with_incoming held s v).state ≡ held.state
-state_same held Client v = refl
-state_same held Server v = refl
 
 -- `roomy` is what was held with room for one more message
 module _ (held roomy mid new : Held) (s : Side) (is : mid ≡ with_incoming roomy s nothing_come) (sides : (u : Side) → incoming_of roomy u ≡ incoming_of held u)
@@ -45,19 +25,19 @@ module _ (held roomy mid new : Held) (s : Side) (is : mid ≡ with_incoming room
   kept_other u ne = same_incoming mid new client server u ∙ ap (λ h. incoming_of h u) is ∙ incoming_other roomy s u nothing_come ne ∙ sides u
 
   pub mid_counted : mid.counted ≡ roomy.counted
-  mid_counted = ap (λ (h : Held). h.counted) is ∙ counted_same roomy s nothing_come
+  mid_counted = ap (λ (h : Held). h.counted) (is ∙ same_but roomy s nothing_come)
 
   pub mid_stretches : mid.stretches ≡ roomy.stretches
-  mid_stretches = ap (λ (h : Held). h.stretches) is ∙ stretches_same roomy s nothing_come
+  mid_stretches = ap (λ (h : Held). h.stretches) (is ∙ same_but roomy s nothing_come)
 
   pub mid_taken : mid.taken ≡ roomy.taken
-  mid_taken = ap (λ (h : Held). h.taken) is ∙ taken_same roomy s nothing_come
+  mid_taken = ap (λ (h : Held). h.taken) (is ∙ same_but roomy s nothing_come)
 
   pub mid_messages : mid.messages ≡ roomy.messages
-  mid_messages = ap (λ (h : Held). h.messages) is ∙ messages_same roomy s nothing_come
+  mid_messages = ap (λ (h : Held). h.messages) (is ∙ same_but roomy s nothing_come)
 
   pub mid_state : mid.state ≡ roomy.state
-  mid_state = ap (λ (h : Held). h.state) is ∙ state_same roomy s nothing_come
+  mid_state = ap (λ (h : Held). h.state) (is ∙ same_but roomy s nothing_come)
 
   pub new_holding : (m : Message) → new.state.profile ≡ held.state.profile → new.messages.items ≡ held.messages.items ++ m ∷ [] → new.counted ≡ held.counted → new.stretches ≡ held.stretches → holding_of new ≡ with_message (holding_of held) s m
   new_holding m p ms n st = accepted_holding held new s m p ms emptied_here kept_other n st

@@ -24,6 +24,11 @@ incoming_other held Client Server v ne = refl
 incoming_other held Server Client v ne = refl
 incoming_other held Server Server v ne = absurd (ne refl)
 
+-- and nothing else
+pub same_but : (held : Held) (s : Side) (v : IncomingView) → with_incoming held s v ≡ record held { client = (with_incoming held s v).client; server = (with_incoming held s v).server }
+same_but held Client v = refl
+same_but held Server v = refl
+
 -- what a head says is no byte
 pub holding_expected : (held : Held) (s : Side) (e : Option Expected) → holding_of (with_expected held s e) ≡ holding_of held
 holding_expected held Client e = refl

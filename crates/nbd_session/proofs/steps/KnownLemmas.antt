@@ -1,20 +1,19 @@
 -- What is known of a side's bytes stays, where the other side's messages complete meanwhile.
-use Rattle.std.proofs.Common.{◌≡◌, ℕ, suc, ◌+◌, ◌<◌, ◌≤◌, List, [], ◌∷◌, ◌++◌, ◌==◌, length, not, refl, sym, ◌∙◌, ap, subst, inl, inr, Option, Some, None, zero, Bool, true, false, if◌then◌else◌, arith, add-one, append-nil, length-append}
+use Rattle.std.proofs.Common.{◌≡◌, ℕ, suc, ◌+◌, ◌<◌, ◌≤◌, List, [], ◌∷◌, ◌++◌, length, refl, sym, ◌∙◌, ap, subst, inl, inr, Option, Some, None, zero, Bool, true, false, arith, add-one, append-nil, length-append}
 use Rattle.std.proofs.lemmas.Bool.{lt-ltb}
 use Rattle.std.proofs.lemmas.Option.{same_Some}
-use Rattle.nbd_wire.specs.declared.magics.TheConstants.{CHUNK_MAGIC, EXTENDED_CHUNK_MAGIC, SIMPLE_MAGIC}
 use Rattle.nbd_wire.specs.declared.message.Message.{Message}
 use Rattle.nbd_wire.specs.declared.message.Message.TheVariants as messages
 use Rattle.nbd_wire.specs.declared.message.Side.{Side}
 use Rattle.nbd_wire.specs.declared.message.Side.TheVariants.{Client, Server}
-use Rattle.nbd_wire.specs.declared.fault.WireFault.TheVariants.{BadMagic, OutOfProfile, UnknownCookie}
+use Rattle.nbd_wire.specs.declared.fault.WireFault.TheVariants.{BadMagic, UnknownCookie}
 use Rattle.nbd_wire.specs.protocol.Operations.{Exporting, Operation}
 use Rattle.nbd_wire.specs.protocol.Payloads.{number_at}
 use Rattle.nbd_wire.specs.protocol.States.{Core, Transmission, operation, target}
 use Rattle.nbd_laws.specs.Awaited.{awaited_length_by, awaited_length}
-use Rattle.nbd_wire.specs.protocol.Decisions.{Decision, begins, chunk_last_fault, chunk_of, extended_chunk_of, extended_last_fault, extended_reply_by, operation_if, operation_of, reply, reply_by, reply_in, request, request_by, simple_of}
+use Rattle.nbd_wire.specs.protocol.Decisions.{Decision, operation_of, reply, reply_in, request, request_by}
 use Rattle.nbd_wire.specs.protocol.Reading.{by_tests, decision, request_unless, IsFilled, More, Rest, old_of}
-use Rattle.nbd_wire.specs.protocol.Transmission.{chunk_head_fault, cookie_fault, extended_head_fault, is_too_large, simple_fault, simple_last_fault, simple_payload_length}
+use Rattle.nbd_wire.specs.protocol.Transmission.{chunk_head_fault, extended_head_fault, simple_fault, simple_last_fault}
 use Rattle.nbd_laws.proofs.judge.AwaitedLemmas.{decision_of}
 use Rattle.nbd_laws.proofs.judge.PhaseLemmas.{IsAppended, Later-appended, Later-disconnected, Later-extended, Later-transmission, Later-turn, target-append}
 use Rattle.nbd_laws.proofs.judge.SoundLemmas.{kept_later, turn_of_reading}
@@ -25,8 +24,6 @@ use Rattle.nbd_session.specs.declared.expected.Expected.{Expected}
 use Rattle.nbd_session.specs.declared.expected.Expected.TheVariants as expectations
 use Rattle.nbd_session.specs.internal.Expecting.{IsPlaced, chunk_fault_to, expected_decision, last_fault_by, message_of, payload_length_of, request_with}
 use Rattle.nbd_state.specs.Heads.{chunk_with}
-use Rattle.nbd_wire.specs.protocol.Contexts.{Context}
-use Rattle.nbd_wire.specs.protocol.Tests.{fault_if}
 use Rattle.nbd_session.specs.Incoming.{IncomingView, bytes_come, incoming_with, incoming_with_by, nothing_come}
 use Rattle.nbd_session.specs.internal.Known.{IsCome, IsExpected, IsKnown, IsShort, is_known_by}
 use Rattle.nbd_session.proofs.expecting.KnownLemmas.{expected_awaited}
@@ -43,12 +40,7 @@ deciding_rest {core} {s} {rest} (some_held r now f k m l) bytes d is =
 
 -- before the first byte of a message no head is whole
 pub nothing_short : (core : Core) (s : Side) → IsShort (decision core.phase core core s) []
-nothing_short core s d is =
-    let D = deciding core.phase s core [] d refl is in
-    let two : 2 ≤ (D.F core []).head_length = (D.steady core at_once).two [] in
-    let same : D.F core [] ≡ d = same_Some _ _ (sym (D.decides core at_once []) ∙ is) in
-    let len : (D.F core []).head_length ≡ d.head_length = ap (λ (x : Decision). x.head_length) same in
-    omega (arith, two, len)
+nothing_short core s d is = grind (arith, deciding, at_once, same_Some)
 
 -- a head that is not whole
 pub short_stays : (s : Side) (old core next : Core) (head : List ℕ) → IsDeciding s old → Later s old core → Later s core next → IsShort (decision core.phase old core s) head → IsShort (decision next.phase old next s) head
@@ -63,14 +55,7 @@ short_stays s old core next head D l k short d is =
 -- more bytes of it lie within what was awaited
 pub taken_within : (s : Side) (old core : Core) (head more : List ℕ) (d : Decision) → IsDeciding s old → Later s old core → IsShort (decision core.phase old core s) head →
     length (head ++ more) ≤ awaited_length old core s head → decision core.phase old core s (head ++ more) ≡ Some d → length (head ++ more) ≤ d.head_length
-taken_within s old core head more d D l short up is =
-    let here : length head < (D.F core head).head_length = short (D.F core head) (D.decides core l head) in
-    let awaited : awaited_length old core s head ≡ (D.F core head).head_length =
-    ap (λ o. awaited_length_by o head) (D.decides core l head) ∙ ap (λ (b : Bool). if b then (D.F core head).head_length else (D.F core head).head_length + (D.F core head).payload_length) (lt-ltb (length head) (D.F core head).head_length here) in
-    let grows : (D.F core head).head_length ≤ (D.F core (head ++ more)).head_length = (D.steady core l).grows core at_once head more in
-    let same : D.F core (head ++ more) ≡ d = same_Some _ _ (sym (D.decides core l (head ++ more)) ∙ is) in
-    let len : (D.F core (head ++ more)).head_length ≡ d.head_length = ap (λ (x : Decision). x.head_length) same in
-    omega (arith, up, awaited, grows, len)
+taken_within s old core head more d D l short up is = grind (arith, lt-ltb, at_once, same_Some)
 
 -- requests were added, and the request of a number stays
 operation_stays : (core next : Core) → IsAppended core next → (place : ℕ) → place < length core.entries → operation (place + 1) next.entries ≡ operation (place + 1) core.entries
@@ -86,12 +71,7 @@ operation_stays core next a place l =
 placed_stays : (core next : Core) → IsAppended core next → (x : Expected) → IsPlaced core x → IsPlaced next x
 placed_stays core next a (expectations.Simple head place len) t = ap (target head.cookie) a.entries_are ∙ target-append head.cookie core.entries a.more (suc place) t
 placed_stays core next a (expectations.Chunk head place) t = ap (target head.cookie) a.entries_are ∙ target-append head.cookie core.entries a.more (suc place) t
-placed_stays core next a (expectations.Greeting flags) l = tt
-placed_stays core next a (expectations.ClientFlags flags) l = tt
-placed_stays core next a (expectations.Choice head) l = tt
-placed_stays core next a (expectations.Answer head proper) l = tt
-placed_stays core next a (expectations.Exported size flags padded) l = tt
-placed_stays core next a (expectations.Request head) l = tt
+placed_stays core next a x l = tt
 
 -- the command and the cookie of a request
 abbrev sent : Message → Option (ℕ × ℕ)
@@ -113,13 +93,8 @@ chunk_not_sent (Some offset) flags kind cookie payload = refl
 
 request_only : (x : Expected) (payload : List ℕ) (s : ℕ × ℕ) → sent (message_of x payload) ≡ Some s → (r : RequestHead) × (x ≡ expectations.Request r)
 request_only (expectations.Request r) payload s e = (r, refl)
-request_only (expectations.Greeting flags) payload s e = absurd (cc)
-request_only (expectations.ClientFlags flags) payload s e = absurd (cc)
-request_only (expectations.Choice head) payload s e = absurd (cc)
-request_only (expectations.Answer head proper) payload s e = absurd (cc)
-request_only (expectations.Exported size flags padded) payload s e = absurd (cc)
-request_only (expectations.Simple head place len) payload s e = absurd (cc)
 request_only (expectations.Chunk head place) payload s e = absurd (let q : None ≡ Some s = sym (chunk_not_sent head.at head.flags head.kind head.cookie payload) ∙ e in cc)
+request_only x payload s e = absurd (cc)
 
 -- what is decided of a request is so of a request alone
 module _ (core : Core) (bytes payload : List ℕ) (h : ℕ) (x : Expected) (e : request core bytes ≡ expected_decision core x h payload) where
@@ -138,33 +113,14 @@ module _ (core : Core) (bytes payload : List ℕ) (h : ℕ) (x : Expected) (e : 
 
   -- a request looks at what is outstanding at its last byte alone
   request_stays : (next : Core) → next.extended ≡ core.extended → request next bytes ≡ expected_decision next x h payload
-  request_stays next extended =
-      let f : ◌≡◌ {A = ℕ × ℕ} (number_at 6 2 bytes, number_at 8 8 bytes) (is_request.0.command, is_request.0.cookie) = fields_are in
-      ap (λ b. request_by b next bytes) extended
-      ∙ go core.extended
-      ∙ (λ i. record { head_length = (e i).head_length; head_fault = (e i).head_fault; payload_length = (e i).payload_length; last_fault = cookie_fault (f i).0 (target (f i).1 next.entries); message = (e i).message })
-      ∙ (λ i. record { head_length = h; head_fault = None; payload_length = payload_length_of x; last_fault = last_fault_by next.phase next (sym is_request.1 i) payload; message = message_of x payload })
-    where
-      go : (x : Bool) → request_by x next bytes ≡ record {
-        head_length = (request_by x core bytes).head_length;
-        head_fault = (request_by x core bytes).head_fault;
-        payload_length = (request_by x core bytes).payload_length;
-        last_fault = cookie_fault (number_at 6 2 bytes) (target (number_at 8 8 bytes) next.entries);
-        message = (request_by x core bytes).message;
-      }
-      go false = refl
-      go true = refl
+  request_stays next extended = grind (arith, is_request, fields_are)
 
 module _ (export : Exporting) (old core next : Core) (bytes : List ℕ) (a : IsAppended core next) where
   abbrev cookie : ℕ
   cookie = number_at 8 8 bytes
 
   same_operation : (e : Operation) → operation_of old core cookie ≡ Some e → operation_of old next cookie ≡ operation_of old core cookie
-  same_operation e h = go (target cookie old.entries) h ∙ sym h
-    where
-      go : (o : Option ℕ) → operation_if o core.entries ≡ Some e → operation_if o next.entries ≡ Some e
-      go (Some k) h = ap (operation k) a.entries_are ∙ entry-append k core.entries a.more e h
-      go None h = absurd (cc)
+  same_operation e h = grind (arith, entry-append)
 
   found_chunk : (o : Option Operation) → chunk_head_fault core.structured o ≡ None → (e : Operation) × (o ≡ Some e)
   found_chunk (Some e) h = (e, refl)
@@ -176,46 +132,20 @@ module _ (export : Exporting) (old core next : Core) (bytes : List ℕ) (a : IsA
 
   found_extended : (o : Option Operation) (len : ℕ) → extended_head_fault core.structured o len ≡ None → (e : Operation) × (o ≡ Some e)
   found_extended (Some e) len h = (e, refl)
-  found_extended None len h = absurd (go (is_too_large len) h)
-    where
-      go : (b : Bool) → fault_if b OutOfProfile (Some UnknownCookie) ≡ None → ⊥
-      go true q = (cc)
-      go false q = (cc)
+  found_extended None len h = grind arith
 
   -- what is decided of a reply without a fault in its head does not change as requests are added
   short_reply_stays : IsBegun bytes → (short_reply export old core bytes).head_fault ≡ None → short_reply export old next bytes ≡ short_reply export old core bytes
-  short_reply_stays (as_chunk c) clean =
-      let is = is_chunk_reply export old core bytes c in
-      let f = found_chunk (operation_of old core cookie) (sym (ap (λ (d : Decision). d.head_fault) is) ∙ clean) in
-      let o = same_operation f.0 f.1 in
-      is_chunk_reply export old next bytes c
-      ∙ (λ i. record { head_length = 20; head_fault = chunk_head_fault (a.structured_is i) (o i); payload_length = number_at 16 4 bytes; last_fault = chunk_last_fault (a.profile_is i) export (o i) bytes; message = chunk_of bytes })
-      ∙ sym is
-  short_reply_stays (as_simple c s) clean =
-      let is = is_simple_reply export old core bytes c s in
-      let f = found_simple (operation_of old core cookie) (number_at 4 4 bytes) (sym (ap (λ (d : Decision). d.head_fault) is) ∙ clean) in
-      let o = same_operation f.0 f.1 in
-      is_simple_reply export old next bytes c s
-      ∙ (λ i. record { head_length = 16; head_fault = simple_fault (a.structured_is i) (o i) (number_at 4 4 bytes); payload_length = simple_payload_length (o i) (number_at 4 4 bytes); last_fault = simple_last_fault export (o i) (number_at 4 4 bytes); message = simple_of bytes })
-      ∙ sym is
+  short_reply_stays (as_chunk c) clean = grind (arith, is_chunk_reply, found_chunk, same_operation)
+  short_reply_stays (as_simple c s) clean = grind (arith, is_simple_reply, found_simple, same_operation)
   short_reply_stays (as_neither c s) clean = absurd (let q : Some BadMagic ≡ None = sym (ap (λ (d : Decision). d.head_fault) (is_no_reply export old core bytes c s)) ∙ clean in cc)
 
   long_reply_stays : IsExtendedOrNot bytes → (long_reply export old core bytes).head_fault ≡ None → long_reply export old next bytes ≡ long_reply export old core bytes
-  long_reply_stays (as_extended c) clean =
-      let is = is_extended_reply export old core bytes c in
-      let f = found_extended (operation_of old core cookie) (number_at 24 8 bytes) (sym (ap (λ (d : Decision). d.head_fault) is) ∙ clean) in
-      let o = same_operation f.0 f.1 in
-      is_extended_reply export old next bytes c
-      ∙ (λ i. record { head_length = 32; head_fault = extended_head_fault (a.structured_is i) (o i) (number_at 24 8 bytes); payload_length = number_at 24 8 bytes; last_fault = extended_last_fault (a.profile_is i) export (o i) bytes; message = extended_chunk_of bytes })
-      ∙ sym is
+  long_reply_stays (as_extended c) clean = grind (arith, is_extended_reply, found_extended, same_operation)
   long_reply_stays (as_other c) clean = absurd (let q : Some BadMagic ≡ None = sym (ap (λ (d : Decision). d.head_fault) (is_no_extended export old core bytes c)) ∙ clean in cc)
 
   reply_stays : (reply export old core bytes).head_fault ≡ None → reply export old next bytes ≡ reply export old core bytes
-  reply_stays clean = ap (λ x. reply_in x export next (operation_of old next cookie) bytes) a.extended_is ∙ go core.extended clean
-    where
-      go : (x : Bool) → (reply_in x export core (operation_of old core cookie) bytes).head_fault ≡ None → reply_in x export next (operation_of old next cookie) bytes ≡ reply_in x export core (operation_of old core cookie) bytes
-      go false clean = short_reply_stays (bytes_are_begun bytes) clean
-      go true clean = long_reply_stays (extended_or_not bytes) clean
+  reply_stays clean = grind (arith, short_reply_stays, bytes_are_begun, long_reply_stays, extended_or_not)
 
 -- a reply is a message of its kind
 abbrev is_reply : Message → Bool
@@ -225,17 +155,8 @@ is_reply (messages.ExtendedChunk flags kind cookie offset payload) = true
 is_reply m = false
 
 reply_is : (x : Bool) (export : Exporting) (core : Core) (o : Option Operation) (bytes : List ℕ) → is_reply ((reply_in x export core o bytes).message) ≡ true
-reply_is false export core o bytes = go (begins CHUNK_MAGIC bytes) (begins SIMPLE_MAGIC bytes)
-  where
-    go : (chunk simple : Bool) → is_reply ((reply_by chunk simple export core o bytes).message) ≡ true
-    go true simple = refl
-    go false true = refl
-    go false false = refl
-reply_is true export core o bytes = go (begins EXTENDED_CHUNK_MAGIC bytes)
-  where
-    go : (chunk : Bool) → is_reply ((extended_reply_by chunk export core o bytes).message) ≡ true
-    go true = refl
-    go false = refl
+reply_is false export core o bytes = grind arith
+reply_is true export core o bytes = grind arith
 
 no_request : (x : Bool) (r : RequestHead) (payload : List ℕ) → is_reply (request_with x r payload) ≡ false
 no_request false r payload = refl
@@ -247,11 +168,8 @@ last_stays : (core next : Core) (export : Exporting) → IsAppended core next �
 last_stays core next export a (expectations.Simple head place len) payload l is = ap (λ o. simple_last_fault export o head.error) (sym (operation_stays core next a place (placed_within core.entries head.cookie place l)))
 last_stays core next export a (expectations.Chunk head place) payload l is = (λ i. chunk_fault_to (sym a.profile_is i) export (sym (operation_stays core next a place (placed_within core.entries head.cookie place l)) i) head payload)
 last_stays core next export a (expectations.Request head) payload l is = absurd (let q : false ≡ true = sym (no_request head.extended head payload) ∙ is in cc)
-last_stays core next export a (expectations.Greeting flags) payload l is = refl
-last_stays core next export a (expectations.ClientFlags flags) payload l is = refl
-last_stays core next export a (expectations.Choice head) payload l is = refl
 last_stays core next export a (expectations.Answer head proper) payload l is = absurd (cc)
-last_stays core next export a (expectations.Exported size flags padded) payload l is = refl
+last_stays core next export a x payload l is = refl
 
 module _ (old core next : Core) (export : Exporting) (before : core.phase ≡ Transmission export) (after : next.phase ≡ Transmission export) (head : List ℕ) (x : Expected) where
   expected_reply : IsAppended core next → IsExpected (decision core.phase old core Server) core head x → IsExpected (decision next.phase old next Server) next head x
@@ -270,18 +188,7 @@ module _ (old core next : Core) (export : Exporting) (before : core.phase ≡ Tr
           ∙ (λ i. record { head_length = length head; head_fault = None; payload_length = payload_length_of x; last_fault = last i; message = message_of x payload }))
 
   expected_request : next.disconnected ≡ core.disconnected → next.extended ≡ core.extended → IsPlaced next x → IsExpected (decision core.phase old core Client) core head x → IsExpected (decision next.phase old next Client) next head x
-  expected_request disconnected extended placed known = record { filled = known.filled; placed = placed; is = is }
-    where
-      by : (b : Bool) (payload : List ℕ) → request_unless b core (head ++ payload) ≡ Some (expected_decision core x (length head) payload) → request_unless b next (head ++ payload) ≡ Some (expected_decision next x (length head) payload)
-      by true payload e = absurd (cc)
-      by false payload e =
-          ap Some (request_stays core (head ++ payload) payload (length head) x (same_Some _ _ e) next extended)
-
-      is : (payload : List ℕ) → decision next.phase old next Client (head ++ payload) ≡ Some (expected_decision next x (length head) payload)
-      is payload =
-          ap (λ p. decision p old next Client (head ++ payload)) after
-          ∙ ap (λ b. request_unless b next (head ++ payload)) disconnected
-          ∙ by core.disconnected payload (sym (ap (λ p. decision p old core Client (head ++ payload)) before) ∙ known.is payload)
+  expected_request disconnected extended placed known = grind (arith, request_stays, same_Some)
 
 by_side : (s : Side) (old core next : Core) (export : Exporting) (head : List ℕ) (x : Expected) → Later s core next → core.phase ≡ Transmission export → next.phase ≡ Transmission export →
     IsExpected (decision core.phase old core s) core head x → IsExpected (decision next.phase old next s) next head x

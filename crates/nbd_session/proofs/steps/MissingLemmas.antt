@@ -1,5 +1,5 @@
 -- How many bytes of a side are missing until something is decided of them.
-use Rattle.std.proofs.Common.{◌≡◌, ◌⊎◌, ℕ, ◌+◌, ◌<◌, ◌≤◌, List, [], ◌++◌, length, refl, sym, ◌∙◌, ap, subst, inl, inr, Option, Some, None, append-nil, arith, length-append, Bool, if◌then◌else◌}
+use Rattle.std.proofs.Common.{◌≡◌, ◌⊎◌, ℕ, ◌+◌, ◌<◌, List, [], ◌++◌, length, sym, ◌∙◌, ap, subst, inl, inr, Option, Some, None, append-nil, arith, length-append, Bool, if◌then◌else◌}
 use Rattle.std.proofs.lemmas.Bool.{lt-ltb}
 use Rattle.nbd_wire.specs.declared.message.Side.{Side}
 use Rattle.nbd_wire.specs.declared.fault.WireFault.{WireFault}
@@ -9,7 +9,7 @@ use Rattle.nbd_session.specs.internal.Counted.{decision_by_count}
 use Rattle.nbd_wire.specs.protocol.Decisions.{Decision}
 use Rattle.nbd_wire.specs.protocol.Reading.{by_tests, reading_by_decision, decision, Bad, IsFilled, More, Rest, get, old_of}
 use Rattle.nbd_laws.proofs.judge.AwaitedLemmas.{held_short, in_head}
-use Rattle.nbd_laws.proofs.judge.SteadyLemmas.{IsDeciding, deciding}
+use Rattle.nbd_laws.proofs.judge.SteadyLemmas.{deciding}
 use Rattle.nbd_laws.proofs.reading.ReaderLemmas.{Held, at_once, none_held, old-empty, some_held}
 use Rattle.nbd_state.specs.Shows.{Shows}
 use Rattle.nbd_session.specs.declared.expected.Expected.{Expected}
@@ -29,15 +29,7 @@ abbrev IsOpen : Option Decision → List ℕ → Type 0
 IsOpen o bytes = (reading_by_decision o bytes ≡ More) ⊎ (o ≡ None) × (bytes ≡ [])
 
 open_first : (core : Core) (s : Side) → IsOpen (decision core.phase core core s []) []
-open_first core s = go (decision core.phase core core s []) refl
-  where
-    go : (o : Option Decision) → decision core.phase core core s [] ≡ o → IsOpen o []
-    go None e = inr (refl, refl)
-    go (Some x) e =
-        let d : IsDeciding s core = deciding core.phase s core [] x refl e in
-        let two : 2 ≤ (d.F core []).head_length = (d.steady core at_once).two [] in
-        let is : Some (d.F core []) ≡ Some x = sym (d.decides core at_once []) ∙ e in
-        inl (ap (λ o. reading_by_decision o []) (sym is) ∙ in_head (d.F core []) [] (omega (arith, two)))
+open_first core s = grind (arith, deciding, at_once, in_head)
 
 open_held : {core : Core} {s : Side} {rest : Rest} → Held by_tests core s rest → IsOpen (decision core.phase (old_of core rest) core s rest.bytes) rest.bytes
 open_held {core} {s} {rest} (none_held r e) =
@@ -68,12 +60,7 @@ module _ (held : program.Held) (s : Side) (st : Stands held) where
 
   -- the bytes after a head that is whole
   pub payload_missing : (x : Expected) → (incoming_of held s).expected ≡ Some x → (length (incoming_of held s).payload < payload_length_of x) × (awaited st.reader s ≡ length (incoming_of held s).head + payload_length_of x)
-  payload_missing x is =
-      let known = subst (is_known_by (decided st.reader s) st.reader.core (incoming_of held s).head (incoming_of held s).payload) is (st.knows s) in
-      let all : awaited st.reader s ≡ length (incoming_of held s).head + payload_length_of x = sym awaited_of ∙ expected_awaited (decided st.reader s) st.reader.core (incoming_of held s).head (incoming_of held s).payload x known in
-      let short = come_short in
-      let len = length-append (incoming_of held s).head (incoming_of held s).payload in
-      (omega (arith, all, short, len), all)
+  payload_missing x is = grind (arith, awaited_of, expected_awaited, come_short, length-append)
 
   module _ (none : (incoming_of held s).expected ≡ None) where
     bare_known : is_known_by (decided st.reader s) st.reader.core (incoming_of held s).head (incoming_of held s).payload None

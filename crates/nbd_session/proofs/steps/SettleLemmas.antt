@@ -1,19 +1,17 @@
 -- What was taken of a side is judged.
-use Rattle.std.proofs.Common.{◌≡◌, ℕ, List, [], ◌∷◌, ◌++◌, length, refl, sym, ◌∙◌, ap, subst, inl, inr, Option, Some, None, Result, Ok, Err, IfErr, IsErrAnd, append-nil, arith}
+use Rattle.std.proofs.Common.{◌≡◌, ℕ, List, [], ◌++◌, length, refl, sym, ◌∙◌, ap, subst, Option, Result, Ok, Err, IfErr, IsErrAnd, append-nil, arith}
 use Rattle.std.proofs.lemmas.Option.{same_Some}
 use Rattle.nbd_wire.specs.declared.message.Side.{Side}
 use Rattle.nbd_wire.specs.declared.message.Side.TheVariants.{Client, Server}
-use Rattle.nbd_session.specs.declared.fault.SessionFault.{SessionFault}
 use Rattle.nbd_session.specs.declared.fault.SessionFault.TheVariants.{Memory, Wire}
 use Rattle.nbd_wire.specs.declared.fault.WireFault.{WireFault}
 use Rattle.nbd_session.specs.declared.held.Held.{Held}
 use Rattle.nbd_wire.specs.protocol.States.{Core}
-use Rattle.nbd_wire.specs.protocol.Decisions.{Decision}
-use Rattle.nbd_wire.specs.protocol.Reading.{by_tests, reading_by_decision, decision, Bad, IsFilled, Reader, More, Reading, Rest, fresh_of, get, old_of, put}
+use Rattle.nbd_wire.specs.protocol.Reading.{by_tests, reading_by_decision, Bad, IsFilled, Reader, More, Reading, Rest, fresh_of, get, old_of, put}
 use Rattle.nbd_session.specs.internal.Holdings.{holding_of, incoming_of}
 use Rattle.nbd_session.specs.declared.expected.Expected.{Expected}
 use Rattle.nbd_session.specs.Incoming.{bytes_come}
-use Rattle.nbd_session.specs.internal.Known.{IsKnown, decided, is_known_by}
+use Rattle.nbd_session.specs.internal.Known.{IsKnown, decided}
 use Rattle.nbd_session.specs.internal.Logging.{log_of_pairs}
 use Rattle.nbd_laws.proofs.reading.ReaderLemmas.{get-put_other, get-put_same, old-filled, same_or_not}
 use Rattle.nbd_state.specs.Shows.{AreKnown}
@@ -40,11 +38,7 @@ IsRead held s t reading = reading_by_decision (decided t.reader s (bytes_come (i
 
 -- with bytes after it a side's rest began where it began
 same_old : (core : Core) (rest : Rest) (more : List ℕ) → IsFilled more → old_of core (extended core rest more) ≡ old_of core rest
-same_old core rest more f = old-filled core (extended core rest more) (filled_right rest.bytes more f)
-  where
-    filled_right : (xs ys : List ℕ) → IsFilled ys → IsFilled (xs ++ ys)
-    filled_right [] ys f = f
-    filled_right (x ∷ xs) ys f = tt
+same_old core rest more f = grind (arith, old-filled, extended)
 
 module _ (held : Held) (s : Side) (t : IsTaken held s) where
   abbrev after : Holding
@@ -61,20 +55,10 @@ module _ (held : Held) (s : Side) (t : IsTaken held s) where
 
   known_longer : (e : Option Expected) → knows_by (decided t.reader s) t.reader.core (incoming_of held s).head (incoming_of held s).payload e → (incoming_of held s).expected ≡ e →
       IsKnown (decided t.reader s) t.reader.core (incoming_of held s)
-  known_longer e k is = subst (λ e. is_known_by (decided t.reader s) t.reader.core (incoming_of held s).head (incoming_of held s).payload e) (sym is) (go e k)
-    where
-      go : (e : Option Expected) → knows_by (decided t.reader s) t.reader.core (incoming_of held s).head (incoming_of held s).payload e →
-          is_known_by (decided t.reader s) t.reader.core (incoming_of held s).head (incoming_of held s).payload e
-      go (Some x) k = k.0
-      go None k = (k.0, λ d is. (let same : k.1 ≡ d = same_Some _ _ (sym k.2 ∙ is) in let len : k.1.head_length ≡ d.head_length = ap (λ (x : Decision). x.head_length) same in let short = k.3 in omega (arith, short, len)))
+  known_longer e k is = grind (arith, same_Some)
 
   all_known : IsKnown (decided t.reader s) t.reader.core (incoming_of held s) → (u : Side) → IsKnown (decided longer u) t.reader.core (incoming_of held u)
-  all_known here u = elim (same_or_not s u) [
-    | inl e ↦ subst (λ v. IsKnown (decided longer v) t.reader.core (incoming_of held v)) e
-        (subst (λ (r : Rest). IsKnown (decision t.reader.core.phase (old_of t.reader.core r) t.reader.core s) t.reader.core (incoming_of held s)) (sym (get-put_same t.reader.rests s (extended t.reader.core (get t.reader.rests s) t.more)))
-        (subst (λ c. IsKnown (decision t.reader.core.phase c t.reader.core s) t.reader.core (incoming_of held s)) (sym (same_old t.reader.core (get t.reader.rests s) t.more t.filled)) here))
-    | inr ne ↦ subst (λ (r : Rest). IsKnown (decision t.reader.core.phase (old_of t.reader.core r) t.reader.core u) t.reader.core (incoming_of held u)) (sym (get-put_other t.reader.rests s u (extended t.reader.core (get t.reader.rests s) t.more) ne)) (t.knows u ne)
-  ]
+  all_known here u = grind (arith, same_or_not, get-put_same, extended, same_old, get-put_other)
 
   -- more is awaited
   pub settled_more : IsRead held s t More → (e : Option Expected) → (incoming_of held s).expected ≡ e → knows_by (decided t.reader s) t.reader.core (incoming_of held s).head (incoming_of held s).payload e → Stands held
@@ -120,18 +104,9 @@ module _ (held : Held) (s : Side) (t : IsTaken held s) where
   }
 
   pub shut_memory : (new : Held) → holding_of new ≡ holding_of held → new.taken ≡ held.taken → IsShut new Memory
-  shut_memory new holding same = record {
-    run = subst HoldsRun (sym holding) taken_run;
-    taken_is = same ∙ t.taken_is ∙ sym (ap (λ h. length (held_pairs h)) holding);
-    cause = tt;
-  }
-
--- out of memory is the only fault
-pub memory_alone : (A : Type 0) (r : Result A SessionFault) (Q : SessionFault → Type 0) → IsErrAnd r (λ fault. fault ≡ Memory) → Q Memory → IfErr r Q
-memory_alone A (Ok a) Q e q = tt
-memory_alone A (Err fault) Q e q = subst Q (sym e) q
+  shut_memory new holding same = grind (arith, taken_run)
 
 -- the fault of a call is handed on
-pub handed_on : (A : Type 0) (r : Result A SessionFault) (fault : SessionFault) (Q : SessionFault → Type 0) → IsErrAnd r (λ other. other ≡ fault) → Q fault → IfErr r Q
+pub handed_on : {E : Type 0} (A : Type 0) (r : Result A E) (fault : E) (Q : E → Type 0) → IsErrAnd r (λ other. other ≡ fault) → Q fault → IfErr r Q
 handed_on A (Ok a) fault Q e q = tt
 handed_on A (Err other) fault Q e q = subst Q (sym e) q

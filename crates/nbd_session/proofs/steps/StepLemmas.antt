@@ -9,7 +9,7 @@ use Rattle.nbd_laws.specs.Bytes.{bytes_of}
 use Rattle.nbd_session.specs.Pushed.{mixture}
 use Rattle.nbd_wire.specs.protocol.Rules.{complete}
 use Rattle.nbd_wire.specs.protocol.Sides.{side, same_side}
-use Rattle.nbd_wire.specs.protocol.States.{Core, Phase, Greet, Flags, Choosing, Naming, Aborting, Answering, Ended, Transmission}
+use Rattle.nbd_wire.specs.protocol.States.{Core, Phase, Greet}
 use Rattle.nbd_wire.specs.declared.fault.WireFault.{WireFault}
 use Rattle.nbd_laws.specs.Awaited.{awaited_length}
 use Rattle.nbd_session.specs.internal.Counted.{decision_by_count, operation_counted}
@@ -130,13 +130,7 @@ count_at (b ∷ bytes) rest core counted e h = h tt ∙ ap (λ c. length c.entri
 -- no decision of a client's bytes looks at the count
 client_alike : (phase : Phase) (a b : ℕ) (core : Core) (bytes : List ℕ) → decision_with phase (operation_counted a core) core Client bytes ≡ decision_with phase (operation_counted b core) core Client bytes
 client_alike Greet a b core bytes = refl
-client_alike Flags a b core bytes = refl
-client_alike Choosing a b core bytes = refl
-client_alike Naming a b core bytes = refl
-client_alike Aborting a b core bytes = refl
-client_alike (Answering option payload info) a b core bytes = refl
-client_alike Ended a b core bytes = refl
-client_alike (Transmission export) a b core bytes = refl
+client_alike phase a b core bytes = refl
 
 -- what is decided of a side's bytes, by the count that is held
 pub decided_held : (h : Holding) (reader : Reader) (s : Side) → IsReadTo h reader → (bytes : List ℕ) →

@@ -13,7 +13,7 @@ use Rattle.nbd_session.specs.internal.Incoming.{is_nothing}
 use Rattle.nbd_session.specs.internal.Known.{IsKnown, decided, is_known_by}
 use Rattle.nbd_session.specs.internal.Standing.{count_at_server, stretches_with, with_bytes}
 use Rattle.nbd_session.specs.internal.Steps.{Stands}
-use Rattle.nbd_session.proofs.steps.HoldingLemmas.{incoming_here, incoming_other}
+use Rattle.nbd_session.proofs.steps.HoldingLemmas.{incoming_here, incoming_other, same_but}
 use Rattle.nbd_session.proofs.steps.IncomingLemmas.{none_of_known}
 
 module _ (decided : List ℕ → Option Decision) (core : Core) (v : IncomingView) (known : IsKnown decided core v) where
@@ -48,21 +48,13 @@ module _ (held new : Held) (s : Side) (more : List ℕ) (st : Stands held)
   taken_other u ne = same_side_of u ∙ incoming_other held s u v ne
 
   pub taken_state : new.state ≡ held.state
-  taken_state = ap (λ (h : Held). h.state) is ∙ go s
-    where
-      go : (s : Side) → (with_incoming held s v).state ≡ held.state
-      go Client = refl
-      go Server = refl
+  taken_state = ap (λ (h : Held). h.state) is ∙ ap (λ (h : Held). h.state) (same_but held s v)
 
   pub taken_count : new.taken ≡ held.taken + length more
   taken_count = ap (λ (h : Held). h.taken) is
 
   messages_same : new.messages ≡ held.messages
-  messages_same = ap (λ (h : Held). h.messages) is ∙ go s
-    where
-      go : (s : Side) → (with_incoming held s v).messages ≡ held.messages
-      go Client = refl
-      go Server = refl
+  messages_same = ap (λ (h : Held). h.messages) is ∙ ap (λ (h : Held). h.messages) (same_but held s v)
 
   pub taken_holding : (n : ℕ) → new.counted ≡ count_at_server s held.server.head held.counted n → stretches_of new.stretches.items ≡ stretches_with (stretches_of held.stretches.items) s (length more) →
       holding_of new ≡ with_bytes (holding_of held) s more n

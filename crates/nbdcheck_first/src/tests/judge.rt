@@ -1,5 +1,5 @@
 //! Records that are at hand, and a session that is pushed piece by piece, judged. The built program is tested with sessions as data, in
-//! tools/cases/.
+//! tests/cases/.
 
 ghost use Rattle.std.specs.Prelude.{ℕ};
 ghost use Rattle.nbd_export.specs.Starts.{FitsSize};
@@ -7,7 +7,7 @@ ghost use Rattle.nbd_export.specs.Starts.{FitsSize};
 mod countable;
 
 use countable::are_countable;
-use nbd_export::{Flat, Start};
+use nbd_export::{Extents, Start};
 use nbd_judge::{OrderFault, Verdict, check, judge};
 use nbd_session::{Session, Transcript};
 use nbd_wire::Side::{self, Client, Server};
@@ -134,8 +134,8 @@ fn is_judged(
     requires no_image { (size : ℕ) → FitsSize size start }
 {
     match transcript.export() {
-        Some((size, _)) if size <= 1024 => {
-            let mut contents = Flat::new(alloc, size, start)?;
+        Some((size, _)) => {
+            let mut contents = Extents::new(alloc, size, start)?;
             Ok(judge(alloc, Profile::Base, transcript, &[ONE], &mut contents)? == *wanted)
         }
         _ => Ok(false),

@@ -1,6 +1,6 @@
 //! How many ranges the contents of the largest export have, which is what they cost.
 //!
-//! tools/test_refusals.py runs this so that the Nth growth of memory is refused: then there are as many as before.
+//! tests/commands/test_refusals.py runs this so that the Nth growth of memory is refused: then there are as many as before.
 
 ghost use Rattle.std.specs.Prelude.{◌≡◌};
 ghost use Rattle.nbd_export.specs.Extents.{size_of};

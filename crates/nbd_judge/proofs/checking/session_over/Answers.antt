@@ -1,7 +1,8 @@
 use Rattle.std.proofs.Common.{◌++◌, length, sym, ◌∙◌, ap, arith, take}
+use Rattle.std.proofs.lemmas.List.{take_all}
 use Rattle.nbd_wire.specs.protocol.Captures.{flat, side_pairs}
 use Rattle.nbd_judge.specs.Captures.{IsFaultOf, records_of}
-use Rattle.nbd_judge.proofs.verdicts.ChunkLemmas.{finish_told, prefix_more, prefix_whole, handed_on, piece_fits}
+use Rattle.nbd_judge.proofs.verdicts.ChunkLemmas.{finish_told, prefix_more, handed_on, piece_fits}
 use Rattle.nbd_judge.proofs.verdicts.RefusalLemmas.{fault_in, finish_fault}
 use Rattle.nbd_judge.proofs.checking.session_over.Goals as goal
 
@@ -32,9 +33,9 @@ loop-side-preserved c = record {
 pub returns-clause-report : goal.returns-clause-report
 returns-clause-report c =
     finish_told c.loop-side.session (flat (records_of c.args.chunks.now)) c.finish.result c.loop-side.invariant.profile
-    (c.loop-side.invariant.took ∙ ap (λ cs. flat (records_of cs)) (prefix_whole c.args.chunks.now c.loop-side.side-index (omega arith))) c.finish.ensures.report
+    (c.loop-side.invariant.took ∙ ap (λ cs. flat (records_of cs)) (take_all c.loop-side.side-index c.args.chunks.now (omega arith))) c.finish.ensures.report
 
 pub returns-clause-wire : goal.returns-clause-wire
 returns-clause-wire c =
     finish_fault c.loop-side.session (flat (records_of c.args.chunks.now)) c.finish.result c.loop-side.invariant.profile
-    (c.loop-side.invariant.took ∙ ap (λ cs. flat (records_of cs)) (prefix_whole c.args.chunks.now c.loop-side.side-index (omega arith))) c.finish.ensures.wire
+    (c.loop-side.invariant.took ∙ ap (λ cs. flat (records_of cs)) (take_all c.loop-side.side-index c.args.chunks.now (omega arith))) c.finish.ensures.wire

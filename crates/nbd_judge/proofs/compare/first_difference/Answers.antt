@@ -2,12 +2,8 @@ use Rattle.std.proofs.Common.{map, subst, sym}
 use Rattle.std.proofs.lemmas.List.{length-map}
 use Rattle.nbd_export.specs.Ranges.{IsLeast}
 use Rattle.nbd_judge.specs.internal.Pieces.{DiffersInOneOf}
-use Rattle.nbd_judge.proofs.contents.SortLemmas.{inside_those, least_sorted}
+use Rattle.nbd_judge.proofs.contents.SortLemmas.{least_sorted}
 use Rattle.nbd_judge.proofs.compare.first_difference.Goals as goal
-
-pub least_difference-requires : goal.least_difference-requires
-least_difference-requires g c =
-    rw c.deref.ensures.value (inside_those _ (g.C.Contents.size c.args.contents.now) c.args.pieces.now (map (λ p. p.now) c.in_ok-sorted.sorted.items) c.in_ok-sorted.ensures.those c.requires.inside)
 
 pub returns-clause-least : goal.returns-clause-least
 returns-clause-least g c =

@@ -19,7 +19,7 @@ loop-piece-preserved g c =
     let at = at_reference c.args.pieces.now c.loop-piece.piece-index c.piece-item.result c.loop-piece-test.true c.piece-item.is in
     record {
       least = subst (IsLeast (DiffersInOneOf byte pieces (c.loop-piece.piece-index + 1))) (sym c.lesser-found.ensures)
-          (one_more byte pieces c.loop-piece.piece-index c.piece-item.result.now c.loop-piece.found c.piece_difference.result at c.loop-piece.invariant.least
+          (one_more byte pieces c.loop-piece.piece-index c.piece-item.result.now at c.loop-piece.found c.piece_difference.result c.loop-piece.invariant.least
           (subst (λ (f : ℕ → Option ℕ). IsLeast (DiffersInPiece f c.piece-item.result.now) c.piece_difference.result) c.loop-piece.invariant.bytes c.piece_difference.ensures.least));
       size = c.piece_difference.ensures.size ∙ c.loop-piece.invariant.size;
       bytes = c.piece_difference.ensures.bytes ∙ c.loop-piece.invariant.bytes;

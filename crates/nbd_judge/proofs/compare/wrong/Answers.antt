@@ -1,5 +1,4 @@
-use borrow.Author.Tests.{tests}
-use Rattle.std.proofs.Common.{ℕ, List, OnOk, Option, length, sym, subst, ◌∙◌, Some, rules}
+use Rattle.std.proofs.Common.{ℕ, List, OnOk, Option, length, sym, subst, ◌∙◌, Some}
 use Rattle.std.proofs.lemmas.Result.{IfOk-weaker}
 use Rattle.nbd_export.specs.Ranges.{IsLeast}
 use Rattle.nbd_wire.specs.declared.payloads.Piece.{Piece}
@@ -29,6 +28,3 @@ returns-in-None-clause-least g c =
 pub returns-in-Some-clause-sorted : goal.returns-in-Some-clause-sorted
 returns-in-Some-clause-sorted g c =
     subst (λ (ps : List Piece). OnOk c.part_difference.result (AddsSorted c.args.reads.now c.part_difference.new.reads c.args.entry.request ps)) c.deref.ensures c.part_difference.ensures.sorted
-
-pub returns-else-is_compared-clause-least : goal.returns-else-is_compared-clause-least
-returns-else-is_compared-clause-least c = search (tests, rules)

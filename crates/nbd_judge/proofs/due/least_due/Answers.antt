@@ -16,9 +16,6 @@ pub returns-then-not-serves_by_chunk : goal.returns-then-not-serves_by_chunk
 returns-then-not-serves_by_chunk c =
     least_whole c.args.profile c.args.transcript.now c.args.entry (report_of_request c.in_ok-one.one.now) (sym c.in_ok-one.ensures) c.requires (sym c.serves_by_chunk.ensures.is ∙ c.if-not-serves_by_chunk.true)
 
-pub least_shown-requires-clause-read : goal.least_shown-requires-clause-read
-least_shown-requires-clause-read c = c.serves_by_chunk.ensures.read c.if-not-serves_by_chunk.false
-
 pub least_shown-requires-clause-apart : goal.least_shown-requires-clause-apart
 least_shown-requires-clause-apart c =
     (servable c.args.transcript.now c.inside-within.ensures.facts c.args.entry.request (report_of_request c.in_ok-one.one.now) (sym c.in_ok-one.ensures)).laid.apart

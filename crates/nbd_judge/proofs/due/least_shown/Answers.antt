@@ -7,12 +7,9 @@ use Rattle.nbd_state.specs.Moments.{with_counts}
 use Rattle.nbd_wire.specs.protocol.Pieces.{is_in}
 use Rattle.nbd_wire.specs.protocol.Reports.{first_shown}
 use Rattle.nbd_judge.proofs.orders.FirstLemmas.{read_at}
-use Rattle.nbd_judge.proofs.orders.ShownLemmas.{ShownBefore, least_first, looked_up, none_before, read_shows, shown_apart, shown_met, shown_none, shown_one, shown_past, span_at}
+use Rattle.nbd_judge.proofs.orders.ShownLemmas.{ShownBefore, least_first, looked_up, read_shows, shown_apart, shown_met, shown_none, shown_one, shown_past, span_at}
 use Rattle.nbd_judge.proofs.due.least_shown.Goals as goal
 use Rattle.nbd_judge.proofs.due.least_shown.Goals.{in-Some+then-meet-gt0, in-Some+else-meet-gt0, in_default}
-
-pub loop-i-init : goal.loop-i-init
-loop-i-init c = none_before (with_counts c.args.one.now.pieces.items c.args.one.now.shown.items) c.args.span
 
 pub loop-i-preserved : goal.loop-i-preserved
 loop-i-preserved c =

@@ -1,5 +1,4 @@
 use Rattle.std.proofs.Common.{inr}
-use Rattle.nbd_wire.specs.protocol.Marks.{pairs}
 use Rattle.nbd_wire.specs.protocol.Verdicts.{IsFaultless}
 use Rattle.nbd_judge.proofs.verdicts.AnswerLemmas.{order_unserved}
 use Rattle.nbd_judge.proofs.judging.judge.Goals as goal
@@ -25,6 +24,3 @@ pub returns-in-Some-2-clause-judged : goal.returns-in-Some-2-clause-judged
 returns-in-Some-2-clause-judged g c =
     let faultless : IsFaultless c.args.profile c.args.transcript.now c.args.order.now = rw c.in_default.is at c.in_ok-entry.ensures in
     c.wrong_of.ensures.judged c.args.profile c.args.order.now _ faultless (rw c.in-Some-2.is at c.in_ok-request.ensures)
-
-pub returns-in-Some-2-clause-unserved : goal.returns-in-Some-2-clause-unserved
-returns-in-Some-2-clause-unserved g c = λ items run same. c.wrong_of.ensures.unserved c.args.profile (pairs items) c.args.order.now

@@ -1,7 +1,7 @@
 use Rattle.std.proofs.Common.{not, sym, ◌∙◌, ap}
 use Rattle.nbd_state.specs.Transcripts.{report_of_request}
 use Rattle.nbd_wire.specs.protocol.Reports.{Asked, inside_in}
-use Rattle.nbd_judge.proofs.orders.TableLemmas.{all_due, ended, none_of, not_started, shown_due, some_of, started}
+use Rattle.nbd_judge.proofs.orders.TableLemmas.{all_due, ended, none_of, shown_due, some_of, started}
 use Rattle.nbd_judge.proofs.order.fault_of.Goals as goal
 use Rattle.nbd_judge.proofs.order.fault_of.Goals.{then-serves_by_chunk+else-is_none, else-serves_by_chunk+else-is_none-2}
 
@@ -10,11 +10,6 @@ returns-then-is_none c r order k told sp sv =
     let a : Asked = report_of_request c.args.one.now in
     let f = c.fault_shown.ensures (inside_in r k) order k sp sv in
     shown_due c.args.profile r order k a told (sym c.serves_by_chunk.ensures.is ∙ c.if-serves_by_chunk.true) (none_of a.ended_at (c.is_none.ensures ∙ ap not c.if-is_none.true)) c.fault_shown.result f.1 f.0
-
-pub returns-then-is_none-2 : goal.returns-then-is_none-2
-returns-then-is_none-2 c r order k told sp sv =
-    let a : Asked = report_of_request c.args.one.now in
-    not_started c.args.profile r order k a told (sym c.serves_by_chunk.ensures.is ∙ c.if-serves_by_chunk.false) (none_of a.known_at (c.is_none-else-serves_by_chunk.ensures ∙ ap not c.if-is_none-2.true))
 
 pub returns : goal.returns
 returns c r order k told sp sv =

@@ -1,5 +1,5 @@
 use Rattle.std.proofs.Common.{◌≡◌, ◌&&◌, ℕ, None, Some, slice_get, slice_index_or, inl, inr, sym, ◌∙◌, ap, subst, arith, IsTrue}
-use Rattle.std.proofs.lemmas.Bool.{and_from, and_parts}
+use Rattle.std.proofs.lemmas.Bool.{and_from, and_parts, cases_eq}
 use Rattle.std.proofs.lemmas.Option.{slice_get-get_or}
 use Rattle.std.specs.Option.{option_copied}
 use Rattle.nbd_state.specs.declared.span.Span.{Span}
@@ -10,7 +10,6 @@ use Rattle.nbd_wire.specs.protocol.Reports.{first_shown}
 use Rattle.nbd_judge.specs.internal.Services.{IsFaultOfService}
 use Rattle.nbd_judge.proofs.contents.CompareLemmas.{from_in}
 use Rattle.nbd_judge.proofs.orders.ShownLemmas.{fault_from, first_has, has_first, in_range, looked_up, place_of, read_shows, shown_none, shown_one, span_at}
-use Rattle.nbd_judge.proofs.verdicts.DecisionLemmas.{same_or_not}
 use Rattle.nbd_judge.proofs.order.fault_shown.Goals as goal
 use Rattle.nbd_judge.proofs.order.fault_shown.Goals.{in-Some+then-here-gt0+in_default-fault_in, in-Some+else-here-gt0, in_default}
 
@@ -41,7 +40,7 @@ loop-i-preserved c within entries k sp sv x n h l w =
     let found : option_copied c.get.result ≡ slice_get ps i = looked_up c.deref.result.now i c.get.result c.get.ensures.lookup ∙ ap (λ xs. slice_get xs i) c.deref.ensures in
     let m : ℕ = slice_index_or cs i 0 in
     let counted : slice_get cs i ≡ Some m = slice_get-get_or cs i 0 (omega arith) in
-    elim (same_or_not h.place i) [
+    elim (cases_eq h.place i) [
       | inr ne ↦ c.loop-i.invariant within entries k sp sv x n h (omega (arith, l, ne)) w
       | inl q ↦ (elim c.match-get.branch [
         | in-Some+then-here-gt0+in_default-fault_in b ↦

@@ -1,12 +1,7 @@
 use Rattle.std.proofs.Common.{length, sym, subst}
 use Rattle.nbd_judge.specs.internal.Services.{AreServices}
-use Rattle.nbd_judge.proofs.orders.TableLemmas.{answered_with, fair, none_bad, told_by_table}
+use Rattle.nbd_judge.proofs.orders.TableLemmas.{fair, none_bad, told_by_table}
 use Rattle.nbd_judge.proofs.order.order_fault.Goals as goal
-
-pub returns-in-Err : goal.returns-in-Err
-returns-in-Err c =
-    let bad = rw c.in-Err.is at c.in_ok-fault.ensures in
-    answered_with c.args.profile c.args.transcript.now c.args.order.now c.in-Err.fault.0 c.in-Err.fault.1 bad
 
 pub late-requires : goal.late-requires
 late-requires c =

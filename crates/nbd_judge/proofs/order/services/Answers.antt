@@ -5,18 +5,8 @@ use Rattle.nbd_wire.specs.protocol.Reports.{Asked}
 use Rattle.nbd_state.specs.Transcripts.{report_of_request}
 use Rattle.nbd_judge.specs.internal.Services.{AreServices, IsServiceAfter}
 use Rattle.nbd_judge.proofs.orders.FirstLemmas.{read_at}
-use Rattle.nbd_judge.proofs.orders.TableLemmas.{first_bad, nothing_served, one_more_served, request_within}
+use Rattle.nbd_judge.proofs.orders.TableLemmas.{first_bad, one_more_served, request_within}
 use Rattle.nbd_judge.proofs.order.services.Goals as goal
-
-pub loop-i-init : goal.loop-i-init
-loop-i-init c = nothing_served c.args.transcript.now c.args.order.now c.count.result c.in_ok-table.table.items c.count.ensures.count c.in_ok-table.ensures
-
-pub index_mut-requires : goal.index_mut-requires
-index_mut-requires c =
-    let e : Entry = slice_index_or c.args.order.now c.loop-i.i (record { request = 0; part = None }) in
-    let w = request_within e.request c.args.transcript.now.asked (report_of_request c.in-Some.one.now) (sym c.in-Some.ensures) in
-    let len = c.loop-i.invariant.len in
-    omega (arith, w.0, w.1, len)
 
 pub index_mut-requires-in-Ok : goal.index_mut-requires-in-Ok
 index_mut-requires-in-Ok c =

@@ -7,7 +7,7 @@ use Rattle.nbd_judge.specs.declared.service.Service.{Service}
 use Rattle.nbd_judge.specs.internal.Services.{IsAllServed, IsFaultOf, TellsFaultOf}
 use Rattle.nbd_judge.proofs.orders.FirstLemmas.{read_at}
 use Rattle.nbd_judge.proofs.orders.TableLemmas.{fault_here, not_asked, not_unserved}
-use Rattle.nbd_judge.proofs.verdicts.DecisionLemmas.{same_or_not}
+use Rattle.std.proofs.lemmas.Bool.{cases_eq}
 use Rattle.nbd_judge.proofs.order.unserved.Goals as goal
 use Rattle.nbd_judge.proofs.order.unserved.Goals.{in-Some+in_default-fault_of, in_default}
 
@@ -27,7 +27,7 @@ loop-i-preserved c order h k l =
     let r : Report = c.args.transcript.now in
     let table : List Service = c.args.table.now in
     let i : ℕ = c.loop-i.i in
-    elim (same_or_not k (i + 1)) [
+    elim (cases_eq k (i + 1)) [
       | inr ne ↦ c.loop-i.invariant order h k (omega (arith, l, ne))
       | inl q ↦ subst (IsAllServed c.args.profile r order) (sym q) (elim c.match-asked.branch [
         | in-Some+in_default-fault_of w ↦

@@ -1,9 +1,6 @@
 use Rattle.nbd_laws.proofs.worked.WorkedPartLemmas as worked
 use Rattle.nbd_laws.proofs.examples.half_written.Goals as goal
 
-pub returns-clause-yes : goal.returns-clause-yes
-returns-clause-yes c = worked.half_written
-
 pub returns-clause-atomically : goal.returns-clause-atomically
 returns-clause-atomically c = worked.half_written_atomically
 

@@ -11,7 +11,7 @@ use Rattle.nbd_wire.specs.protocol.Statuses.{is_settled}
 use Rattle.nbd_wire.specs.declared.fault.WireFault.TheVariants.{BadChunk, BadContent}
 use Rattle.nbd_session.specs.internal.Asking.{done_by, finish_by}
 use Rattle.nbd_wire.specs.protocol.Tests.{fault_if}
-use Rattle.nbd_wire.specs.protocol.Transmission.{chunk_fault, fits_read, fits_failure, read_as, status_kind, total}
+use Rattle.nbd_wire.specs.protocol.Transmission.{chunk_fault, fits_read, read_as, status_kind, total}
 use Rattle.nbd_state.specs.Heads.{chunk_of, chunk_with}
 use Rattle.nbd_state.proofs.HeadLemmas.{chunk_ends}
 use Rattle.nbd_state.proofs.RecordingLemmas.{told_without}

@@ -1,10 +1,8 @@
-use Rattle.std.proofs.Common.{arith, rules, refl, sym, ◌∙◌, ap, not, true, false}
+use Rattle.std.proofs.Common.{rules, refl, sym, ◌∙◌, ap, not, true, false}
 use Rattle.std.proofs.lemmas.Option.{same_Some}
 use Rattle.nbd_wire.specs.declared.fault.WireFault.TheVariants.{BadExport, ExportTooLarge}
 use Rattle.nbd_wire.specs.declared.handshake.TheConstants as handshake
 use Rattle.nbd_wire.specs.protocol.Flags.{has}
-use Rattle.nbd_wire.proofs.NumberLemmas.{AreBytes-from_places}
-use Rattle.nbd_session.proofs.expecting.HeadLemmas.{whole_front}
 use Rattle.nbd_session.proofs.expecting.NegotiationLemmas.{bad_export, fault_of_export, good_export}
 use Rattle.nbd_session.proofs.parsing.LeadingLemmas.{leading_export-is}
 use Rattle.nbd_session.specs.declared.expected.Expected.TheVariants.{Exported}
@@ -15,30 +13,26 @@ use Rattle.nbd_session.proofs.negotiation.exported.Goals as goal
 pub unwrap-size-requires : goal.unwrap-size-requires
 unwrap-size-requires c =
     let head = c.args.head.now in
-    let b = AreBytes-from_places head (λ i. omega (arith, c.type_inv.head i)) in
-    rw (leading_export-is c.export_head.result head head (whole_front 10 head b c.requires) c.export_head.ensures) (search rules)
+    rw (leading_export-is head c.type_inv.head c.export_head.result c.requires c.export_head.ensures) (search rules)
 
 pub returns-then-not-has-clause-refused : goal.returns-then-not-has-clause-refused
 returns-then-not-has-clause-refused c =
     let head = c.args.head.now in
-    let b = AreBytes-from_places head (λ i. omega (arith, c.type_inv.head i)) in
-    let e = same_Some _ _ (sym c.unwrap-size.ensures ∙ leading_export-is c.export_head.result head head (whole_front 10 head b c.requires) c.export_head.ensures) in
+    let e = same_Some _ _ (sym c.unwrap-size.ensures ∙ leading_export-is head c.type_inv.head c.export_head.result c.requires c.export_head.ensures) in
     bad_export head (has c.args.client_flags handshake.C_NO_ZEROES) c.unwrap-size.result.0 c.unwrap-size.result.1 BadExport (ap (λ x. x.0) e) (ap (λ x. x.1) e)
     (fault_of_export c.unwrap-size.result.0 c.unwrap-size.result.1 false _ (sym c.has.ensures ∙ c.if-not-has.true) refl)
 
 pub returns-then-size-gt-EXPORT_SIZE-clause-refused : goal.returns-then-size-gt-EXPORT_SIZE-clause-refused
 returns-then-size-gt-EXPORT_SIZE-clause-refused c =
     let head = c.args.head.now in
-    let b = AreBytes-from_places head (λ i. omega (arith, c.type_inv.head i)) in
-    let e = same_Some _ _ (sym c.unwrap-size.ensures ∙ leading_export-is c.export_head.result head head (whole_front 10 head b c.requires) c.export_head.ensures) in
+    let e = same_Some _ _ (sym c.unwrap-size.ensures ∙ leading_export-is head c.type_inv.head c.export_head.result c.requires c.export_head.ensures) in
     bad_export head (has c.args.client_flags handshake.C_NO_ZEROES) c.unwrap-size.result.0 c.unwrap-size.result.1 ExportTooLarge (ap (λ x. x.0) e) (ap (λ x. x.1) e)
     (fault_of_export c.unwrap-size.result.0 c.unwrap-size.result.1 true true (sym c.has.ensures ∙ c.if-not-has.false) (lt-ltb _ _ c.if-size-gt-EXPORT_SIZE.true))
 
 pub returns-clause-expected : goal.returns-clause-expected
 returns-clause-expected c = λ now payload.
     let head = c.args.head.now in
-    let b = AreBytes-from_places head (λ i. omega (arith, c.type_inv.head i)) in
-    let e = same_Some _ _ (sym c.unwrap-size.ensures ∙ leading_export-is c.export_head.result head head (whole_front 10 head b c.requires) c.export_head.ensures) in
+    let e = same_Some _ _ (sym c.unwrap-size.ensures ∙ leading_export-is head c.type_inv.head c.export_head.result c.requires c.export_head.ensures) in
     good_export head payload (has c.args.client_flags handshake.C_NO_ZEROES) c.unwrap-size.result.0 c.unwrap-size.result.1 now c.requires (ap (λ x. x.0) e) (ap (λ x. x.1) e)
     (fault_of_export c.unwrap-size.result.0 c.unwrap-size.result.1 true false (sym c.has.ensures ∙ c.if-not-has.false) (le-ltb _ _ c.if-size-gt-EXPORT_SIZE.false))
     ∙ ap (λ z. expected_decision now (Exported c.unwrap-size.result.0 c.unwrap-size.result.1 (not z)) 10 payload) (sym c.has_wide-padded.ensures)

@@ -1,6 +1,4 @@
-use Rattle.std.proofs.Common.{arith, sym, ◌∙◌}
-use Rattle.nbd_wire.proofs.NumberLemmas.{AreBytes-from_places}
-use Rattle.nbd_session.proofs.expecting.HeadLemmas.{whole_front}
+use Rattle.std.proofs.Common.{sym, ◌∙◌}
 use Rattle.nbd_session.proofs.expecting.NegotiationLemmas.{good_greeting, no_greeting, old_greeting}
 use Rattle.nbd_session.proofs.parsing.LeadingLemmas.{leading_greeting-is}
 use Rattle.nbd_session.proofs.negotiation.greeting.Goals as goal
@@ -8,19 +6,16 @@ use Rattle.nbd_session.proofs.negotiation.greeting.Goals as goal
 pub returns-in_default-clause-refused : goal.returns-in_default-clause-refused
 returns-in_default-clause-refused c =
     let head = c.args.head.now in
-    let b = AreBytes-from_places head (λ i. omega (arith, c.type_inv.head i)) in
-    no_greeting head (sym c.in_default.is ∙ leading_greeting-is c.greeting_head.result head head (whole_front 18 head b c.requires) c.greeting_head.ensures)
+    no_greeting head (sym c.in_default.is ∙ leading_greeting-is head c.type_inv.head c.greeting_head.result c.requires c.greeting_head.ensures)
 
 pub returns-then-not-has-clause-refused : goal.returns-then-not-has-clause-refused
 returns-then-not-has-clause-refused c =
     let head = c.args.head.now in
-    let b = AreBytes-from_places head (λ i. omega (arith, c.type_inv.head i)) in
-    old_greeting head c.in-Some.flags (sym c.in-Some.is ∙ leading_greeting-is c.greeting_head.result head head (whole_front 18 head b c.requires) c.greeting_head.ensures)
+    old_greeting head c.in-Some.flags (sym c.in-Some.is ∙ leading_greeting-is head c.type_inv.head c.greeting_head.result c.requires c.greeting_head.ensures)
     (sym c.has.ensures ∙ c.if-not-has.true)
 
 pub returns-clause-expected : goal.returns-clause-expected
 returns-clause-expected c = λ now payload.
     let head = c.args.head.now in
-    let b = AreBytes-from_places head (λ i. omega (arith, c.type_inv.head i)) in
-    good_greeting head payload c.in-Some.flags now c.requires (sym c.in-Some.is ∙ leading_greeting-is c.greeting_head.result head head (whole_front 18 head b c.requires) c.greeting_head.ensures)
+    good_greeting head payload c.in-Some.flags now c.requires (sym c.in-Some.is ∙ leading_greeting-is head c.type_inv.head c.greeting_head.result c.requires c.greeting_head.ensures)
     (sym c.has.ensures ∙ c.if-not-has.false)

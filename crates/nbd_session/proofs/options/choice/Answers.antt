@@ -1,6 +1,4 @@
-use Rattle.std.proofs.Common.{arith, rules, sym, ◌∙◌}
-use Rattle.nbd_wire.proofs.NumberLemmas.{AreBytes-from_places}
-use Rattle.nbd_session.proofs.expecting.HeadLemmas.{whole_front}
+use Rattle.std.proofs.Common.{rules, sym, ◌∙◌}
 use Rattle.nbd_session.proofs.expecting.OptionLemmas.{good_choice, no_choice}
 use Rattle.nbd_session.proofs.parsing.LeadingLemmas.{leading_choice-is}
 use Rattle.nbd_session.proofs.options.choice.Goals as goal
@@ -8,14 +6,12 @@ use Rattle.nbd_session.proofs.options.choice.Goals as goal
 pub returns-in-None-clause-refused : goal.returns-in-None-clause-refused
 returns-in-None-clause-refused c =
     let head = c.args.head.now in
-    let b = AreBytes-from_places head (λ i. omega (arith, c.type_inv.head i)) in
-    no_choice head (sym c.in-None.is ∙ leading_choice-is c.choice_head.result head head (whole_front 16 head b c.requires) c.choice_head.ensures)
+    no_choice head (sym c.in-None.is ∙ leading_choice-is head c.type_inv.head c.choice_head.result c.requires c.choice_head.ensures)
 
 pub returns-in-Some-clause-expected : goal.returns-in-Some-clause-expected
 returns-in-Some-clause-expected c = λ now payload.
     let head = c.args.head.now in
-    let b = AreBytes-from_places head (λ i. omega (arith, c.type_inv.head i)) in
-    good_choice head payload c.in-Some.head now c.requires (sym c.in-Some.is ∙ leading_choice-is c.choice_head.result head head (whole_front 16 head b c.requires) c.choice_head.ensures)
+    good_choice head payload c.in-Some.head now c.requires (sym c.in-Some.is ∙ leading_choice-is head c.type_inv.head c.choice_head.result c.requires c.choice_head.ensures)
 
 pub returns-in-None-clause-expected : goal.returns-in-None-clause-expected
 returns-in-None-clause-expected c = search rules

@@ -1,9 +1,7 @@
-use Rattle.std.proofs.Common.{◌≡◌, ℕ, List, Option, Some, length, arith, rules, sym, ◌∙◌, ap, subst, true, false}
+use Rattle.std.proofs.Common.{◌≡◌, length, rules, sym, ◌∙◌, ap, subst, true, false}
 use Rattle.std.proofs.lemmas.Option.{same_Some}
-use Rattle.nbd_wire.proofs.NumberLemmas.{AreBytes-from_places}
 use Rattle.nbd_wire.specs.protocol.Decisions.{begins}
 use Rattle.nbd_session.specs.internal.Leading.{chunk_fields, chunk_head_length, chunk_magic}
-use Rattle.nbd_session.proofs.expecting.HeadLemmas.{whole_front}
 use Rattle.nbd_session.proofs.expecting.ReplyLemmas.{chunk_found}
 use Rattle.nbd_session.proofs.parsing.LeadingLemmas.{leading_chunk-is, leading_extended_chunk-is}
 use Rattle.nbd_session.proofs.replies.read_chunk.Goals as goal
@@ -11,29 +9,25 @@ use Rattle.nbd_session.proofs.replies.read_chunk.Goals as goal
 pub unwrap-requires : goal.unwrap-requires
 unwrap-requires c =
     let head = c.args.head.now in
-    let b = AreBytes-from_places head (λ i. omega (arith, c.type_inv.head i)) in
     let k = subst (λ x. (begins (chunk_magic x) head ≡ true) × (length head ≡ chunk_head_length x)) c.if-extended.true c.requires in
-    rw (leading_extended_chunk-is c.extended_chunk_head.result head head (whole_front 32 head b k.1) c.extended_chunk_head.ensures ∙ chunk_found true head k.0) (search rules)
+    rw (leading_extended_chunk-is head c.type_inv.head c.extended_chunk_head.result k.1 c.extended_chunk_head.ensures ∙ chunk_found true head k.0) (search rules)
 
 pub unwrap-requires-else-extended : goal.unwrap-requires-else-extended
 unwrap-requires-else-extended c =
     let head = c.args.head.now in
-    let b = AreBytes-from_places head (λ i. omega (arith, c.type_inv.head i)) in
     let k = subst (λ x. (begins (chunk_magic x) head ≡ true) × (length head ≡ chunk_head_length x)) c.if-extended.false c.requires in
-    rw (leading_chunk-is c.chunk_head.result head head (whole_front 20 head b k.1) c.chunk_head.ensures ∙ chunk_found false head k.0) (search rules)
+    rw (leading_chunk-is head c.type_inv.head c.chunk_head.result k.1 c.chunk_head.ensures ∙ chunk_found false head k.0) (search rules)
 
 pub returns-then-extended : goal.returns-then-extended
 returns-then-extended c =
     let head = c.args.head.now in
-    let b = AreBytes-from_places head (λ i. omega (arith, c.type_inv.head i)) in
     let k = subst (λ x. (begins (chunk_magic x) head ≡ true) × (length head ≡ chunk_head_length x)) c.if-extended.true c.requires in
-    same_Some _ _ (sym c.unwrap.ensures ∙ leading_extended_chunk-is c.extended_chunk_head.result head head (whole_front 32 head b k.1) c.extended_chunk_head.ensures ∙ chunk_found true head k.0)
+    same_Some _ _ (sym c.unwrap.ensures ∙ leading_extended_chunk-is head c.type_inv.head c.extended_chunk_head.result k.1 c.extended_chunk_head.ensures ∙ chunk_found true head k.0)
     ∙ ap (λ x. chunk_fields x head) (sym c.if-extended.true)
 
 pub returns-else-extended : goal.returns-else-extended
 returns-else-extended c =
     let head = c.args.head.now in
-    let b = AreBytes-from_places head (λ i. omega (arith, c.type_inv.head i)) in
     let k = subst (λ x. (begins (chunk_magic x) head ≡ true) × (length head ≡ chunk_head_length x)) c.if-extended.false c.requires in
-    same_Some _ _ (sym c.unwrap-else-extended.ensures ∙ leading_chunk-is c.chunk_head.result head head (whole_front 20 head b k.1) c.chunk_head.ensures ∙ chunk_found false head k.0)
+    same_Some _ _ (sym c.unwrap-else-extended.ensures ∙ leading_chunk-is head c.type_inv.head c.chunk_head.result k.1 c.chunk_head.ensures ∙ chunk_found false head k.0)
     ∙ ap (λ x. chunk_fields x head) (sym c.if-extended.false)

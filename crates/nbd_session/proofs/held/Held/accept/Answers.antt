@@ -52,8 +52,8 @@ complete-completed-requires c =
           (answers_at held.state t.reader.core t.shows c.args.expected (incoming_of held s).payload c.requires.expecting.is.placed)));
     }
 
-pub returns-clause-stands : goal.returns-clause-stands
-returns-clause-stands c =
+pub returns : goal.returns
+returns c =
     let held = c.args.self.now in
     let s = c.args.side in
     let roomy : Held = record held { messages = c.reserve.new.self } in
@@ -72,48 +72,15 @@ returns-clause-stands c =
     let state = mid_state held roomy mid new s is sides refl refl in
     let counted = mid_counted held roomy mid new s is sides refl refl in
     let log = log_of_pairs by_tests (fresh_of t.before.profile) (held_pairs t.before) in
-    on_ok_both c.complete-completed.result _ _ (Stands new) c.complete-completed.ensures.shown c.complete-completed.ensures.known (λ shown known.
-    accepted_stands held s t m whole new holding (emptied_here held roomy mid new s is sides refl refl) (kept_other held roomy mid new s is sides refl refl)
-    (λ reached shows sendable completes. shown t.reader.core reached (subst (λ state. Shows state t.reader.core) (sym state) shows) sendable completes)
-    (λ reached shows completes folded knew.
-    subst (λ n. AreKnown (log ++ record { message = m; known = n } ∷ []) c.complete-completed.new.self.exchanges.items) counted
-    (known t.reader.core t.before.profile log reached (subst (λ state. Shows state t.reader.core) (sym state) shows) completes folded (subst (λ (state : State). AreKnown log state.exchanges.items) (sym state) knew)))
-    same)
-
-pub returns-clause-same : goal.returns-clause-same
-returns-clause-same c =
-    let held = c.args.self.now in
-    let s = c.args.side in
-    let roomy : Held = record held { messages = c.reserve.new.self } in
-    let mid = c.take_payload.new.self in
-    let m = c.message-message.result in
-    let new : Held = record mid { state = c.complete-completed.new.self; messages = c.push.new.self } in
-    let sides : (u : Side) → incoming_of roomy u ≡ incoming_of held u = sides_same roomy held refl refl in
-    let is = c.in_ok-payload.ensures.empty in
-    let t = c.requires.expecting.taken in
-    let payload = c.in_ok-payload.ensures.payload ∙ ap (λ (v : IncomingView). v.payload) (sides s) in
-    let is_m : m ≡ message_of c.args.expected (incoming_of held s).payload = c.message-message.ensures ∙ ap (message_of c.args.expected) payload in
-    let whole : IsRead held s t (Whole m) = subst (λ n. IsRead held s t (Whole n)) (sym is_m) (whole_read held s c.args.expected c.requires) in
-    let messages = c.in_ok-push.ensures.items ∙ ap (λ l. l ++ m ∷ []) (ap (λ v. v.items) (mid_messages held roomy mid new s is sides refl refl) ∙ c.reserve.ensures.items) in
-    let holding = new_holding held roomy mid new s is sides refl refl m (c.complete-completed.ensures.profile ∙ ap (λ (z : State). z.profile) (mid_state held roomy mid new s is sides refl refl)) messages (mid_counted held roomy mid new s is sides refl refl) (mid_stretches held roomy mid new s is sides refl refl) in
-    let same = mid_taken held roomy mid new s is sides refl refl in
-    same_but_message held s t m whole new holding messages same
-
-pub returns-clause-shut : goal.returns-clause-shut
-returns-clause-shut c =
-    let held = c.args.self.now in
-    let s = c.args.side in
-    let roomy : Held = record held { messages = c.reserve.new.self } in
-    let mid = c.take_payload.new.self in
-    let m = c.message-message.result in
-    let new : Held = record mid { state = c.complete-completed.new.self; messages = c.push.new.self } in
-    let sides : (u : Side) → incoming_of roomy u ≡ incoming_of held u = sides_same roomy held refl refl in
-    let is = c.in_ok-payload.ensures.empty in
-    let t = c.requires.expecting.taken in
-    let payload = c.in_ok-payload.ensures.payload ∙ ap (λ (v : IncomingView). v.payload) (sides s) in
-    let is_m : m ≡ message_of c.args.expected (incoming_of held s).payload = c.message-message.ensures ∙ ap (message_of c.args.expected) payload in
-    let whole : IsRead held s t (Whole m) = subst (λ n. IsRead held s t (Whole n)) (sym is_m) (whole_read held s c.args.expected c.requires) in
-    let messages = c.in_ok-push.ensures.items ∙ ap (λ l. l ++ m ∷ []) (ap (λ v. v.items) (mid_messages held roomy mid new s is sides refl refl) ∙ c.reserve.ensures.items) in
-    let holding = new_holding held roomy mid new s is sides refl refl m (c.complete-completed.ensures.profile ∙ ap (λ (z : State). z.profile) (mid_state held roomy mid new s is sides refl refl)) messages (mid_counted held roomy mid new s is sides refl refl) (mid_stretches held roomy mid new s is sides refl refl) in
-    let same = mid_taken held roomy mid new s is sides refl refl in
-    on_err c.complete-completed.result _ (accepted_shut held s t m whole new holding same)
+    record {
+      stands =
+          on_ok_both c.complete-completed.result _ _ (Stands new) c.complete-completed.ensures.shown c.complete-completed.ensures.known (λ shown known.
+          accepted_stands held s t m whole new holding (emptied_here held roomy mid new s is sides refl refl) (kept_other held roomy mid new s is sides refl refl)
+          (λ reached shows sendable completes. shown t.reader.core reached (subst (λ state. Shows state t.reader.core) (sym state) shows) sendable completes)
+          (λ reached shows completes folded knew.
+          subst (λ n. AreKnown (log ++ record { message = m; known = n } ∷ []) c.complete-completed.new.self.exchanges.items) counted
+          (known t.reader.core t.before.profile log reached (subst (λ state. Shows state t.reader.core) (sym state) shows) completes folded (subst (λ (state : State). AreKnown log state.exchanges.items) (sym state) knew)))
+          same);
+      same = same_but_message held s t m whole new holding messages same;
+      shut = on_err c.complete-completed.result _ (accepted_shut held s t m whole new holding same);
+    }

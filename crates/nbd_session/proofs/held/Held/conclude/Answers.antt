@@ -1,12 +1,11 @@
-use Rattle.std.proofs.Common.{◌≤◌, ◌<◌, ◌∙◌, ap, sym, subst, length}
-use Rattle.nbd_session.specs.Incoming.{IncomingView}
+use Rattle.std.proofs.Common.{◌≤◌, ◌<◌, ◌∙◌, sym, subst, length}
 use Rattle.nbd_session.proofs.steps.ConcludeLemmas.{refused_at_end, stands_in, still_missing, whole_at_end}
 use Rattle.nbd_session.proofs.steps.SettleLemmas.{same_held}
 use Rattle.nbd_session.proofs.held.Held.conclude.Goals as goal
 
 pub returns-then-payload-payload_length-clause-stands : goal.returns-then-payload-payload_length-clause-stands
 returns-then-payload-payload_length-clause-stands c =
-    still_missing c.args.self.now c.args.side c.args.expected c.requires c.payload-payload.result.now (c.payload-payload.ensures ∙ ap (λ (v : IncomingView). v.payload) c.incoming.ensures)
+    still_missing c.args.self.now c.args.side c.args.expected c.requires c.payload-payload.result.now (cc)
     (subst (λ n. length c.payload-payload.result.now < n) c.payload_length.ensures c.if-payload-payload_length.true)
 
 pub returns-then-payload-payload_length-clause-same : goal.returns-then-payload-payload_length-clause-same
@@ -20,14 +19,12 @@ returns-in-Some-clause-same c = same_held c.args.self.now
 
 pub returns-in-Some-clause-shut : goal.returns-in-Some-clause-shut
 returns-in-Some-clause-shut c =
-    let is = c.payload-payload.ensures ∙ ap (λ (v : IncomingView). v.payload) c.incoming.ensures in
-    refused_at_end c.args.self.now c.args.side c.args.expected c.requires c.payload-payload.result.now is
+    refused_at_end c.args.self.now c.args.side c.args.expected c.requires c.payload-payload.result.now (cc)
     (subst (λ n. n ≤ length c.payload-payload.result.now) c.payload_length.ensures c.if-payload-payload_length.false) c.in-Some.fault
     (λ core s. sym c.in-Some.is ∙ c.last_fault.ensures core s)
 
 pub accept-requires : goal.accept-requires
 accept-requires c =
-    let is = c.payload-payload.ensures ∙ ap (λ (v : IncomingView). v.payload) c.incoming.ensures in
-    whole_at_end c.args.self.now c.args.side c.args.expected c.requires c.payload-payload.result.now is
+    whole_at_end c.args.self.now c.args.side c.args.expected c.requires c.payload-payload.result.now (cc)
     (subst (λ n. n ≤ length c.payload-payload.result.now) c.payload_length.ensures c.if-payload-payload_length.false)
     (λ core s. sym c.in_default.is ∙ c.last_fault.ensures core s)

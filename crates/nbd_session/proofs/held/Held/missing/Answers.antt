@@ -7,15 +7,13 @@ use Rattle.nbd_session.proofs.held.Held.missing.Goals as goal
 
 pub overflow_sub-result : goal.overflow_sub-result
 overflow_sub-result c =
-    let here = sym (c.expected.ensures ∙ ap (λ (v : IncomingView). v.expected) c.incoming-incoming.ensures) ∙ c.in-Some.is in
     let p = ap length (c.payload.ensures ∙ ap (λ (v : IncomingView). v.payload) c.incoming-incoming.ensures) in
-    let m = (payload_missing c.args.self.now c.args.side c.requires c.in-Some.expected here).0 in
-    let n = c.payload_length.ensures in
-    omega (arith, m, n, p)
+    let m = (payload_missing c.args.self.now c.args.side c.requires c.in-Some.expected (cc)).0 in
+    omega (arith, m, p)
 
 pub overflow_sub-result-in-Ok : goal.overflow_sub-result-in-Ok
 overflow_sub-result-in-Ok c =
-    let none : (incoming_of c.args.self.now c.args.side).expected ≡ None = sym (c.expected.ensures ∙ ap (λ (v : IncomingView). v.expected) c.incoming-incoming.ensures) ∙ c.in-None.is in
+    let none : (incoming_of c.args.self.now c.args.side).expected ≡ None = cc in
     let is = c.head.ensures ∙ ap (λ (v : IncomingView). v.head) c.incoming-incoming.ensures in
     let again = ap length (c.head-in-Ok.ensures ∙ ap (λ (v : IncomingView). v.head) c.incoming-incoming.ensures ∙ sym is) in
     let m = (head_is_missing c.args.self.now c.args.side c.requires none c.head.result.now c.in-Ok.length is c.in-Ok.ensures.known).0 in
@@ -23,26 +21,20 @@ overflow_sub-result-in-Ok c =
 
 pub returns-in-Some-clause-awaited : goal.returns-in-Some-clause-awaited
 returns-in-Some-clause-awaited c = λ st.
-    let here = sym (c.expected.ensures ∙ ap (λ (v : IncomingView). v.expected) c.incoming-incoming.ensures) ∙ c.in-Some.is in
     let p = ap length (c.payload.ensures ∙ ap (λ (v : IncomingView). v.payload) c.incoming-incoming.ensures) in
-    let m = payload_missing c.args.self.now c.args.side st c.in-Some.expected here in
-    let short = m.0 in
-    let all = m.1 in
-    let n = c.payload_length.ensures in
+    let m = payload_missing c.args.self.now c.args.side st c.in-Some.expected (cc) in
     let rest = ap length (rest_is c.args.self.now c.args.side) in
     let len = length-append (incoming_of c.args.self.now c.args.side).head (incoming_of c.args.self.now c.args.side).payload in
-    omega (arith, short, all, n, p, rest, len)
+    omega (arith, m, p, rest, len)
 
 pub returns-in-Ok-clause-awaited : goal.returns-in-Ok-clause-awaited
 returns-in-Ok-clause-awaited c = λ st.
-    let none : (incoming_of c.args.self.now c.args.side).expected ≡ None = sym (c.expected.ensures ∙ ap (λ (v : IncomingView). v.expected) c.incoming-incoming.ensures) ∙ c.in-None.is in
+    let none : (incoming_of c.args.self.now c.args.side).expected ≡ None = cc in
     let is = c.head.ensures ∙ ap (λ (v : IncomingView). v.head) c.incoming-incoming.ensures in
     let again = ap length (c.head-in-Ok.ensures ∙ ap (λ (v : IncomingView). v.head) c.incoming-incoming.ensures ∙ sym is) in
     let m = head_is_missing c.args.self.now c.args.side st none c.head.result.now c.in-Ok.length is c.in-Ok.ensures.known in
-    let short = m.0 in
-    let all = m.1 in
     let rest = ap length (rest_is c.args.self.now c.args.side ∙ bare c.args.self.now c.args.side st none ∙ sym is) in
-    omega (arith, short, all, again, rest)
+    omega (arith, m, again, rest)
 
 pub returns-in-Ok-clause-room : goal.returns-in-Ok-clause-room
 returns-in-Ok-clause-room c = λ none.
@@ -50,18 +42,15 @@ returns-in-Ok-clause-room c = λ none.
     let len = ap length is in
     let again = ap length (c.head-in-Ok.ensures ∙ ap (λ (v : IncomingView). v.head) c.incoming-incoming.ensures ∙ sym is) in
     let short = (head_is_missing c.args.self.now c.args.side c.requires none c.head.result.now c.in-Ok.length is c.in-Ok.ensures.known).0 in
-    let fits = c.in-Ok.ensures.fits in
-    omega (arith, short, again, len, fits)
+    omega (arith, short, again, len, c.in-Ok.ensures.fits)
 
 pub returns-in-Err-clause-awaited : goal.returns-in-Err-clause-awaited
 returns-in-Err-clause-awaited c = λ st.
-    let none : (incoming_of c.args.self.now c.args.side).expected ≡ None = sym (c.expected.ensures ∙ ap (λ (v : IncomingView). v.expected) c.incoming-incoming.ensures) ∙ c.in-None.is in
+    let none : (incoming_of c.args.self.now c.args.side).expected ≡ None = cc in
     let is = c.head.ensures ∙ ap (λ (v : IncomingView). v.head) c.incoming-incoming.ensures in
     let m = first_is_missing c.args.self.now c.args.side st none c.head.result.now c.in-Err.field-0 is c.in-Err.ensures.refused in
-    let one = m.0 in
-    let zero = m.1 in
     let rest = ap length (rest_is c.args.self.now c.args.side ∙ bare c.args.self.now c.args.side st none ∙ sym is) in
-    omega (arith, one, zero, rest)
+    omega (arith, m, rest)
 
 pub returns-in-Err-clause-room : goal.returns-in-Err-clause-room
 returns-in-Err-clause-room c = λ none.

@@ -10,7 +10,7 @@ returns-clause-shown c = λ export e m s u n f p none.
     (record { flags = refl; command = refl; cookie = refl; offset = refl; length = refl; payload = refl; proper = refl; outside = refl })
     c.first-self.ensures refl c.outcome_after-self.ensures
     (pieces_kept export e m c.args.self.now.asked.pieces.items _ s.pieces_are (λ q. none) (c.in_ok-push_if.ensures.pushed ∙ ap (λ l. c.args.self.now.asked.pieces.items ++ l) (sym p)))
-    (told_kept export e m c.args.self.now c.args.ends s u n _ none c.clear_if.ensures)
+    (told_kept export e m c.args.self.now c.args.ends s u n _ none c.clear_if.ensures.kept)
     (λ g. (
       c.ended-self.ensures ∙ open_still c.args.self.now.asked.ended_at c.args.ends c.args.counts.now (s.is_open u).0 g,
       λ q. ap (λ cs. length cs) counts_are

@@ -1,0 +1,1 @@
+"""What the converters share: socat-to-capture, pcap-to-capture and cookies-to-order."""

@@ -1,0 +1,99 @@
+"""What nbdcheck says of captures, and the exit status of all of it."""
+
+import os
+import re
+import subprocess
+import sys
+from collections import namedtuple
+
+from .room import reason_of
+
+# The exit statuses, the gravest first: a no, words that nbdcheck does not take, out of memory, a file that could not be
+# read or written, a search that gave up, a session that is not judged, a yes that --strict refuses, and a client that failed.
+NO, MALFORMED, MEMORY, FILES, GAVE_UP, NOT_JUDGED, STRICT, CLIENT_FAILED, YES = 1, 2, 4, 3, 5, 6, 7, 10, 0
+GRAVEST = (NO, MALFORMED, MEMORY, FILES, GAVE_UP, NOT_JUDGED, STRICT, CLIENT_FAILED, YES)
+# Those of nbdcheck.
+ITS_OWN = (YES, NO, MALFORMED, FILES, MEMORY, GAVE_UP)
+# The noes of sessions in which nobody broke a rule.
+OUTSIDE = re.compile(r"no at byte \d+: (OutOfProfile|ExportTooLarge)")
+# More than the last line of `show` has.
+LAST = 2**12
+
+
+def gravest(statuses):
+    return min(statuses, key=GRAVEST.index, default=YES)
+
+
+def find_nbdcheck(folder):
+    """The program: the one that NBDCHECK names, the one beside this tool, or the repository's."""
+    named = os.environ.get("NBDCHECK")
+    beside = os.path.join(folder, "nbdcheck")
+    if named:
+        return named
+    return beside if os.path.isfile(beside) else os.path.join(os.path.dirname(folder), "nbdcheck")
+
+
+# What nbdcheck says of a capture: its status, NOT_JUDGED in place of a no where nobody broke a rule, its first line, and the others.
+Answer = namedtuple("Answer", "status line more")
+
+
+def answer_of(status, text):
+    line, *more = text.decode(errors="replace").splitlines() or [""]
+    return Answer(NOT_JUDGED if status == NO and OUTSIDE.fullmatch(line) else status, line, more)
+
+
+class Nbdcheck:
+    """Runs of nbdcheck with the same words behind the files."""
+
+    def __init__(self, program, start, profile, tell):
+        self.program, self.tell = program, tell
+        self.start = ["--start", start]
+        self.profile = [] if profile is None else ["--profile", profile]
+
+    def can_run(self):
+        """Whether it runs; the repository's is built here, where it is not built yet."""
+        try:
+            done = subprocess.run([self.program, "--version"], stdout=subprocess.DEVNULL, stdin=subprocess.DEVNULL)
+        except OSError as error:
+            self.tell(f"cannot run {self.program}: {reason_of(error)}")
+            return False
+        if done.returncode != 0:
+            self.tell(f"cannot run {self.program}: it ended with status {done.returncode}")
+        return done.returncode == 0
+
+    def _status(self, returned):
+        if returned in ITS_OWN:
+            return returned
+        self.tell(f"{self.program} ended with status {returned}" if returned > 0 else
+                  f"{self.program} was ended by signal {-returned}")
+        return FILES
+
+    def explain(self, capture, order=None):
+        """Whether an order explains the session: this one, or some."""
+        words = ["explain", capture, *([] if order is None else [order]), *self.start, *self.profile]
+        done = subprocess.run([self.program, *words], stdin=subprocess.DEVNULL, stdout=subprocess.PIPE)
+        return answer_of(self._status(done.returncode), done.stdout)
+
+    def explain_arrival(self, capture, order):
+        """The same of the order in which the requests came, which is written to the path `order`."""
+        with open(order, "wb") as file:
+            done = subprocess.run([self.program, "order", capture, "--arrival", *self.profile], stdin=subprocess.DEVNULL,
+                                  stdout=file, stderr=subprocess.PIPE)
+        if done.returncode == NO:
+            # A session that is refused has no order; what is wrong with it needs none.
+            return self.explain(capture)
+        sys.stderr.buffer.write(done.stderr)
+        if done.returncode == YES:
+            return self.explain(capture, order)
+        if done.returncode == FILES:
+            self.tell(f"no order in {order}")
+        return answer_of(self._status(done.returncode), b"")
+
+    def protocol(self, capture):
+        """The last line of `show`: whether both sides kept the protocol."""
+        words = [self.program, "show", "--names", capture, *self.profile]
+        with subprocess.Popen(words, stdin=subprocess.DEVNULL, stdout=subprocess.PIPE) as shown:
+            last = b""
+            while part := shown.stdout.read1(2**16):
+                last = (last + part)[-LAST:]
+        return answer_of(self._status(shown.returncode), last.rstrip(b"\n").rpartition(b"\n")[2])

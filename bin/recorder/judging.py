@@ -1,0 +1,107 @@
+"""What is said of each connection: whether an order explains it, what was compared, and what --strict refuses of it."""
+
+import re
+from collections import namedtuple
+
+from .answers import FILES, NO, NOT_JUDGED, STRICT, YES
+
+APART = "contents not compared: another connection may change the export"
+EMPTY_LINE = "empty: no byte passed"
+# What became of a connection, as the last line counts it: its contents were compared, or the protocol alone was judged; not a byte
+# passed; nobody broke a rule, and nbdcheck does not follow the session; or there is no answer, or none was asked for.
+COMPARED, ALONE, EMPTY, OUTSIDE, NONE, UNASKED = "compared", "not compared", "empty", "not judged", "no answer", "not asked"
+COUNTED = (COMPARED, ALONE, EMPTY, OUTSIDE)
+COUNTS = re.compile(r"yes requests (\d+) answered (\d+) improper (\d+)")
+
+# A connection, what became of it, its exit status, nbdcheck's line with the lines behind it, and what --strict refuses, also unasked.
+Judged = namedtuple("Judged", "held kind status line more doubts")
+
+
+def counts_of(line):
+    """How many requests a yes counts, how many have a reply, and how many the client should not have sent; else None."""
+    found = COUNTS.fullmatch(line)
+    return tuple(map(int, found.groups())) if found else None
+
+
+def doubts_of(held, line, kind):
+    """What a suite may not want to pass, where there is no no."""
+    requests, answered, improper = counts_of(line) or (0, 0, 0)
+    left = held.ending.client_left()
+    found = (
+        (kind == EMPTY, EMPTY_LINE),
+        (kind == ALONE, APART),
+        (improper, f"improper requests {improper}"),
+        (requests > answered, f"requests without a reply {requests - answered}"),
+        (left, f"the client left in the middle of {left}"),
+    )
+    return [text for holds, text in found if holds]
+
+
+def is_compared(held, others, has_order):
+    """Whether contents can be compared: no other connection may have changed the export, and an order is that of one session."""
+    if held.requests.is_none():
+        return True
+    return all(other.requests.is_none() if has_order else not other.requests.may_change() for other in others)
+
+
+def kind_of(answer, compares):
+    """What became of a connection that nbdcheck was asked about."""
+    if answer.status == NOT_JUDGED:
+        return OUTSIDE
+    if answer.status not in (YES, NO):
+        return NONE
+    return COMPARED if compares and not answer.line.startswith("no at byte ") else ALONE
+
+
+def worth_saying(answer):
+    """The lines behind the first: of a yes those alone on requests that the client should not have sent."""
+    if answer.status != YES:
+        return answer.more
+    at = [number for number, line in enumerate(answer.more) if line.startswith("improper: ")]
+    return answer.more[at[0] :] if at else []
+
+
+class Judge:
+    """Answers for the connections of a recording."""
+
+    def __init__(self, nbdcheck, recording):
+        self.nbdcheck, self.recording, self.words = nbdcheck, recording, recording.words
+
+    def _ask(self, held, others, compares):
+        """Whether the order that is given, that of arrival or some order explains the session, or whether it kept the protocol."""
+        if not compares:
+            return self.nbdcheck.protocol(held.capture.path)
+        order = None if others and held.requests.is_none() else self.words.order
+        if order is None and self.words.arrival:
+            return self.nbdcheck.explain_arrival(held.capture.path, self.recording.room.path("order"))
+        return self.nbdcheck.explain(held.capture.path, order)
+
+    def _answered(self, held):
+        others = [other for other in self.recording.recorded() if other is not held]
+        compares = is_compared(held, others, self.words.order is not None)
+        answer = self._ask(held, others, compares)
+        kind = kind_of(answer, compares)
+        doubts = doubts_of(held, answer.line, kind) if answer.status == YES else []
+        status = STRICT if doubts and self.words.strict else answer.status
+        more = worth_saying(answer) if compares else [APART]
+        return Judged(held, kind, status, answer.line or f"no answer: status {answer.status}", more, doubts)
+
+    def one(self, held):
+        """What is said of a connection."""
+        if not self.words.asks:
+            return Judged(held, UNASKED, YES if held.fault is None else FILES, "", [], [])
+        if held.fault is not None:
+            return Judged(held, NONE, FILES, f"no answer: {held.fault}", [], [])
+        if not held.is_empty():
+            return self._answered(held)
+        status = FILES if self.recording.is_empty() else STRICT if self.words.strict else YES
+        return Judged(held, EMPTY, status, EMPTY_LINE, [], doubts_of(held, "", EMPTY))
+
+
+def counted(judged):
+    """The last line: how many connections there were, and what became of them."""
+    kinds = [each.kind for each in judged]
+    counts = [f"{kind} {kinds.count(kind)}" for kind in COUNTED]
+    if NONE in kinds:
+        counts.append(f"{NONE} {kinds.count(NONE)}")
+    return f"connections {len(judged)}: {', '.join(counts)}"

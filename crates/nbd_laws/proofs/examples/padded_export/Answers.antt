@@ -1,5 +1,0 @@
-use Rattle.nbd_laws.proofs.worked.WorkedOptionLemmas as worked
-use Rattle.nbd_laws.proofs.examples.padded_export.Goals as goal
-
-pub returns : goal.returns
-returns c = worked.padded_export

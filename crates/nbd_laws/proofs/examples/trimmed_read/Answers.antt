@@ -1,5 +1,0 @@
-use Rattle.nbd_laws.proofs.worked.WorkedReadLemmas as worked
-use Rattle.nbd_laws.proofs.examples.trimmed_read.Goals as goal
-
-pub returns : goal.returns
-returns c = worked.trimmed_read

@@ -1,0 +1,132 @@
+"""What the built program says beside an answer or a fault: on a terminal, of a line that is malformed, of sides that are exchanged."""
+
+import os
+import subprocess
+
+from built import Ended, Room
+from commands.said import CAPTURE, EMPTY, FOUND, LF, SEARCHED, YES, fault, on_a_terminal, sides
+
+
+def terminals(tally, room):
+    """A second line for a person: which file could not be opened and why, and behind a no how to learn more."""
+    good, order, none = room.put("good", CAPTURE), room.put("order", b"1\n"), room.path("none")
+    why = f"{none}: No such file or directory (os error 2)\n".encode()
+    for what, words in (
+        ("capture", ["check", none, order]),
+        ("order", ["check", good, none]),
+        ("image", ["check", good, order, "--start", f"image:{none}"]),
+        ("order", ["explain", good, none]),
+        ("capture", ["explain", none]),
+        ("capture", ["order", none, "--arrival"]),
+        ("capture", ["show", none]),
+        ("script", ["make", none]),
+    ):
+        wanted = Ended(3, b"", f"fault {what} read\n".encode() + why)
+        tally.want(f"{words} on a terminal", on_a_terminal(room, *words), wanted)
+    tally.want("a yes on a terminal", on_a_terminal(room, "check", good, order), Ended(0, YES, b""))
+    found = on_a_terminal(room, "check", room.put("found", FOUND), order, "--start", "zero")
+    hint = b"'nbdcheck explain' with the same words says why\n"
+    tally.want("a no on a terminal", found, Ended(1, b"no content request 1 offset 0\n", hint))
+
+
+def bad_capture_lines(tally, room):
+    """On a terminal each command says what is wrong with the line of a capture that it names."""
+    order = room.put("order", b"1\n")
+    for name, line, what in (
+        ("half a byte", b"C 0\n", b"the number of hexadecimal digits is odd"),
+        ("no digit", b"S 00x1\n", b"there is another character than a hexadecimal digit, at byte 5 of the line"),
+        ("no digit at the end", b"S 001x\n", b"there is another character than a hexadecimal digit, at byte 6 of the line"),
+        ("digits in groups", b"S 00 01\n", b"there is another character than a hexadecimal digit, at byte 5 of the line"),
+        ("a small side", b"c 00\n", b"the side is C or S, and no small letter"),
+        ("another side", b"X 00\n", b"a line begins with C or S and one space"),
+        ("a side alone", b"C\n", b"behind C or S stands one space"),
+        ("no space", b"C00\n", b"behind C or S stands one space"),
+        ("two spaces", b"C  00\n", b"behind C or S stands one space"),
+        ("a tab", b"S\t00\n", b"behind C or S stands one space"),
+        ("a space in front", b" S 00\n", b"the line begins with a space"),
+        ("a byte order mark", b"\xef\xbb\xbfC 00\n", b"a byte order mark begins the line"),
+        ("a carriage return", b"C 00\r\n", b"a carriage return ends the line"),
+        ("no line feed", b"C 00", b"no line feed ends the line"),
+    ):
+        bad = room.put("bad", CAPTURE + line)
+        told = f"fault capture line {CAPTURE.count(LF) + 1}\n".encode()
+        for words in (["check", bad, order], ["explain", bad], ["order", bad], ["order", "--arrival", bad], ["show", bad],
+                      ["show", "--names", bad]):
+            name_of = f"{name}: {' '.join(words[:-1])}"
+            tally.want(f"{name_of}, on a terminal", on_a_terminal(room, *words), Ended(3, b"", told + what + LF))
+            tally.want(name_of, room.run(*words), Ended(3, b"", told))
+
+
+def bad_order_lines(tally, room):
+    """On a terminal `check` and `explain` say what is wrong with the line of an order; of a search's answer they always say so."""
+    good = room.put("good", CAPTURE)
+    count = b"an entry is one number, or three: a request, an offset and a length"
+    space = b"one space stands between two numbers, and no other"
+    for name, line, what in (
+        ("no digit", b"x\n", b"there is another character than a digit, at byte 1 of the line"),
+        ("a sign", b"1 -1 2\n", b"there is another character than a digit, at byte 3 of the line"),
+        ("a carriage return", b"1\r\n", b"a carriage return ends the line"),
+        ("no line feed", b"1", b"no line feed ends the line"),
+        ("nothing", LF, b"the line is empty"),
+        ("a leading zero", b"1 00 1\n", b"a number begins with a zero"),
+        ("2^64", b"18446744073709551616\n", b"a number is too long: it is 2^64 or more"),
+        ("two numbers", b"1 2\n", count),
+        ("four numbers", b"1 0 2 3\n", count),
+        ("two spaces", b"1  2 3\n", space),
+        ("a space in front", b" 1\n", space),
+        ("a space behind", b"1 \n", space),
+    ):
+        bad = room.put("bad", b"1\n" + line)
+        for command in ("check", "explain"):
+            wanted = Ended(3, b"", b"fault order line 2\n" + what + LF)
+            tally.want(f"{command}, {name}, on a terminal", on_a_terminal(room, command, good, bad), wanted)
+            tally.want(f"{command}, {name}", room.run(command, good, bad), fault("order line 2"))
+    for line in (b"no content request 1 offset 0 in any order\n", b"gave up: too many steps at request 1 offset 0\n"):
+        bad = room.put("bad", line)
+        for command in ("check", "explain"):
+            found = room.run(command, good, bad)
+            tally.want(f"{command} of a search's answer", found, Ended(3, b"", b"fault order line 1\n" + SEARCHED))
+    bad = room.put("bad", b"1\nno order: the session was refused\n")
+    tally.want("an answer behind an entry", room.run("check", good, bad), fault("order line 2"))
+
+
+def looks_of_captures(tally, room):
+    """What is said of a capture beside the answer: that its sides are exchanged, or that nothing was recorded."""
+    order, none = room.put("order", b"1\n"), room.put("none", b"")
+    exchanged = b"the first bytes of C are a server's (NBDMAGIC): C and S are exchanged in this capture\n"
+    swapped = CAPTURE.translate(bytes.maketrans(b"CS", b"SC"))
+    client, server = sides(swapped)
+    pieces = b"".join(b"C %02x\n" % byte for byte in client)
+    for name, capture, line in (
+        ("one text", swapped, b"no at byte 1: OutOfTurn\n"),
+        ("other digits", CAPTURE.translate(bytes.maketrans(b"CSabcdef", b"SCABCDEF")), b"no at byte 1: OutOfTurn\n"),
+        ("pieces of a byte", pieces, b"no at byte 1: OutOfTurn\n"),
+        ("behind the other side", b"S %s\n" % server.hex().encode() + pieces, b"no at byte 18: BadMagic\n"),
+    ):
+        other = room.put("other", capture)
+        for words in (["check", other, order], ["order", other], ["explain", other], ["show", other]):
+            found = room.run(*words)
+            told = found._replace(out=found.out[: len(line)])
+            tally.want(f"exchanged sides, {name}: {words[0]}", told, Ended(1, line, exchanged))
+        found, wanted = room.run("order", "--arrival", other), b"no order: the session was refused\n" + exchanged
+        tally.want(f"exchanged sides, {name}: arrival", found, Ended(1, b"", wanted))
+    for name, capture in (("another magic", b"C 4e42444d41474944\n"), ("too short", b"C 4e42444d414749\n"), ("no client", b"S 00\n")):
+        found = room.run("check", room.put("other", capture), order)
+        tally.want(f"no exchanged sides, {name}", (found.status, found.err), (1, b""))
+    yes = b"yes requests 0 answered 0 improper 0\n"
+    for words, out in ((["check", none, none], yes), (["explain", none], yes), (["order", none], b""), (["order", "--arrival", none], b""),
+                       (["show", none], b"ok\n")):
+        name = f"an empty capture: {' '.join(words[:-1])}"
+        found = room.run(*words)
+        tally.want(name, found._replace(out=found.out[: found.out.find(b"\n") + 1]), Ended(0, out, EMPTY))
+    pipe = room.path("pipe")
+    os.mkfifo(pipe)
+    other = room.put("other", swapped)
+    with subprocess.Popen(["/bin/sh", "-c", 'cat "$1" > "$2"', "sh", other, pipe]):
+        tally.want("exchanged sides through a pipe", room.run("check", pipe, order), Ended(1, b"no at byte 1: OutOfTurn\n", b""))
+
+
+def run(tally):
+    with Room() as room:
+        for part in (terminals, bad_capture_lines, bad_order_lines, looks_of_captures):
+            part(tally, room)

@@ -1,0 +1,263 @@
+"""Long messages and lines, many records and chunks, many READs as holes and statuses over many changes, many statuses and what they
+cost, and exports of no byte and of as many as there may be.
+"""
+
+import resource
+
+from built import Ended, Room
+from messages import (
+    ACK, BLOCK_STATUS, CHUNKS, DONE, OFFSET_HOLE, READ, SET_META_CONTEXT, TRIM, WRITE, WRITE_ZEROES, answer, begun, chunk,
+    client_flags, content, context, done, extents, go, granted, greeting, one_by_one, option, queries, read, request, simple,
+    status, text, write,
+)
+
+# The largest export (docs/PROFILE.md).
+LIMIT = 2**63 - 1
+MIB = 2**20
+# The contexts, statuses or extents of the smallest session of each kind.
+TOLD = 20_000
+# The changes and the READs or statuses of the smallest session of holes, and what a run may take beside what grows, in seconds.
+HOLES, APART = 20_000, 0.5
+# What changes each second byte there, the start, and what is asked of all bytes.
+KINDS = (
+    (WRITE_ZEROES, "unknown", READ), (WRITE, "unknown", READ), (TRIM, "zero", READ), (WRITE, "image", READ),
+    (WRITE, "unknown", BLOCK_STATUS), (TRIM, "zero", BLOCK_STATUS),
+)
+
+
+def yes(requests, answered, improper):
+    return Ended(0, f"yes requests {requests} answered {answered} improper {improper}\n".encode(), b"")
+
+
+def no(line):
+    return Ended(1, line.encode() + b"\n", b"")
+
+
+def fault(what):
+    return Ended(3, b"", f"fault {what}\n".encode())
+
+
+def long_messages(tally, room):
+    """A WRITE of 2 MiB that its export does not hold, and an option with as many bytes of data."""
+    data = bytes(range(256)) * (2 * MIB // 256)
+    records = begun() + [request(WRITE, 1, 0, len(data), data), simple(1, error=22)]
+    tally.want("a write of 2 MiB", room.check(text(records), b"1\n"), yes(1, 1, 1))
+    tally.want("its bytes one by one", room.check(text(one_by_one(records)), b"1\n"), yes(1, 1, 1))
+    shown = room.show(text(records))
+    line = f"C request flags=0 command=1 cookie=1 offset=0 length={len(data)} payload={data.hex()}\n".encode()
+    is_shown = line in shown.out and shown.out.endswith(b"\nok\n")
+    tally.want("show of a write of 2 MiB", (shown.status, is_shown, shown.err), (0, True, b""))
+    made = room.make(shown.out)
+    tally.want("make of a write of 2 MiB", (made.status, made.out == text(records), made.err), (0, True, b""))
+    capture, order = room.put("long", text(records)), room.put("order", b"1\n")
+    told = room.run("explain", capture, order)
+    first = sum(len(data) for _, data in begun()) + 1
+    reason = (
+        "improper: 1 of 1 request\n"
+        f"message: WRITE #1, cookie 0x1, {len(data)} bytes at 0; bytes {first} to {first + 27 + len(data)}\n"
+        f"wrong: its range passes the end of the export of 8 bytes by {len(data) - 8} bytes\n"
+    )
+    wanted = yes(1, 1, 1)
+    tally.want("explain of a write of 2 MiB", told, wanted._replace(out=wanted.out + reason.encode()))
+    named = room.run("show", "--names", capture)
+    tally.want("names of a write of 2 MiB", (named.status, named.out.endswith(b"\nok\n"), named.err), (0, True, b""))
+    records = [greeting(), client_flags(), option(3, data), answer(3, 2**31 + 3, data)]
+    tally.want("an option of 2 MiB", room.check(text(records), b""), yes(0, 0, 0))
+    # The last byte of the message is missing.
+    count = sum(len(data) for _, data in records) - 1
+    side, last = records[-1]
+    found = room.check(text([*records[:-1], (side, last[:-1])]), b"")
+    tally.want("an answer of 2 MiB, cut", found, no(f"no at byte {count}: Unfinished"))
+
+
+def many_chunks(tally, room):
+    """70,000 chunks of one byte, as the replies to 70 READs and to one."""
+    data = bytes(byte % 251 for byte in range(70_000))
+    for size in (1000, 70_000):
+        records = begun(structured=True, size=MIB)
+        records += [write(1, 0, data), done(1)]
+        reads = range(len(data) // size)
+        for number in reads:
+            first, cookie = number * size, number + 2
+            records.append(read(cookie, first, size))
+            records += [content(cookie, at, data[at : at + 1]) for at in range(first, first + size)]
+            records.append(done(cookie))
+        count = len(reads) + 1
+        order = b"".join(b"%d\n" % (number + 1) for number in range(count))
+        name = f"70,000 chunks, {count - 1} reads"
+        tally.want(name, room.check(text(records), order), yes(count, count, 0))
+        wrong = [*records[:-2], content(count, 69_999, b"\xff"), done(count)]
+        found = room.check(text(wrong), order)
+        tally.want(f"{name}, the last byte wrong", found, no(f"no content request {count} offset 69999"))
+    records = begun() + [("C", b""), ("S", b"")] * 35_000 + [read(1, 0, 4), simple(1, bytes(4))]
+    tally.want("70,000 records without bytes", room.check(text(records), b"1\n"), yes(1, 1, 0))
+
+
+def a_million(tally, room):
+    """A million FLUSHes, each answered before the next, as many entries of an order, and a script of as many messages: no growth is
+    told as out of memory."""
+    count, nothing = 10**6, "0" * 24
+    lines = (f"C 2560951300000003{cookie:016x}{nothing}\nS 6744669800000000{cookie:016x}\n" for cookie in range(count))
+    capture, numbers = text(begun()) + "".join(lines).encode(), b"".join(b"%d\n" % number for number in range(1, count + 1))
+    tally.want("a million requests and entries", room.check(capture, numbers), yes(count, count, 0))
+    tally.want("a million requests, their numbers", room.run("order", "--arrival", room.put("million", capture)), Ended(0, numbers, b""))
+    script, made = b"C client-flags flags=3\n" * count, b"C 00000003\n" * count
+    tally.want("a million messages of a script", room.make(script), Ended(0, made, b""))
+
+
+def holes(count, command, asked):
+    """Changes of each second byte, a WRITE to zero, so many, and then as many READs of all of these bytes, each answered by one
+    hole, or as many statuses of them, each answered by one extent of zeroes."""
+    is_status = asked == BLOCK_STATUS
+    records = CHUNKS + granted() + go(size=4 * count) if is_status else begun(structured=True, size=4 * count)
+    for cookie in range(1, count + 1):
+        records += [request(command, cookie, 2 * cookie - 2, 1, b"\0" if command == WRITE else b""), done(cookie)]
+    whole = bytes(8) + (2 * count).to_bytes(4, "big")
+    for cookie in range(count + 1, 2 * count + 1):
+        reply = extents(cookie, 1, (2 * count, 2), flags=DONE) if is_status else chunk(cookie, OFFSET_HOLE, whole, DONE)
+        records += [request(asked, cookie, 0, 2 * count), reply]
+    return text(records)
+
+
+def costs(tally, room, name, wanted, *words):
+    """The processor time of a run, the less of two."""
+    seconds = []
+    for _ in range(2):
+        before = resource.getrusage(resource.RUSAGE_CHILDREN)
+        tally.want(name, room.run(*words), wanted)
+        after = resource.getrusage(resource.RUSAGE_CHILDREN)
+        seconds.append(after.ru_utime + after.ru_stime - before.ru_utime - before.ru_stime)
+    return min(seconds)
+
+
+def costs_of_holes(tally, room):
+    """READs as holes, and statuses, over many changes cost no more than eight times as much where there are four times as many of
+    both."""
+    for kind in KINDS:
+        measured = [costs_of(tally, room, times * HOLES, *kind) for times in (1, 2, 4)]
+        for command in measured[0]:
+            one, two, four = (costs[command] for costs in measured)
+            name = f"{command} of holes over changes {kind}"
+            tally.holds(f"{name}, twice as many", two <= 4 * one + APART, (one, two, four))
+            tally.holds(f"{name}, four times as many", four <= 8 * one + APART, (one, two, four))
+
+
+def costs_of(tally, room, changes, change, start, asked):
+    """What each command costs on holes over so many changes."""
+    profile = ["--profile", "wide"] if asked == BLOCK_STATUS else []
+    count, image = 2 * changes, room.put("holes.image", bytes(4 * changes))
+    numbers = b"".join(b"%d\n" % number for number in range(1, count + 1))
+    capture, order = room.put("holes.cap", holes(changes, change, asked)), room.put("holes.ord", numbers)
+    return {
+        command: costs(tally, room, f"{command}, {count} requests on holes, {change}, {start}, {asked}", wanted, command, *words,
+                       "--start", f"image:{image}" if start == "image" else start, *profile)
+        for command, words, wanted in (("check", [capture, order], yes(count, count, 0)),
+                                       ("explain", [capture, order], yes(count, count, 0)),
+                                       ("order", [capture], Ended(0, numbers, b"")))
+    }
+
+
+def selecting(count, size):
+    """A negotiation in which so many contexts come in force, with the ids from 0 on."""
+    told = [context(number, b"x:%d" % number) for number in range(count)]
+    setting = [option(SET_META_CONTEXT, queries(b"", b"x:")), *told, answer(SET_META_CONTEXT, ACK)]
+    begin = begun(structured=True, size=size)
+    return [*begin[:4], *setting, *begin[4:]]
+
+
+def statuses(kind, count):
+    """Sessions with so many extents in a chunk, extents of which every second is called zero, contexts in force, statuses
+    outstanding together, or statuses one by one; and how many requests they have."""
+    if kind == "extents":
+        return [*selecting(1, count), status(1, 0, count), extents(1, 0, *[(1, 0)] * count, flags=DONE)], 1
+    if kind == "zeroes":
+        zeroes = extents(1, 1, *[(1, 2), (1, 0)] * (count // 2), flags=DONE)
+        return [*CHUNKS, *granted(), *go(size=count), status(1, 0, count), zeroes], 1
+    if kind == "contexts":
+        chunks = [extents(1, number, (1, 0)) for number in reversed(range(count))]
+        return [*selecting(count, 8), status(1, 0, 8), *chunks, done(1)], 1
+    asked = [status(cookie, 0, count) for cookie in range(count)]
+    told = [extents(cookie, 0, (count, 0), flags=DONE) for cookie in range(count)]
+    if kind == "outstanding":
+        return [*selecting(1, count), *asked, *told], count
+    return [*selecting(1, count), *(message for pair in zip(asked, told) for message in pair)], count
+
+
+def costs_of_statuses(tally, room):
+    """Statuses cost no more than eight times as much where there are four times as many extents, contexts, or requests."""
+    for kind in ("extents", "zeroes", "contexts", "outstanding", "one by one"):
+        seconds = []
+        for times in (1, 2, 4):
+            records, count = statuses(kind, times * TOLD)
+            capture = room.put("statuses.cap", text(records))
+            order = room.put("statuses.ord", b"".join(b"%d\n" % number for number in range(1, count + 1)))
+            words = ["check", capture, order, "--start", "zero", "--profile", "wide"]
+            seconds.append(costs(tally, room, f"statuses, {kind}, {times} times", yes(count, count, 0), *words))
+        one, two, four = seconds
+        tally.holds(f"statuses, {kind}, twice as many", two <= 4 * one + APART, seconds)
+        tally.holds(f"statuses, {kind}, four times as many", four <= 8 * one + APART, seconds)
+
+
+def many_contexts(tally, room):
+    """A thousand contexts in force, of which the last in the reply is left out, told twice, or told in its place."""
+    count = 1000
+    begin = [*selecting(count, 8), status(1, 0, 8), *(extents(1, number, (8, 0)) for number in range(count - 1))]
+    size = sum(len(data) for _, data in begin)
+    for last, wanted in (
+        ([extents(1, count - 1, (8, 0), flags=DONE)], yes(1, 1, 0)),
+        ([extents(1, count - 1, (8, 0)), done(1)], yes(1, 1, 0)),
+        ([done(1)], no(f"no at byte {size + 20}: IncompleteStatus")),
+        ([extents(1, 0, (8, 0), flags=DONE)], no(f"no at byte {size + 32}: BadContent")),
+        ([extents(1, count, (8, 0), flags=DONE)], no(f"no at byte {size + 32}: BadContent")),
+    ):
+        tally.want("a thousand contexts", room.check(text([*begin, *last]), b"1\n", profile="wide"), wanted)
+
+
+def exports(tally, room):
+    """Exports of no byte, of one MiB, and of as many bytes as there may be."""
+    empty = begun(size=0)
+    found = room.check(text(empty + [read(1, 0, 0), simple(1)]), b"1\n")
+    tally.want("a read of nothing", found, yes(1, 1, 0))
+    found = room.check(text(empty + [read(1, 0, 1), simple(1, error=22)]), b"1\n")
+    tally.want("a read of an export without bytes", found, yes(1, 1, 1))
+    none, one = room.put("none", b""), room.put("one", b"\0")
+    tally.want("an image without bytes", room.check(text(empty), b"", f"image:{none}"), yes(0, 0, 0))
+    found = room.check(text(empty), b"", f"image:{one}")
+    tally.want("an image of one byte", found, no("no image 1 size 0"))
+    last, data = LIMIT - 1, b"\xab"
+    largest = begun(size=LIMIT) + [write(1, last, data), simple(1), read(2, last, 1)]
+    tally.want("the last byte", room.check(text([*largest, simple(2, data)]), b"1\n2\n"), yes(2, 2, 0))
+    found = room.check(text([*largest, simple(2, b"\xac")]), b"1\n2\n")
+    tally.want("another last byte", found, no(f"no content request 2 offset {last}"))
+    found = room.check(text(begun(size=LIMIT + 1)), b"")
+    tally.want("a byte too many", found, no("no at byte 96: ExportTooLarge"))
+    image = bytes(range(256)) * (MIB // 256)
+    start = f"image:{room.put('image', image)}"
+    whole = text(begun(size=MIB) + [read(1, 0, MIB), simple(1, image)])
+    tally.want("a read of 1 MiB", room.check(whole, b"1\n", start), yes(1, 1, 0))
+    found = room.check(whole, b"1\n", "zero")
+    tally.want("a read of 1 MiB of zeroes", found, no("no content request 1 offset 1"))
+
+
+def long_lines(tally, room):
+    """Bad lines of a MiB, and remarks that are as long."""
+    good = text(begun())
+    for name, line in (("an odd digit", b"C " + b"0" * (MIB + 1)), ("no side", b"X" * MIB),
+                       ("no digit at the end", b"S " + b"0" * (MIB - 1) + b"x"), ("a space", b" " * MIB)):
+        found = room.check(good + line + b"\n", b"")
+        tally.want(f"capture, {name}", found, fault("capture line 6"))
+        tally.want(f"show, {name}", room.show(good + line + b"\n"), fault("capture line 6"))
+    found = room.check(good + b"C " + b"0" * MIB, b"")
+    tally.want("capture, no line end", found, fault("capture line 6"))
+    found = room.check(good + b"#" * MIB + b"\n", b"")
+    tally.want("a remark of 1 MiB", found, yes(0, 0, 0))
+    tally.want("an order line of 1 MiB", room.check(good, b"1" * MIB + b"\n"), fault("order line 1"))
+    for name, line in (("digits", b"C option id=3 payload=" + b"0" * (MIB + 1)),
+                       ("a number", b"C option id=" + b"1" * MIB + b" payload="), ("words", b"ok " * MIB)):
+        tally.want(f"script, {name}", room.make(b"ok\n" + line + b"\n"), fault("script line 2"))
+
+
+def run(tally):
+    with Room() as room:
+        for part in (long_messages, many_chunks, a_million, costs_of_holes, costs_of_statuses, many_contexts, exports, long_lines):
+            part(tally, room)
