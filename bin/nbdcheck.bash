@@ -16,11 +16,11 @@ _nbdcheck_files() {
 _nbdcheck() {
     # The commands, each with its options; every other word is the name of a file.
     local -A options=(
-        [check]="--start --profile --help"
-        [explain]="--start --profile --states --steps --help"
-        [order]="--start --profile --whole --arrival --states --steps --help"
-        [show]="--names --profile --help"
-        [make]="--help"
+        [check]="--start --profile --hints --help"
+        [explain]="--start --profile --states --steps --hints --help"
+        [order]="--start --profile --whole --arrival --states --steps --hints --help"
+        [show]="--names --profile --hints --help"
+        [make]="--hints --help"
         [help]=""
     )
     local starts="unknown zero image:"

@@ -1,5 +1,5 @@
 #!/usr/bin/env python3
-"""tools/manual.py: prints the section FAULTS of docs/nbdcheck.1, made of the rules in crates/nbd_judge."""
+"""tools/manual.py: prints the section FAULTS of docs/nbdcheck.1, made of the rules in crates/nbd_story."""
 
 import re
 import textwrap
@@ -13,7 +13,7 @@ BREAKERS = {"Client": "the client", "Server": "the server", "Sender": "the sende
 
 
 def source():
-    return (TOP / "crates/nbd_judge/src/rules.rt").read_text()
+    return (TOP / "crates/nbd_story/src/rules.rt").read_text()
 
 
 def unquoted(text):

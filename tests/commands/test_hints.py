@@ -1,4 +1,5 @@
-"""What the built program says beside an answer or a fault: on a terminal, of a line that is malformed, of sides that are exchanged."""
+"""What the built program says beside an answer or a fault: on a terminal and with `--hints`, of a line that is malformed, of sides that
+are exchanged."""
 
 import os
 import subprocess
@@ -23,10 +24,74 @@ def terminals(tally, room):
     ):
         wanted = Ended(3, b"", f"fault {what} read\n".encode() + why)
         tally.want(f"{words} on a terminal", on_a_terminal(room, *words), wanted)
+        tally.want(f"{words} with hints", room.run(*words, "--hints"), wanted)
+    tally.want("a yes with hints", room.run("check", good, order, "--hints"), Ended(0, YES, b""))
     tally.want("a yes on a terminal", on_a_terminal(room, "check", good, order), Ended(0, YES, b""))
     found = on_a_terminal(room, "check", room.put("found", FOUND), order, "--start", "zero")
     hint = b"'nbdcheck explain' with the same words says why\n"
     tally.want("a no on a terminal", found, Ended(1, b"no content request 1 offset 0\n", hint))
+    found = room.run("check", "--hints", room.put("found", FOUND), order, "--start", "zero")
+    tally.want("a no with hints", found, Ended(1, b"no content request 1 offset 0\n", hint))
+
+
+def directories(tally, room):
+    """An input that is a directory is named as one."""
+    good, order, folder = room.put("good", CAPTURE), room.put("order", b"1\n"), room.path("folder")
+    os.mkdir(folder)
+    why = f"{folder}: it is a directory\n".encode()
+    for what, words in (("capture", ["check", folder, order]), ("order", ["check", good, folder]),
+                        ("image", ["check", good, order, "--start", f"image:{folder}"]), ("capture", ["show", folder]),
+                        ("script", ["make", folder])):
+        tally.want(f"{words} of a folder with hints", room.run(*words, "--hints"), Ended(3, b"", f"fault {what} read\n".encode() + why))
+        tally.want(f"{words} of a folder", room.run(*words), fault(f"{what} read"))
+
+
+def bad_words(tally, room):
+    """A start, a profile and a limit that are malformed: what they have to be."""
+    good = room.put("good", CAPTURE)
+    for words, what, why in (
+        (["--start", "image"], "start", b"a start is unknown, zero, or image: and the path of a file\n"),
+        (["--profile", "Wide"], "profile", b"a profile is base or wide\n"),
+        (["--steps", "-1"], "limit", b"a limit is a number from 0 to 18446744073709551615\n"),
+    ):
+        for command in ("order", "explain"):
+            told = f"fault {what}\n".encode()
+            tally.want(f"{command} {words} with hints", room.run(command, good, *words, "--hints"), Ended(2, b"", told + why))
+            tally.want(f"{command} {words}", room.run(command, good, *words), Ended(2, b"", told))
+
+
+def bad_script_lines(tally, room):
+    """What is wrong with the line of a script."""
+    other, number = b"another field stands here in this message", b"behind = stands a decimal number"
+    great = b"the number is greater than its field holds"
+    for name, line, what in (
+        ("no message", b"C reqest flags=0\n", b"a line begins with the words of a message, as 'C request' or 'S simple'"),
+        ("the other side", b"S client-flags flags=0\n", b"a line begins with the words of a message, as 'C request' or 'S simple'"),
+        ("no field", b"S greeting\n", other + b", at byte 12 of the line"),
+        ("another field", b"S simple cookie=1 error=0 payload=\n", other + b", at byte 10 of the line"),
+        ("the second field", b"S simple error=0 flags=1 payload=\n", other + b", at byte 18 of the line"),
+        ("no number", b"S greeting flags=\n", number + b", at byte 12 of the line"),
+        ("a sign", b"S greeting flags=+1\n", number + b", at byte 12 of the line"),
+        ("hexadecimal", b"S simple error=0 cookie=0x1 payload=\n", number + b", at byte 18 of the line"),
+        ("a leading zero", b"S greeting flags=03\n", b"a number begins with a zero, at byte 12 of the line"),
+        ("above u16", b"S greeting flags=65536\n", great + b", at byte 12 of the line"),
+        ("above u64", b"S simple error=0 cookie=18446744073709551616 payload=\n", great + b", at byte 18 of the line"),
+        ("no payload", b"S simple error=0 cookie=1\n", b"the last field of this message is payload=, at byte 27 of the line"),
+        ("half a byte", b"S simple error=0 cookie=1 payload=abc\n", b"the number of hexadecimal digits is odd, at byte 27 of the line"),
+        ("no digit", b"S simple error=0 cookie=1 payload=xx\n",
+         b"there is another character than a hexadecimal digit, at byte 27 of the line"),
+        ("a word too many", b"S greeting flags=3 more\n", b"behind the last field stands nothing"),
+        ("two spaces", b"S greeting  flags=3\n", other + b", at byte 12 of the line"),
+        ("a WRITE without its bytes", b"C request flags=0 command=1 cookie=1 offset=0 length=4 payload=\n",
+         b"no message has these numbers and this payload"),
+        ("a carriage return", b"S greeting flags=3\r\n", b"a carriage return ends the line"),
+        ("no line feed", b"S greeting flags=3", b"no line feed ends the line"),
+    ):
+        bad = room.put("bad", b"S greeting flags=3\n" + line)
+        wanted = Ended(3, b"", b"fault script line 2\n" + what + LF)
+        tally.want(f"a script, {name}, on a terminal", on_a_terminal(room, "make", bad), wanted)
+        tally.want(f"a script, {name}, with hints", room.run("make", bad, "--hints"), wanted)
+        tally.want(f"a script, {name}", room.run("make", bad), fault("script line 2"))
 
 
 def bad_capture_lines(tally, room):
@@ -54,6 +119,7 @@ def bad_capture_lines(tally, room):
                       ["show", "--names", bad]):
             name_of = f"{name}: {' '.join(words[:-1])}"
             tally.want(f"{name_of}, on a terminal", on_a_terminal(room, *words), Ended(3, b"", told + what + LF))
+            tally.want(f"{name_of}, with hints", room.run(*words, "--hints"), Ended(3, b"", told + what + LF))
             tally.want(name_of, room.run(*words), Ended(3, b"", told))
 
 
@@ -80,6 +146,7 @@ def bad_order_lines(tally, room):
         for command in ("check", "explain"):
             wanted = Ended(3, b"", b"fault order line 2\n" + what + LF)
             tally.want(f"{command}, {name}, on a terminal", on_a_terminal(room, command, good, bad), wanted)
+            tally.want(f"{command}, {name}, with hints", room.run(command, "--hints", good, bad), wanted)
             tally.want(f"{command}, {name}", room.run(command, good, bad), fault("order line 2"))
     for line in (b"no content request 1 offset 0 in any order\n", b"gave up: too many steps at request 1 offset 0\n"):
         bad = room.put("bad", line)
@@ -128,5 +195,5 @@ def looks_of_captures(tally, room):
 
 def run(tally):
     with Room() as room:
-        for part in (terminals, bad_capture_lines, bad_order_lines, looks_of_captures):
+        for part in (terminals, directories, bad_words, bad_capture_lines, bad_order_lines, bad_script_lines, looks_of_captures):
             part(tally, room)

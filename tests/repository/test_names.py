@@ -1,4 +1,4 @@
-"""The rules in crates/nbd_judge against docs/nbdcheck.1, which prints them, and against docs/PROFILE.md."""
+"""The rules in crates/nbd_story against docs/nbdcheck.1, which prints them, and against docs/PROFILE.md."""
 
 import re
 

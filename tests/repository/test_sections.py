@@ -54,7 +54,7 @@ def run(tally):
         sources = [*crate.glob("specs/**/*.antt"), *crate.glob("proofs/**/*.antt"), *crate.glob("src/**/*.rt")]
         wrong = [(str(path.relative_to(TOP)), name) for path in sorted(sources) for name in unknown(comments(path), known, set())]
         tally.want(f"sections in the comments of {crate.name}", wrong, [])
-    said = [TOP / "crates/nbd_judge/src/rules.rt", TOP / "docs/nbdcheck.1",
+    said = [TOP / "crates/nbd_story/src/rules.rt", TOP / "docs/nbdcheck.1",
             *sorted((TOP / "tests/explain/explained").glob("*.txt")), *sorted((TOP / "examples").glob("*.why"))]
     for path in said:
         tally.want(f"sections in {path.relative_to(TOP)}", [name for name in stated(path) if name not in known], [])

@@ -9,7 +9,7 @@ use nbd_order::Found;
 use nbd_tool::is_yes;
 
 /// What a run of `explain` came to.
-#[derive(Clone, Copy, PartialEq, Eq, Drop)]
+#[derive(Clone, Copy, Drop)]
 pub enum Answer {
     /// The order that was given, or one that was found, explains the session.
     Yes,

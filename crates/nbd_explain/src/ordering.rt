@@ -33,7 +33,7 @@ use std::alloc::{AllocError, Global};
 use std::io::{BufRead, Write};
 
 /// What a run of `order` came to.
-#[derive(Clone, Copy, PartialEq, Eq, Drop)]
+#[derive(Clone, Copy, Drop)]
 pub enum Ordered {
     /// An order was written, and it explains the session.
     Found,

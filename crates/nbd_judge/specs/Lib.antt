@@ -1,5 +1,4 @@
 pub mod Beginnings
-pub mod Breakers
 pub mod Captures
 pub mod Conclusions
 pub mod Folding

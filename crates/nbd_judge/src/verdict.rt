@@ -3,7 +3,7 @@
 use nbd_session::WireFault;
 
 /// What is wrong with an order of service (this project's choice).
-#[derive(Clone, Copy, PartialEq, Eq, Drop)]
+#[derive(Clone, Copy, Drop)]
 pub enum OrderFault {
     /// The entry names request 0 or a number above that of the last request.
     NoSuchRequest,
@@ -24,7 +24,7 @@ pub enum OrderFault {
 
 /// The answer to a session, an order of service and what the export held at first. If several hold, the answer is the
 /// one that comes first in the order Wire, Image, Order, Content and Status, Yes.
-#[derive(Clone, Copy, PartialEq, Eq, Drop)]
+#[derive(Clone, Copy, Drop)]
 pub enum Verdict {
     /// The order explains the session.
     Yes {

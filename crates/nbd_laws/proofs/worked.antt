@@ -3,13 +3,6 @@ pub mod DecidingLemmas
 pub mod DecidingReadLemmas
 pub mod DecidingReplyLemmas
 pub mod DecidingRunLemmas
-pub mod ExampleLemmas
 pub mod IndexLemmas
 pub mod SessionLemmas
-pub mod WorkedChunkLemmas
 pub mod WorkedPlaceLemmas
-pub mod WorkedOptionLemmas
-pub mod WorkedPartLemmas
-pub mod WorkedReadLemmas
-pub mod WorkedRefusalLemmas
-pub mod WorkedRequestLemmas

@@ -6,23 +6,42 @@ ghost use Rattle.nbd_lines.specs.CommandLine.{exit_status};
 use crate::command_line::exit_status;
 use crate::fault::RunFault;
 use crate::opening::Opener;
-use crate::saying::{hint, tell};
+use crate::saying::tell;
+use std::fmt::Display;
 use std::fs::File;
 use std::io;
-use std::io::BufReader;
+use std::io::{BufReader, IsTerminal};
 
 /// The files of the system.
 #[derive(Drop)]
 pub struct Files<'a> {
     pub rt: &'a HostRuntime,
+    // Reasons are wanted off a terminal too.
+    is_hinted: bool,
     /// Which file could not be opened, and why.
     refused: Option<String>,
 }
 
 impl<'a> Files<'a> {
-    /// No file was opened.
-    pub fn new(rt: &'a HostRuntime) -> Files<'a> {
-        Files { rt, refused: None }
+    /// No file was opened. A person is told reasons on a terminal, and elsewhere where `is_hinted`.
+    pub fn new(rt: &'a HostRuntime, is_hinted: bool) -> Files<'a> {
+        Files {
+            rt,
+            is_hinted,
+            refused: None,
+        }
+    }
+
+    /// Whether a person is told reasons beside an answer or a fault.
+    pub fn are_hints_told(&self) -> bool {
+        self.is_hinted || self.rt.stderr().is_terminal()
+    }
+
+    /// Prints a line for a person on standard error, where reasons are told.
+    pub fn hint<D: Display + Drop>(&self, text: D) {
+        if self.are_hints_told() {
+            tell(self.rt, text);
+        }
     }
 
     /// Opens a file for a buffered reader.
@@ -47,11 +66,11 @@ impl<'a> Files<'a> {
         exit_status(answer)
     }
 
-    /// Prints a fault, and on a terminal which file could not be opened, and why.
+    /// Prints a fault, and where reasons are told which file could not be opened, and why.
     pub fn say(&self, fault: &RunFault) {
         tell(self.rt, fault);
         if let Some(refused) = &self.refused {
-            hint(self.rt, refused);
+            self.hint(refused);
         }
     }
 }

@@ -4,7 +4,7 @@ ghost use Rattle.std.specs.Prelude.{◌≡◌, ◌↔◌, IsTrue};
 ghost use Rattle.nbd_lines.specs.Table.{fields, has_payload, field_name, words};
 
 /// A kind of line, one for each kind of message.
-#[derive(Clone, Copy, PartialEq, Eq, Drop)]
+#[derive(Clone, Copy, Drop)]
 pub enum Form {
     Greeting,
     ClientFlags,
@@ -19,7 +19,7 @@ pub enum Form {
 }
 
 /// The name of a field that holds a number.
-#[derive(Clone, Copy, PartialEq, Eq, Drop)]
+#[derive(Clone, Copy, Drop)]
 pub enum Name {
     Flags,
     Id,
@@ -35,7 +35,7 @@ pub enum Name {
 }
 
 /// A field that holds a number.
-#[derive(Clone, Copy, PartialEq, Eq, Drop)]
+#[derive(Clone, Copy, Drop)]
 pub struct Field {
     pub name: Name,
     /// The greatest number that the field holds.
@@ -76,7 +76,7 @@ const OFFSET: Field = Field {
 };
 
 /// Each form, once.
-pub(crate) static FORMS: [Form; 10] = [
+pub static FORMS: [Form; 10] = [
     Form::Greeting,
     Form::ClientFlags,
     Form::Choice,

@@ -27,10 +27,3 @@ pub fn terminal(rt: &HostRuntime) -> Option<Stderr> {
 pub fn tell<D: Display + Drop>(rt: &HostRuntime, text: D) {
     let _ = rt.eprintln(text);
 }
-
-/// Prints a line for a person on standard error, where that is a terminal.
-pub fn hint<D: Display + Drop>(rt: &HostRuntime, text: D) {
-    if rt.stderr().is_terminal() {
-        let _ = rt.eprintln(text);
-    }
-}

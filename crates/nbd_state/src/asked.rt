@@ -8,7 +8,7 @@ use nbd_wire::{Bytes, Piece};
 use smallvec::SmallVec;
 
 /// What became of a request.
-#[derive(Clone, Copy, PartialEq, Eq, Drop)]
+#[derive(Clone, Copy, Drop)]
 pub enum Outcome {
     Success,
     Failure,

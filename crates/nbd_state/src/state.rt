@@ -9,7 +9,7 @@ use nbd_wire::{Profile, Sizing};
 use std::alloc::Global;
 
 /// An export as the server described it: its size in bytes and its transmission flags.
-#[derive(Clone, Copy, PartialEq, Eq, Drop)]
+#[derive(Clone, Copy, Drop)]
 pub struct Export {
     pub size: u64,
     pub flags: u16,
@@ -17,7 +17,7 @@ pub struct Export {
 
 /// An option that the client chose, whether its data had its form, whether it takes META_CONTEXT answers, and the
 /// last EXPORT info that came since.
-#[derive(Clone, Copy, PartialEq, Eq, Drop)]
+#[derive(Clone, Copy, Drop)]
 pub struct Chosen {
     pub option: u32,
     pub proper: bool,
@@ -26,7 +26,7 @@ pub struct Chosen {
 }
 
 /// Where the session stands (proto.md, "Newstyle negotiation", "Transmission").
-#[derive(Clone, Copy, PartialEq, Eq, Drop)]
+#[derive(Clone, Copy, Drop)]
 pub enum Phase {
     /// Nothing has come.
     Greet,

@@ -5,11 +5,11 @@ use crate::explanation::{NO_PLACE, Sources};
 use crate::layers::{Origin, Stretch};
 use crate::parts::{end_of, has_offset, meet};
 use crate::requests::Request;
+use crate::rules::{CONTENT_RULE, Rule, STATUS_RULE};
 use crate::story::Story;
 use crate::text::Text;
 use crate::told::{NO_MESSAGE, Told};
 use crate::zeroes::{Descriptor, NO_DESCRIPTOR, count_of, zero_at};
-use nbd_judge::{CONTENT_RULE, Rule, STATUS_RULE};
 use nbd_wire::{Entry, Part, Side};
 use std::alloc::Global;
 

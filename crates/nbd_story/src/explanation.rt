@@ -1,9 +1,10 @@
 //! The explanation of a verdict.
 
+use crate::rules::{IMAGE_RULE, Rule};
 use crate::story::Story;
 use crate::text::Text;
 use nbd_export::Start;
-use nbd_judge::{IMAGE_RULE, Rule, Verdict};
+use nbd_judge::Verdict;
 use nbd_wire::Entry;
 use std::alloc::{AllocError, Global};
 

@@ -1,8 +1,8 @@
 //! A session in words: the messages with their places in the capture, what became of its requests, which of them its client should not
 //! have sent, the bytes round a place, and why the answer was no.
 //!
-//! All of it is told by a `Text`, which takes what is said and notes that memory was refused. Nothing here is proved but that each call
-//! returns. The names of the protocol's numbers stand in `nbd_wire`, the rules in `nbd_judge`.
+//! All of it is told by a `Text`, which takes what is said and notes that memory was refused. Proved is that each call returns, and of
+//! `rules` who broke one. The names of the protocol's numbers stand in `nbd_wire`.
 #![tactic(auto)]
 
 mod amiss;
@@ -24,6 +24,7 @@ mod recording;
 mod refutation;
 mod related;
 mod requests;
+mod rules;
 mod source;
 mod steps;
 mod story;
@@ -39,6 +40,7 @@ pub use explanation::{Sources, explanation_of};
 pub use messages::{told_error, told_words};
 pub use recording::Recording;
 pub use refutation::Contest;
+pub use rules::{Breaker, Rule, order_rule, wire_rule};
 pub use story::Story;
 pub use text::Text;
 pub use told::Told;

@@ -4,8 +4,9 @@ use crate::explanation::{NO_PLACE, Sources};
 use crate::layers::Stretches;
 use crate::parts::{common, has_offset, meet, outside, part_in};
 use crate::requests::{Request, range};
+use crate::rules::order_rule;
 use crate::text::Text;
-use nbd_judge::{OrderFault, order_rule};
+use nbd_judge::OrderFault;
 use nbd_wire::{Entry, Part, Profile};
 use std::alloc::Global;
 

@@ -1,9 +1,9 @@
 //! Why a session was refused while its bytes were read.
 
+use crate::rules::{Breaker, Rule, wire_rule};
 use crate::story::Story;
 use crate::text::Text;
 use crate::told::{Form, NO_MESSAGE, Told};
-use nbd_judge::{Breaker, Rule, wire_rule};
 use nbd_wire::{Side, WireFault, head_lengths};
 use std::alloc::Global;
 

@@ -1,7 +1,7 @@
 //! Entries of an order of service.
 
 /// A part of what a request asks for: so many bytes from an offset of the export on.
-#[derive(Clone, Copy, PartialEq, Eq, Drop)]
+#[derive(Clone, Copy, Drop)]
 pub struct Part {
     /// Where it begins, in bytes from the export's start.
     pub offset: u64,
@@ -10,7 +10,7 @@ pub struct Part {
 }
 
 /// An entry of an order of service: the server carries out a request atomically, or a part of it.
-#[derive(Clone, Copy, PartialEq, Eq, Drop)]
+#[derive(Clone, Copy, Drop)]
 pub struct Entry {
     /// The request's number, counted from 1.
     pub request: u64,

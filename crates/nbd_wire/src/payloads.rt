@@ -6,7 +6,7 @@ ghost use Rattle.nbd_wire.specs.declared.payloads.Piece.TheVariants.{Hole};
 use crate::Bytes;
 
 /// What an INFO answer states of an export (proto.md, "Option reply types").
-#[derive(Clone, Copy, PartialEq, Eq, Drop)]
+#[derive(Clone, Copy, Drop)]
 pub enum Info {
     /// The export itself.
     Export {
@@ -32,7 +32,7 @@ pub enum Info {
 }
 
 /// What a content chunk carries (proto.md, "Structured reply types").
-#[derive(Clone, Copy, PartialEq, Eq, Drop)]
+#[derive(Clone, Copy, Drop)]
 pub enum Content<'a> {
     /// Bytes of the export.
     Bytes {
@@ -51,7 +51,7 @@ pub enum Content<'a> {
 }
 
 /// One descriptor of a status chunk (proto.md, "Structured reply types").
-#[derive(Clone, Copy, PartialEq, Eq, Drop)]
+#[derive(Clone, Copy, Drop)]
 pub struct Extent {
     /// How many bytes it speaks of.
     pub length: u64,
@@ -88,7 +88,7 @@ impl Default for Piece {
 }
 
 /// What an error chunk states (proto.md, "Structured reply types").
-#[derive(Clone, Copy, PartialEq, Eq, Drop)]
+#[derive(Clone, Copy, Drop)]
 pub struct Failure {
     /// The error, not 0.
     pub error: u32,

@@ -10,7 +10,7 @@ use crate::option_payloads::{go_of, info_of, listed_of};
 use crate::{Info, answers, commands, infos, options};
 
 /// The block sizes that a server announces, in bytes.
-#[derive(Clone, Copy, PartialEq, Eq, Drop)]
+#[derive(Clone, Copy, Drop)]
 pub struct Sizes {
     /// Of this an offset and a length are multiples.
     pub least: u32,
@@ -86,7 +86,7 @@ fn has_number(wanted: u16, count: u16, bytes: &[u8]) -> bool
 }
 
 /// What the option that was chosen last asked of block sizes, and was told.
-#[derive(Clone, Copy, PartialEq, Eq, Drop)]
+#[derive(Clone, Copy, Drop)]
 pub struct Sizing {
     /// It is a GO that asked for them.
     pub asked: bool,

@@ -11,6 +11,28 @@ use nbd_order::{Scope, Wanted, usual_limits};
 use nbd_search::Limits;
 use nbd_wire::Profile;
 
+/// A word that is malformed: the fault that is printed, and what the word has to be.
+#[derive(Clone, Copy)]
+pub struct BadWord {
+    pub fault: &'static str,
+    pub reason: &'static str,
+}
+
+const BAD_START: BadWord = BadWord {
+    fault: "fault start",
+    reason: "a start is unknown, zero, or image: and the path of a file",
+};
+
+const BAD_PROFILE: BadWord = BadWord {
+    fault: "fault profile",
+    reason: "a profile is base or wide",
+};
+
+const BAD_LIMIT: BadWord = BadWord {
+    fault: "fault limit",
+    reason: "a limit is a number from 0 to 18446744073709551615",
+};
+
 /// What the words behind a command say. A word that the command does not have counts as one that was not said.
 #[derive(Clone, Copy)]
 pub struct Asked<'a> {
@@ -29,16 +51,16 @@ pub struct Asked<'a> {
 }
 
 impl<'a> Asked<'a> {
-    /// What these words say, or the fault that is printed where one of them is malformed.
-    pub fn of(words: &ArgMatches<'a>) -> Result<Asked<'a>, &'static str> {
+    /// What these words say, or what is wrong where one of them is malformed.
+    pub fn of(words: &ArgMatches<'a>) -> Result<Asked<'a>, BadWord> {
         let Some(start) = start_of(words.get_str("start").unwrap_or(USUAL_START)) else {
-            return Err("fault start");
+            return Err(BAD_START);
         };
         let Some(profile) = profile_of(words.get_str("profile").unwrap_or(USUAL_PROFILE)) else {
-            return Err("fault profile");
+            return Err(BAD_PROFILE);
         };
         let Some(scope) = scope_in(words) else {
-            return Err("fault limit");
+            return Err(BAD_LIMIT);
         };
         Ok(Asked {
             start,

@@ -5,14 +5,14 @@ ghost use Rattle.nbd_lines.specs.CommandLine.{exit_status};
 ghost use Rattle.nbd_explain.specs.Answering as answering;
 ghost use Rattle.nbd_explain.specs.Ordering as ordering;
 
-use crate::asked::Asked;
+use crate::asked::{Asked, BadWord};
 use crate::files::{Output, explain_files, order_files, write_of};
 use crate::hints::{tell_of_capture, tell_of_fault};
 use crate::words::command;
 use clap::error::ErrorKind;
 use clap::{ArgMatches, Error};
 use nbd_explain::{Answer, Ordered, explain_status, order_status};
-use nbd_lines::{Files, RunFault, complain, exit_status, hint, tell};
+use nbd_lines::{Files, RunFault, complain, exit_status, tell};
 use nbd_tool::check_files;
 use std::{env, io};
 
@@ -58,11 +58,23 @@ fn words(rt: &HostRuntime) -> io::Result<Vec<String>> {
 
 fn run_matched(rt: &HostRuntime, matches: &ArgMatches<'_>) -> u8 {
     match matches.subcommand() {
-        Some((command, words)) => match Asked::of(words) {
-            Ok(asked) => run_asked(&mut Files::new(rt), command, &asked),
-            Err(fault) => complain(rt, fault, USAGE),
-        },
+        Some((command, words)) => {
+            let files = Files::new(rt, words.get_flag("hints"));
+            run_command(files, command, Asked::of(words))
+        }
         None => USAGE,
+    }
+}
+
+fn run_command(files: Files<'_>, command: &str, asked: Result<Asked<'_>, BadWord>) -> u8 {
+    let mut files = files;
+    match asked {
+        Ok(asked) => run_asked(&mut files, command, &asked),
+        Err(word) => {
+            tell(files.rt, word.fault);
+            files.hint(word.reason);
+            USAGE
+        }
     }
 }
 
@@ -86,7 +98,7 @@ fn ended(files: &Files<'_>, status: u8, fault: Option<&RunFault>, asked: &Asked<
         None => tell_of_capture(files.rt, asked.input, status == NO),
         Some(fault) => {
             files.say(fault);
-            tell_of_fault(files.rt, fault, asked);
+            tell_of_fault(files, fault, asked);
         }
     }
     status
@@ -112,7 +124,7 @@ fn checked(files: &Files<'_>, answer: &Result<bool, RunFault>, asked: &Asked<'_>
 {
     let status = reported(files, answer, asked);
     if matches!(answer, Ok(false)) {
-        hint(files.rt, "'nbdcheck explain' with the same words says why");
+        files.hint("'nbdcheck explain' with the same words says why");
     }
     status
 }
@@ -143,8 +155,7 @@ fn ordered(files: &Files<'_>, answer: &Result<Ordered, RunFault>, asked: &Asked<
 {
     let status = order_status(answer);
     if matches!(answer, Ok(Ordered::Refuted)) {
-        hint(
-            files.rt,
+        files.hint(
             "'nbdcheck explain' with the same words and no order says why, and of the profile base whether wide has an order",
         );
     }
@@ -174,7 +185,19 @@ fn show(files: &mut Files<'_>, asked: &Asked<'_>) -> u8 {
 /// `nbdcheck make SCRIPT`.
 fn make(files: &mut Files<'_>, asked: &Asked<'_>) -> u8 {
     let answer = write_of(files, asked.input, Output::Capture);
-    files.report(&answer)
+    made(files, &answer, asked)
+}
+
+/// Says what there is to say behind an answer of `make`, and answers the exit status.
+fn made(files: &Files<'_>, answer: &Result<bool, RunFault>, asked: &Asked<'_>) -> u8
+    ensures { result ≡ exit_status answer.now }
+{
+    let status = exit_status(answer);
+    if let Err(fault) = answer {
+        files.say(fault);
+        tell_of_fault(files, fault, asked);
+    }
+    status
 }
 
 /// Prints what clap has to say: help and the version on standard output, a mistake in the words on

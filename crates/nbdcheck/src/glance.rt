@@ -21,6 +21,14 @@ pub fn is_empty(rt: &HostRuntime, path: &str) -> bool {
     }
 }
 
+/// Whether a path names a directory.
+pub fn is_directory(rt: &HostRuntime, path: &str) -> bool {
+    match fs::metadata(rt, path) {
+        Ok(found) => found.is_dir(),
+        Err(_) => false,
+    }
+}
+
 /// Whether the client's first bytes in a capture are a server's.
 pub fn is_exchanged(rt: &HostRuntime, path: &str) -> bool {
     match reopened(rt, path) {

@@ -1,9 +1,9 @@
 //! What a person is told of an input beside the answer, on standard error: what the capture looks like, and what is wrong with a line.
 
 use crate::asked::Asked;
-use crate::glance::{is_answer, is_empty, is_exchanged, line_of};
-use crate::mistakes::{Mistake, capture_mistake, order_mistake};
-use nbd_lines::{RunFault, hint, tell, terminal};
+use crate::glance::{is_answer, is_directory, is_empty, is_exchanged, line_of};
+use crate::mistakes::{Mistake, capture_mistake, order_mistake, script_mistake};
+use nbd_lines::{Files, RunFault, StartWord, tell};
 
 /// Says that nothing was recorded, or, of a session that was refused, that its sides are exchanged, where that is so.
 pub fn tell_of_capture(rt: &HostRuntime, path: &str, is_refused: bool) {
@@ -17,44 +17,72 @@ pub fn tell_of_capture(rt: &HostRuntime, path: &str, is_refused: bool) {
     }
 }
 
-/// Says what is wrong with the line that a fault names, where there is one.
-pub fn tell_of_fault(rt: &HostRuntime, fault: &RunFault, asked: &Asked<'_>) {
+/// Says why an input could not be read, or what is wrong with the line that a fault names.
+pub fn tell_of_fault(files: &Files<'_>, fault: &RunFault, asked: &Asked<'_>) {
+    let order = asked.order.unwrap_or("");
     match fault {
+        RunFault::CaptureRead | RunFault::ScriptRead => hint_of_file(files, asked.input),
+        RunFault::OrderRead => hint_of_file(files, order),
+        RunFault::ImageRead => hint_of_file(files, image_in(asked.start)),
         RunFault::CaptureLine(number) => {
-            if let Some(line) = shown_line(rt, asked.input, *number) {
-                hint_at(rt, capture_mistake(&line));
+            if let Some(line) = shown_line(files, asked.input, *number) {
+                hint_at(files, capture_mistake(&line));
             }
         }
-        RunFault::OrderLine(number) => tell_of_order(rt, asked.order.unwrap_or(""), *number),
-        _ => {}
+        RunFault::OrderLine(number) => tell_of_order(files, order, *number),
+        RunFault::ScriptLine(number) => {
+            if let Some(line) = shown_line(files, asked.input, *number) {
+                hint_at(files, script_mistake(&line));
+            }
+        }
+        RunFault::Write | RunFault::Memory => {}
     }
 }
 
-// Says that an order is an answer that has none, and else, on a terminal, what is wrong with its line.
-fn tell_of_order(rt: &HostRuntime, path: &str, number: u64) {
-    if number == 1 && is_answer(rt, path) {
+// Says that a file is a directory, where it is.
+fn hint_of_file(files: &Files<'_>, path: &str) {
+    if is_directory(files.rt, path) {
+        if let Ok(text) = format!(in files.rt.alloc(); "{path}: it is a directory") {
+            files.hint(text);
+        }
+    }
+}
+
+fn image_in<'a>(start: StartWord<'a>) -> &'a str {
+    match start {
+        StartWord::Image(path) => path,
+        _ => "",
+    }
+}
+
+// Says that an order is an answer that has none, and else, where reasons are told, what is wrong with its line.
+fn tell_of_order(files: &Files<'_>, path: &str, number: u64) {
+    if number == 1 && is_answer(files.rt, path) {
         tell(
-            rt,
+            files.rt,
             "line 1 is no entry of an order but an answer: 'no' or 'gave up'",
         );
-    } else if let Some(line) = shown_line(rt, path, number) {
-        hint_at(rt, order_mistake(&line));
+    } else if let Some(line) = shown_line(files, path, number) {
+        hint_at(files, order_mistake(&line));
     }
 }
 
-// The line of a file, where standard error is a terminal.
-fn shown_line(rt: &HostRuntime, path: &str, number: u64) -> Option<Vec<u8>> {
-    terminal(rt)?;
-    line_of(rt, path, number)
+// The line of a file, where reasons are told.
+fn shown_line(files: &Files<'_>, path: &str, number: u64) -> Option<Vec<u8>> {
+    if files.are_hints_told() {
+        line_of(files.rt, path, number)
+    } else {
+        None
+    }
 }
 
-fn hint_at(rt: &HostRuntime, mistake: Mistake) {
+fn hint_at(files: &Files<'_>, mistake: Mistake) {
     match mistake {
         (words, Some(place)) => {
-            if let Ok(text) = format!(in rt.alloc(); "{words}, at byte {place} of the line") {
-                hint(rt, text);
+            if let Ok(text) = format!(in files.rt.alloc(); "{words}, at byte {place} of the line") {
+                files.hint(text);
             }
         }
-        (words, None) => hint(rt, words),
+        (words, None) => files.hint(words),
     }
 }

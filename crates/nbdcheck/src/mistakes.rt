@@ -3,6 +3,7 @@
 ghost use Rattle.std.specs.Prelude.{◌≡◌, ◌++◌, ◌∷◌, [], IfOk};
 ghost use Rattle.nbd_capture.specs.Lines.{line_feed};
 
+use nbd_lines::forms::{FORMS, Field, Form};
 use std::str;
 
 /// What is wrong with a line, and at which of its bytes, counted from 1, where it is one.
@@ -20,6 +21,14 @@ pub fn capture_mistake(line: &[u8]) -> Mistake {
 pub fn order_mistake(line: &[u8]) -> Mistake {
     match ended(line) {
         Ok(line) => entry_mistake(line),
+        Err(words) => (words, None),
+    }
+}
+
+/// What is wrong with a line of a script, whose line feed stands in it.
+pub fn script_mistake(line: &[u8]) -> Mistake {
+    match ended(line) {
+        Ok(line) => message_mistake(line),
         Err(words) => (words, None),
     }
 }
@@ -58,6 +67,66 @@ fn digits_mistake(digits: &[u8]) -> Mistake {
     }
 }
 
+fn message_mistake(line: &[u8]) -> Mistake {
+    for form in &FORMS {
+        match line.strip_prefix(form.words()) {
+            Some([]) => return fields_mistake(*form, &[]),
+            Some([b' ', fields @ ..]) => return fields_mistake(*form, fields),
+            _ => {}
+        }
+    }
+    (
+        "a line begins with the words of a message, as 'C request' or 'S simple'",
+        None,
+    )
+}
+
+// What is wrong with what stands behind the words of a message and a space: with its first bad field, or else with its payload.
+fn fields_mistake(form: Form, text: &[u8]) -> Mistake {
+    let mut rest = text.split(|byte| *byte == b' ');
+    let mut place = form.words().len() + 2;
+    for field in form.fields() {
+        let word = rest.next().unwrap_or(b"");
+        if let Some(words) = field_mistake(field, word) {
+            return (words, Some(place));
+        }
+        place = place.saturating_add(word.len()).saturating_add(1);
+    }
+    if form.has_payload() {
+        if let Some(words) = payload_mistake(rest.next().unwrap_or(b"")) {
+            return (words, Some(place));
+        }
+    }
+    match rest.next() {
+        Some(_) => ("behind the last field stands nothing", None),
+        None => ("no message has these numbers and this payload", None),
+    }
+}
+
+fn field_mistake(field: &Field, word: &[u8]) -> Option<&'static str> {
+    let digits = match word.strip_prefix(field.name.text()) {
+        Some([b'=', digits @ ..]) => digits,
+        _ => return Some("another field stands here in this message"),
+    };
+    if digits.is_empty() || !digits.iter().all(|byte| byte.is_ascii_digit()) {
+        return Some("behind = stands a decimal number");
+    }
+    match number_of(digits) {
+        Some(number) if number <= field.most => number_mistake(digits),
+        _ => Some("the number is greater than its field holds"),
+    }
+}
+
+fn payload_mistake(word: &[u8]) -> Option<&'static str> {
+    let Some(digits) = word.strip_prefix(b"payload=") else {
+        return Some("the last field of this message is payload=");
+    };
+    match digits_mistake(digits) {
+        (_, None) if digits.len() % 2 == 0 => None,
+        (words, _) => Some(words),
+    }
+}
+
 fn entry_mistake(line: &[u8]) -> Mistake {
     let other = line
         .iter()
@@ -83,15 +152,15 @@ fn number_mistake(digits: &[u8]) -> Option<&'static str> {
     match digits {
         [] => Some("one space stands between two numbers, and no other"),
         [b'0', _, ..] => Some("a number begins with a zero"),
-        _ if is_number(digits) => None,
+        _ if number_of(digits).is_some() => None,
         _ => Some("a number is too long: it is 2^64 or more"),
     }
 }
 
-// Whether digits are of a number below 2^64.
-fn is_number(digits: &[u8]) -> bool {
+// The number below 2^64 of these digits.
+fn number_of(digits: &[u8]) -> Option<u64> {
     match str::from_utf8(digits) {
-        Ok(text) => text.parse::<u64>().is_ok(),
-        Err(_) => false,
+        Ok(text) => text.parse().ok(),
+        Err(_) => None,
     }
 }

@@ -121,6 +121,13 @@ const NAMES: Word = Word {
     excludes: &[],
 };
 
+const HINTS: Word = Word {
+    name: "hints",
+    form: Form::Flag,
+    help: "Says on standard error what it says on a terminal: why an input could not be read, what is wrong with a line",
+    excludes: &[],
+};
+
 const SCRIPT: Word = Word {
     name: "SCRIPT",
     form: Form::File { is_required: true },
@@ -133,31 +140,33 @@ const COMMANDS: &[Told] = &[
         name: "check",
         about: "Did both ends keep the protocol, and did every read return the right bytes?",
         help: CHECK_HELP,
-        words: &[CAPTURE, ORDER, START, PROFILE],
+        words: &[CAPTURE, ORDER, START, PROFILE, HINTS],
     },
     Told {
         name: "explain",
         about: "Why is the answer no?",
         help: EXPLAIN_HELP,
-        words: &[CAPTURE, ORDER_IF_ANY, START, PROFILE, STATES, STEPS],
+        words: &[CAPTURE, ORDER_IF_ANY, START, PROFILE, STATES, STEPS, HINTS],
     },
     Told {
         name: "order",
         about: "Finds an order of service that explains a capture",
         help: ORDER_HELP,
-        words: &[CAPTURE, START, PROFILE, WHOLE, ARRIVAL, STATES, STEPS],
+        words: &[
+            CAPTURE, START, PROFILE, WHOLE, ARRIVAL, STATES, STEPS, HINTS,
+        ],
     },
     Told {
         name: "show",
         about: "Which messages does a capture hold?",
         help: SHOW_HELP,
-        words: &[CAPTURE, NAMES, PROFILE],
+        words: &[CAPTURE, NAMES, PROFILE, HINTS],
     },
     Told {
         name: "make",
         about: "Makes a capture of the messages of a script",
         help: MAKE_HELP,
-        words: &[SCRIPT],
+        words: &[SCRIPT, HINTS],
     },
 ];
 

@@ -7,7 +7,7 @@ ghost use Rattle.nbd_lines.specs.CommandLine.{exit_status};
 #[cfg(test)]
 mod tests;
 
-use nbd_lines::{Files, RunFault, StartWord, complain, hint, start_of};
+use nbd_lines::{Files, RunFault, StartWord, complain, start_of};
 use nbd_tool::check_files;
 use nbd_wire::Profile;
 use std::process::ExitCode;
@@ -49,7 +49,7 @@ fn run_words(rt: &HostRuntime, words: &[String]) -> u8 {
 }
 
 fn check(rt: &HostRuntime, capture: &str, order: &str, start: StartWord<'_>) -> u8 {
-    let mut files = Files::new(rt);
+    let mut files = Files::new(rt, false);
     let answer = check_files(&mut files, Profile::Base, capture, order, start);
     checked(&files, &answer)
 }
@@ -60,7 +60,7 @@ fn checked(files: &Files<'_>, answer: &Result<bool, RunFault>) -> u8
 {
     let status = files.report(answer);
     if matches!(answer, Ok(false)) {
-        hint(files.rt, "'nbdcheck explain' with the same words says why");
+        files.hint("'nbdcheck explain' with the same words says why");
     }
     status
 }

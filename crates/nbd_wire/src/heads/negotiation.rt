@@ -8,7 +8,7 @@ use crate::magics::{ANSWER_MAGIC, GREETING_MAGIC, OPTION_MAGIC};
 use crate::numbers::{u16_at, u32_at, u64_at};
 
 /// The head of a client's option (proto.md, "Newstyle negotiation").
-#[derive(Clone, Copy, PartialEq, Eq, Drop)]
+#[derive(Clone, Copy, Drop)]
 pub struct ChoiceHead {
     /// The option's number, as in the module `options`.
     pub id: u32,
@@ -17,7 +17,7 @@ pub struct ChoiceHead {
 }
 
 /// The head of a server's answer to an option (proto.md, "Fixed newstyle negotiation").
-#[derive(Clone, Copy, PartialEq, Eq, Drop)]
+#[derive(Clone, Copy, Drop)]
 pub struct AnswerHead {
     /// The number of the option that is answered.
     pub option: u32,

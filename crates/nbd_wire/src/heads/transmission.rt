@@ -10,7 +10,7 @@ use crate::magics::{
 use crate::numbers::{u16_at, u32_at, u64_at};
 
 /// The head of a request, with an extended header or not (proto.md, "Request message", "Reserved Magic values").
-#[derive(Clone, Copy, PartialEq, Eq, Drop)]
+#[derive(Clone, Copy, Drop)]
 pub struct RequestHead {
     /// It is an extended header.
     pub extended: bool,
@@ -27,7 +27,7 @@ pub struct RequestHead {
 }
 
 /// The head of a simple reply (proto.md, "Simple reply message").
-#[derive(Clone, Copy, PartialEq, Eq, Drop)]
+#[derive(Clone, Copy, Drop)]
 pub struct SimpleHead {
     /// 0 for success, any other number for a failure.
     pub error: u32,
@@ -37,7 +37,7 @@ pub struct SimpleHead {
 
 /// The head of a chunk of a structured reply, with an extended header or not (proto.md, "Structured reply chunk message", "Reserved
 /// Magic values").
-#[derive(Clone, Copy, PartialEq, Eq, Drop)]
+#[derive(Clone, Copy, Drop)]
 pub struct ChunkHead {
     /// In an extended header the offset of the request that is answered; None in another one.
     pub at: Option<u64>,

@@ -49,56 +49,70 @@ fn records(alloc: Global) -> Result<Vec<(Side, Vec<u8>)>, Fail> {
     Ok(records)
 }
 
-/// A yes of one request.
-const YES: Verdict = Verdict::Yes {
-    requests: 1,
-    answered: 1,
-    improper: 0,
-};
+/// Whether it is a yes of one request.
+fn is_yes(verdict: Option<Verdict>) -> bool {
+    matches!(
+        verdict,
+        Some(Verdict::Yes {
+            requests: 1,
+            answered: 1,
+            improper: 0,
+        })
+    )
+}
 
-/// The READ's byte is wrong.
-const WRONG: Verdict = Verdict::Content {
-    request: 1,
-    offset: 0,
-};
+/// Whether it says that the READ's byte is wrong.
+fn is_wrong(verdict: Option<Verdict>) -> bool {
+    matches!(
+        verdict,
+        Some(Verdict::Content {
+            request: 1,
+            offset: 0,
+        })
+    )
+}
 
-/// The READ is answered and not served.
-const MISSING: Verdict = Verdict::Order {
-    entry: 1,
-    fault: OrderFault::Missing,
-};
+/// Whether it says that the READ is answered and not served.
+fn is_missing(verdict: Option<Verdict>) -> bool {
+    matches!(
+        verdict,
+        Some(Verdict::Order {
+            entry: 1,
+            fault: OrderFault::Missing,
+        })
+    )
+}
 
 #[test]
 fn records_are_checked(rt: HostRuntime) -> Result<(), Fail> {
     let records = records(rt.alloc())?;
     assert!(rt;
-        is_checked(rt.alloc(), &records, &[ONE], Start::Unknown, &YES)?
-            && is_checked(rt.alloc(), &records, &[ONE], Start::Zeroes, &WRONG)?
-            && is_checked(rt.alloc(), &records, &[], Start::Unknown, &MISSING)?
+        is_yes(checked(rt.alloc(), &records, &[ONE], Start::Unknown)?)
+            && is_wrong(checked(rt.alloc(), &records, &[ONE], Start::Zeroes)?)
+            && is_missing(checked(rt.alloc(), &records, &[], Start::Unknown)?)
     );
     Ok(())
 }
 
-/// Whether `check` has this verdict on records.
-fn is_checked(
+/// The verdict of `check` on records, if their bytes can be counted.
+fn checked(
     alloc: Global,
     records: &[(Side, Vec<u8>)],
     order: &[Entry],
     start: Start,
-    wanted: &Verdict,
-) -> Result<bool, AllocError> {
+) -> Result<Option<Verdict>, AllocError> {
     if !are_countable(records) {
-        return Ok(false);
+        return Ok(None);
     }
-    Ok(check(alloc, records, order, start)? == *wanted)
+    Ok(Some(check(alloc, records, order, start)?))
 }
 
 #[test]
 fn a_transcript_is_judged_over_contents(rt: HostRuntime) -> Result<(), Fail> {
     let transcript = transcript(rt.alloc())?.expect(&rt, "a whole session");
     assert!(rt;
-        is_judged(rt.alloc(), &transcript, Start::Unknown, &YES)?
-            && is_judged(rt.alloc(), &transcript, Start::Zeroes, &WRONG)?
+        is_yes(judged(rt.alloc(), &transcript, Start::Unknown)?)
+            && is_wrong(judged(rt.alloc(), &transcript, Start::Zeroes)?)
     );
     Ok(())
 }
@@ -124,20 +138,19 @@ fn are_taken(records: &[(Side, Vec<u8>)], session: &mut Session) -> bool {
     true
 }
 
-/// Whether `judge` has this verdict where the order serves the first request alone.
-fn is_judged(
+/// The verdict of `judge` where the order serves the first request alone, if the session has an export.
+fn judged(
     alloc: Global,
     transcript: &Transcript,
     start: Start,
-    wanted: &Verdict,
-) -> Result<bool, AllocError>
+) -> Result<Option<Verdict>, AllocError>
     requires no_image { (size : ℕ) → FitsSize size start }
 {
     match transcript.export() {
         Some((size, _)) => {
             let mut contents = Extents::new(alloc, size, start)?;
-            Ok(judge(alloc, Profile::Base, transcript, &[ONE], &mut contents)? == *wanted)
+            Ok(Some(judge(alloc, Profile::Base, transcript, &[ONE], &mut contents)?))
         }
-        _ => Ok(false),
+        _ => Ok(None),
     }
 }

@@ -19,6 +19,7 @@ use Rattle.nbd_laws.proofs.runs.RunLemmas.{walk_of}
 use Rattle.nbd_laws.proofs.worked.SessionLemmas.{gone, greeted, sends}
 use Rattle.nbd_laws.proofs.reading.TwinLemmas.{opens, goes_on, ends, next}
 use Rattle.nbd_laws.proofs.worked.AnswerLemmas.{computing}
+use Rattle.nbd_laws.proofs.examples.unexplained.Goals as goal
 
 opening_items : List Item
 opening_items = sends (greeted ++ gone)
@@ -27,17 +28,17 @@ opening_run : IsRunOf Base opening_items
 unfolding opening_items computing
 opening_run = is_run opening_items refl refl refl refl
 
-pub wrong_image : (bytes : List ℕ) → length bytes ≡ 9 → IsNo (flat captures.opening) [] (Image bytes)
+pub returns-clause-wrong_image : goal.returns-clause-wrong_image
 unfolding opening_items computing
-wrong_image bytes e = failing_is_no opening_items (flat captures.opening) [] (Image bytes) opening_run refl (λ p. (let q : length bytes ≡ 8 = p.fits_image in absurd (omega arith)))
+returns-clause-wrong_image c bytes e = failing_is_no opening_items (flat captures.opening) [] (Image bytes) opening_run refl (λ p. (let q : length bytes ≡ 8 = p.fits_image in absurd (omega arith)))
 
 -- whatever the capture, no run serves a request twice
-pub named_twice : (capture : List Pair) (initial : Start) → IsNo capture (whole 1 ∷ whole 1 ∷ []) initial
-named_twice capture initial x =
+pub returns-clause-named_twice : goal.returns-clause-named_twice
+returns-clause-named_twice c capture initial x =
     let o : IsFaultless Base (report x.items) (whole 1 ∷ whole 1 ∷ []) = subst (IsFaultless Base (report x.items)) x.has_order (orders_are_faultless Base x.items x.is_run) in
     o.none_bad 1 (inr (inl (whole 1, refl, inl refl)))
 
 -- no run begins with a byte of the client
-pub hasty_client : (order : List Entry) (initial : Start) → IsNo (flat captures.hasty_client) order initial
+pub returns-clause-hasty_client : goal.returns-clause-hasty_client
 unfolding MayStartIn
-hasty_client order initial x = grind (arith, next, walk_unserved, walk_of, is_run, bare, pairs_unserved, follows_unserved, follows, opens, goes_on, ends)
+returns-clause-hasty_client c order initial x = grind (arith, next, walk_unserved, walk_of, is_run, bare, pairs_unserved, follows_unserved, follows, opens, goes_on, ends)

@@ -1,14 +1,14 @@
 //! The rules that a session or an order can break, each in a sentence.
 
 ghost use Rattle.std.specs.Prelude.{◌≡◌};
-ghost use Rattle.nbd_judge.specs.Breakers.{breaker_of};
-ghost use Rattle.nbd_judge.specs.declared.rules.Breaker.TheVariants.{Order};
+ghost use Rattle.nbd_story.specs.Breakers.{breaker_of};
+ghost use Rattle.nbd_story.specs.declared.rules.Breaker.TheVariants.{Order};
 
-use crate::verdict::OrderFault;
+use nbd_judge::OrderFault;
 use nbd_wire::WireFault;
 
 /// Who broke a rule.
-#[derive(Clone, Copy, PartialEq, Eq, Drop)]
+#[derive(Clone, Copy, Drop)]
 pub enum Breaker {
     Client,
     Server,
