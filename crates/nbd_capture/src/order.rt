@@ -16,7 +16,7 @@ use std::alloc::{AllocFailed, Global};
 use thiserror::Error;
 
 /// Why an order text gave no entries. Nothing is kept of a text after a fault.
-#[derive(Clone, Copy, Debug, PartialEq, Eq, Drop, Error)]
+#[derive(Clone, Copy, Debug, Drop, Error)]
 pub enum OrderTextFault {
     /// The line with this number, from 1, is the first bad one: it is malformed, or no LF follows it.
     #[error("order line {0}")]

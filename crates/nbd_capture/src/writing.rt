@@ -11,7 +11,7 @@ use std::io::Write;
 use thiserror::Error;
 
 /// A `write` failed, which an interruption is too, or took no byte.
-#[derive(Clone, Copy, Debug, PartialEq, Eq, Drop, Error)]
+#[derive(Clone, Copy, Debug, Drop, Error)]
 #[error("write")]
 pub struct WriteFault;
 

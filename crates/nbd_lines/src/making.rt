@@ -10,7 +10,7 @@ use std::io;
 use thiserror::Error;
 
 /// Why a script was not made into a capture.
-#[derive(Clone, Copy, Debug, PartialEq, Eq, Drop, Error)]
+#[derive(Clone, Copy, Debug, Drop, Error)]
 pub enum MakeFault {
     /// The line with this number, from 1, is the script's first bad one. Nothing was written.
     #[error("script line {0}")]

@@ -16,7 +16,7 @@ use std::io;
 use thiserror::Error;
 
 /// Why not all of an output was written.
-#[derive(Clone, Copy, Debug, PartialEq, Eq, Drop, Error)]
+#[derive(Clone, Copy, Debug, Drop, Error)]
 pub enum OutputFault {
     /// The writer failed, or took no byte.
     #[error("write")]

@@ -14,7 +14,7 @@ use std::alloc::{AllocError, AllocFailed, Global};
 use thiserror::Error;
 
 /// Why a script gave no messages. Nothing is kept of a text after a fault.
-#[derive(Clone, Copy, Debug, PartialEq, Eq, Drop, Error)]
+#[derive(Clone, Copy, Debug, Drop, Error)]
 pub enum ScriptFault {
     /// The line with this number, from 1, is the first bad one: it is malformed, its message has no encoding,
     /// or no LF stands after it.

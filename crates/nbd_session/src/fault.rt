@@ -4,7 +4,7 @@ use nbd_wire::WireFault;
 use std::alloc::AllocError;
 
 /// Why a session was closed.
-#[derive(Clone, Copy, Debug, PartialEq, Eq, Drop)]
+#[derive(Clone, Copy, Drop)]
 pub enum SessionFault {
     /// The bytes break a rule; `at` counts the capture's bytes, of both sides, up to and including the
     /// one at which that was found.

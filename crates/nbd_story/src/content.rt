@@ -156,8 +156,10 @@ impl Text {
         let text = self.byte("expected: {:02x}", byte);
         match (sources.order.get(held.place), held.origin) {
             (Some(entry), _) => text.served(", by ", held.place, entry, sources.story),
-            (None, Origin::Zeroes) => text.say(", since the export began with zeroes\n"),
-            (None, _) => text.say(", of the image\n"),
+            (None, Origin::Zeroes) => text
+                .say(", since the export began with zeroes\n")
+                .doubted_start(),
+            (None, _) => text.say(", of the image\n").doubted_start(),
         }
     }
 }

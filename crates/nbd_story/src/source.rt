@@ -88,7 +88,8 @@ impl Text {
         if count == 0 {
             text = text
                 .the("not from: no change of this offset came before ", &got.read)
-                .say(" was answered\n");
+                .say(" was answered\n")
+                .doubted_start();
         }
         text.more(
             count,

@@ -33,6 +33,13 @@ impl Text {
         self.say("assumes: the start is right, this is the only connection\n")
     }
 
+    /// Adds that the start may not be the one that was named, where no change of the session comes before what was read.
+    pub fn doubted_start(self) -> Text {
+        self.say(
+            "perhaps: the start was another, as where an earlier session had changed the export\n",
+        )
+    }
+
     /// Adds that an order explains the session in the profile `Wide`.
     pub fn explained_in_wide(self) -> Text {
         self.say(

@@ -2,7 +2,7 @@
 //! answered.
 
 /// A rule that the recorded bytes break.
-#[derive(Clone, Copy, Debug, PartialEq, Eq, Drop)]
+#[derive(Clone, Copy, Drop)]
 pub enum WireFault {
     /// A message begins with a wrong number.
     BadMagic,

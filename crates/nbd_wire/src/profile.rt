@@ -7,7 +7,7 @@ ghost use Rattle.nbd_wire.specs.protocol.Operations.{is_chunked};
 use crate::commands::READ;
 
 /// A profile of the protocol.
-#[derive(Clone, Copy, Debug, PartialEq, Eq, Drop)]
+#[derive(Clone, Copy, PartialEq, Eq, Drop)]
 pub enum Profile {
     /// What docs/PROFILE.md says.
     Base,
