@@ -82,7 +82,7 @@ const PROFILE: Word = Word {
         value: "PROFILE",
         usual: USUAL_PROFILE,
     },
-    help: "What the session is held to: base, or wide, which also knows metadata contexts, block sizes and READs that are served by chunk",
+    help: "What the session is held to: base, or wide, which also knows metadata contexts, block sizes, extended headers, error chunks of other types and READs that are served by chunk",
     excludes: &[],
 };
 
