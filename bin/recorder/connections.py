@@ -7,10 +7,11 @@ import selectors
 import socket
 import time
 
-from .captures import CLIENT, SERVER, Capture, Requests
+from .captures import CLIENT, SERVER, Capture
 from .endings import NAMES, Ending
 from .refusals import Refusals, unsupported
 from .replies import Replies
+from .requests import Requests
 from .room import reason_of
 
 READ, WRITE = selectors.EVENT_READ, selectors.EVENT_WRITE

@@ -7,7 +7,7 @@ import xml.etree.ElementTree as xml
 
 from .answers import NO, NOT_JUDGED, STRICT, YES
 from .captures import CLIENT, SERVER
-from .judging import ALONE, APART, COMPARED, EMPTY, UNASKED, counts_of
+from .judging import COMPARED, EMPTY, UNASKED, UNCOMPARED, counts_of
 from .room import reason_of
 
 # What XML cannot say.
@@ -50,8 +50,10 @@ def said_of(judged, is_one):
     held, line, more = judged.held, judged.line, judged.more
     if judged.kind == UNASKED:
         return [listed(held), *refused_lines(held), *ending_lines(held)] if held.capture is not None else []
-    if more == [APART]:
-        line, more = f"{line}, {APART}", []
+    if judged.apart.reason is not None:
+        line, more = f"{line}, {judged.apart.line()}", []
+    elif judged.is_alone():
+        line = f"{line}, compared alone"
     first = line if is_one else f"connection {held.number}: {line}"
     return [first, *more, *strict_lines(judged), *refused_lines(held), *ending_lines(held)]
 
@@ -64,8 +66,9 @@ def as_json(judged, kept, name):
     is_kept = held.capture is not None and held in kept
     return json.dumps({
         "name": name, "connection": held.number, "capture": held.capture.path if is_kept else None, "verdict": judged.line or None,
-        "result": judged.kind, "status": judged.status, "judged": judged.kind in (COMPARED, ALONE),
-        "compared": judged.kind == COMPARED, "requests": requests_of(held), "answered": answered, "improper": improper,
+        "result": judged.kind, "status": judged.status, "judged": judged.kind in (COMPARED, UNCOMPARED),
+        "compared": judged.kind == COMPARED, "alone": judged.is_alone(), "meeting": judged.apart.meeting_as_json(),
+        "requests": requests_of(held), "answered": answered, "improper": improper,
         "client_bytes": client, "server_bytes": server, "seconds": round(held.seconds, 3),
         "ended": held.ending.as_json(), "strict": judged.doubts, "text": judged.more, "fault": held.fault,
         "refused": held.refusals.names(),

@@ -21,6 +21,9 @@ MIB = 2**20
 GOOD = begun() + [write(1, 1, b"ab"), simple(1), read(2, 0, 4), simple(2, b"\0ab\0")]
 # The answer of a session without a request.
 NONE = "yes requests 0 answered 0 improper 0"
+# Why contents are not compared of the first and of the second of two connections that play GOOD.
+MEET = {number: f"contents not compared: request 1, a WRITE, meets request 1 of connection {3 - number}, a WRITE, at offset 1"
+        for number in (1, 2)}
 
 # A client: it plays its part of the session of a file, and ends with a status.
 PLAYER = """
