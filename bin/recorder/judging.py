@@ -70,11 +70,11 @@ class Judge:
     def _ask(self, held, compares):
         """Whether the order that is given, that of arrival or some order explains the session, or whether it kept the protocol."""
         if not compares:
-            return self.nbdcheck.protocol(held.capture.path)
+            return self.nbdcheck.protocol(held.path)
         order = None if self.connections.has_others() and held.requests.is_none() else self.words.order
         if order is None and self.words.arrival:
-            return self.nbdcheck.explain_arrival(held.capture.path, self.recording.room.path("order"))
-        return self.nbdcheck.explain(held.capture.path, order)
+            return self.nbdcheck.explain_arrival(held.path, self.recording.room.path("order"))
+        return self.nbdcheck.explain(held.path, order)
 
     def _answered(self, held):
         apart = self.connections.apart(held)

@@ -16,7 +16,7 @@ UNSAYABLE = re.compile("[^\t\n\r -\ud7ff\ue000-\ufffd\U00010000-\U0010ffff]")
 
 def bytes_of(held):
     """How many bytes of each side were written down."""
-    return tuple(held.flows[side].count if held.flows else 0 for side in (CLIENT, SERVER))
+    return held.counts[CLIENT], held.counts[SERVER]
 
 
 def requests_of(held):
@@ -28,12 +28,12 @@ def listed(held):
     """What was recorded of a connection."""
     requests, (client, server) = requests_of(held), bytes_of(held)
     told = "unknown" if requests is None else requests
-    return f"{held.capture.path}: requests {told}, bytes {client} of the client, {server} of the server"
+    return f"{held.path}: requests {told}, bytes {client} of the client, {server} of the server"
 
 
 def ending_lines(held):
     """How a connection ended, where that was not as usual."""
-    return [] if held.fault is not None or not held.flows or held.ending.is_usual() else [held.ending.line()]
+    return [] if held.fault is not None or not held.has_begun or held.ending.is_usual() else [held.ending.line()]
 
 
 def refused_lines(held):
@@ -49,7 +49,7 @@ def said_of(judged, is_one):
     """The lines of a connection: one where all is well."""
     held, line, more = judged.held, judged.line, judged.more
     if judged.kind == UNASKED:
-        return [listed(held), *refused_lines(held), *ending_lines(held)] if held.capture is not None else []
+        return [listed(held), *refused_lines(held), *ending_lines(held)] if held.path is not None else []
     if judged.apart.reason is not None:
         line, more = f"{line}, {judged.apart.line()}", []
     elif judged.is_alone():
@@ -63,9 +63,9 @@ def as_json(judged, kept, name):
     held = judged.held
     client, server = bytes_of(held)
     _, answered, improper = counts_of(judged.line) or (None, None, None)
-    is_kept = held.capture is not None and held in kept
+    is_kept = held.path is not None and held in kept
     return json.dumps({
-        "name": name, "connection": held.number, "capture": held.capture.path if is_kept else None, "verdict": judged.line or None,
+        "name": name, "connection": held.number, "capture": held.path if is_kept else None, "verdict": judged.line or None,
         "result": judged.kind, "status": judged.status, "judged": judged.kind in (COMPARED, UNCOMPARED),
         "compared": judged.kind == COMPARED, "alone": judged.is_alone(), "meeting": judged.apart.meeting_as_json(),
         "requests": requests_of(held), "answered": answered, "improper": improper,
@@ -107,7 +107,7 @@ def as_junit(judged, kept, troubles, name):
     for each in judged:
         lines = said_of(each, True)
         if each.held in kept:
-            lines.append(f"kept {each.held.capture.path}")
+            lines.append(f"kept {each.held.path}")
         found.append(add_case(suite, f"connection {each.held.number}", each.held.seconds, outcome(each), lines))
     found += [add_case(suite, who, 0, ("error", line), [line]) for who, line, _ in troubles]
     for kind, plural in (("failure", "failures"), ("error", "errors"), ("skipped", "skipped")):

@@ -9,6 +9,7 @@ LENGTH_SIZE, LONGEST_NAME = 4, 4096
 # The heads of requests by their magic numbers, the second that of an extended one: flags, type, cookie, offset, length.
 HEADS = {bytes.fromhex("25609513"): struct.Struct(">4xHH8sQI"), bytes.fromhex("21e41c71"): struct.Struct(">4xHH8sQQ")}
 EXTENDED_SIZE = 32
+FORMS = {form.size: form for form in HEADS.values()}
 READ, WRITE, DISC, FLUSH, TRIM, CACHE, WRITE_ZEROES, BLOCK_STATUS = range(8)
 # The flag of a request with an extended head that says that a payload follows.
 PAYLOAD_LEN = 1 << 5
@@ -26,8 +27,8 @@ class Requests:
         self.flags, self.has_named, self.has_left = 0, False, False
         # By their cookies the requests that began and have no whole reply: the number, and how many bytes a READ wants.
         self.waiting = {}
-        # The heads of the requests but DISC, also of one that has not come as a whole, and the form that all of them have.
-        self.heads, self.form = bytearray(), None
+        # The heads of the requests but DISC, also of one that has not come as a whole; all are as long as the first.
+        self.heads = bytearray()
         # The name of the export that was asked for last, or None.
         self.name = None
         self._head, self._size = b"", FLAGS_SIZE
@@ -45,11 +46,11 @@ class Requests:
 
     def all(self):
         """The flags, type, cookie, offset and length of each request but DISC that began."""
-        return () if self.form is None else self.form.iter_unpack(self.heads)
+        return FORMS[self._size].iter_unpack(self.heads) if self.heads else ()
 
     def is_extended(self):
         """Whether requests have extended heads."""
-        return self.form is not None and self.form.size == EXTENDED_SIZE
+        return self._size == EXTENDED_SIZE
 
     def outstanding(self):
         """How many requests are whole and have no whole reply."""
@@ -75,11 +76,11 @@ class Requests:
                     self._keep(piece[at : at + step], step == self._rest)
                 self._rest -= step
             else:
-                part = piece[at : at + self._size - len(self._head)]
-                step = len(part)
-                self._head += part
-                if len(self._head) == self._size:
-                    self._begin(self._head)
+                head = self._head + piece[at : at + self._size - len(self._head)]
+                step = len(head) - len(self._head)
+                self._head = head
+                if len(head) == self._size:
+                    self._begin(head)
             at += step
             if not self._rest:
                 self.count, self._adds = self.count + self._adds, 0
@@ -95,13 +96,12 @@ class Requests:
     def _begin(self, head):
         """The head of a message is whole: what follows it?"""
         self._head = b""
-        if self.form is not None:
+        if self._size in FORMS:
             self._begin_request(head)
         elif self._size == FLAGS_SIZE:
             self._size, self.flags = OPTION_SIZE, int.from_bytes(head, "big")
         elif head[:4] in HEADS:
-            self.form, self._head = HEADS[head[:4]], head
-            self._size = self.form.size
+            self._size, self._head = HEADS[head[:4]].size, head
         elif head.startswith(OPTION):
             self._begin_option(*struct.unpack(">II", head[8:]))
         else:
@@ -114,10 +114,11 @@ class Requests:
             self.name, self._option, self._kept = b"", option, bytearray() if length else None
 
     def _begin_request(self, head):
-        if HEADS.get(head[:4]) is not self.form:
+        form = HEADS.get(head[:4])
+        if form is not FORMS[self._size]:
             self.is_sure = False
             return
-        flags, kind, cookie, _, length = self.form.unpack(head)
+        flags, kind, cookie, _, length = form.unpack(head)
         has_payload = kind == WRITE or flags & PAYLOAD_LEN and self.is_extended()
         self._rest = length if has_payload else 0
         if kind == DISC:

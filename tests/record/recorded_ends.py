@@ -69,6 +69,16 @@ class Tool:
             self.process.kill()
         self.process.communicate()
 
+    def all(self):
+        """Its processes: the one that was run is the last."""
+        pid = self.process.pid
+        return [int(lane) for lane in Path(f"/proc/{pid}/task/{pid}/children").read_text().split()] + [pid]
+
+    def signal(self, number):
+        """Sends a signal to all of its processes."""
+        for pid in self.all():
+            os.kill(pid, number)
+
     def end(self, number=None):
         """Its status, standard output and standard error, after this signal."""
         if number is not None:

@@ -141,9 +141,11 @@ def connections(tally, folder):
         status, out, err = ends.interrupt()
         tally.want("a server that refuses", (status, out, os.path.exists(ends.capture())), (3, "", False))
         said(tally, "a server that refuses", err, f"connection 1: cannot connect to {ends.there}: Connection refused")
-    with Ends(folder, "many", limits={resource.RLIMIT_NOFILE: 13}) as ends:
+    # Enough for the process that listens, and for three connections of each one that relays.
+    with Ends(folder, "many", limits={resource.RLIMIT_NOFILE: 16}) as ends:
+        ends.listener.listen(32)
         client, server = ends.both()
-        others = [ends.connect() for _ in range(3)]
+        others = [ends.connect() for _ in range(16)]
         client.sendall(b"still")
         tally.want("few descriptors: the first goes on", all_of(server, 5), b"still")
         client.close(), server.close()
