@@ -11,6 +11,7 @@ from .captures import CLIENT, SERVER, Capture
 from .endings import NAMES
 from .refusals import unsupported
 from .room import reason_of
+from .tls import Refused, Upgrade
 
 READ, WRITE = selectors.EVENT_READ, selectors.EVENT_WRITE
 # The most bytes that are taken at once, so that heads go along with 64 KiB: larger pieces are slower. One is held for each direction,
@@ -29,10 +30,12 @@ class Flow:
         self.held = b""
         # Whether more may come, and whether all that came was forwarded with its end, or the target has gone.
         self.is_open, self.is_ended = True, False
+        # How many bytes are taken at once.
+        self.most = LARGEST
 
     def is_ready(self):
         """Whether more is taken: where what came before was forwarded."""
-        return self.is_open and not self.held
+        return self.is_open and not self.held and self.most > 0
 
     def forward(self):
         """Hands on what is held, as far as the target takes it, and then the end; the error where the target has gone."""
@@ -82,6 +85,8 @@ class Connection:
         self.lane, self.recorded, self.client, self.server = lane, recorded, client, None
         self.places = list(lane.plan.places)
         self.capture, self.flows = None, {}
+        # The way to TLS, up to its end.
+        self.upgrade = None
         self.begun = time.monotonic()
         # The events that each end is watched for.
         self.is_closed, self.watched = False, {}
@@ -127,11 +132,22 @@ class Connection:
         except OSError as error:
             return self.fail(f"cannot write {path}: {reason_of(error)}")
         self.recorded.path, self.recorded.has_begun = path, True
-        self.flows = {CLIENT: Flow(CLIENT, self.client, self.server), SERVER: Flow(SERVER, self.server, self.client)}
         for each in (self.client, self.server):
             if each.family != socket.AF_UNIX:
                 send_at_once(each)
+        self.begin_flows()
+        if self.lane.plan.tls is not None:
+            self.upgrade = Upgrade(self.server, self.lane.plan.tls)
+            self.limit_flows()
         return self.watch_both()
+
+    def begin_flows(self):
+        self.flows = {CLIENT: Flow(CLIENT, self.client, self.server), SERVER: Flow(SERVER, self.server, self.client)}
+
+    def limit_flows(self):
+        """Takes no more of each side than passes in front of TLS."""
+        for side, flow in self.flows.items():
+            flow.most = self.upgrade.most(side)
 
     def ready(self, which, mask):
         """This end takes more, or more has come from it."""
@@ -139,6 +155,9 @@ class Connection:
             return
         if not self.flows:
             self.connected()
+            return
+        if self.upgrade is not None and self.upgrade.is_under_way():
+            self.go_on()
             return
         ours, other = (CLIENT, SERVER) if which is self.client else (SERVER, CLIENT)
         if mask & WRITE:
@@ -149,8 +168,27 @@ class Connection:
             return
         if all(flow.is_ended for flow in self.flows.values()):
             self.close()
+        elif self.upgrade is not None and self.upgrade.is_under_way():
+            self.go_on()
         else:
             self.watch_both()
+
+    def go_on(self):
+        """Goes on with the negotiation of TLS, while nothing passes; then the server is spoken to by it."""
+        try:
+            is_there = self.upgrade.turn()
+        except Refused as reason:
+            self.fail(str(reason))
+            return
+        if not is_there:
+            self.watch(self.client, 0)
+            self.watch(self.server, READ | (WRITE if self.upgrade.is_sending() else 0))
+            return
+        self.watch(self.server, 0)
+        self.server, self.upgrade = self.upgrade.end, None
+        self.recorded.tls = self.server.version()
+        self.begin_flows()
+        self.watch_both()
 
     def forward(self, flow):
         error = flow.forward()
@@ -171,7 +209,7 @@ class Connection:
     def take(self, flow):
         """Writes down what has come, and then forwards it; how many bytes there were."""
         try:
-            piece = flow.source.recv(LARGEST)
+            piece = flow.source.recv(flow.most)
         except BlockingIOError:
             return 0
         except OSError as error:
@@ -185,7 +223,18 @@ class Connection:
             if flow.side == CLIENT and self.lane.plan.refused and not self.refuse(flow, piece):
                 return 0
             self.forward(flow)
+            if self.upgrade is not None:
+                self.note_upgrade(flow, piece)
         return len(piece)
+
+    def note_upgrade(self, flow, piece):
+        """What passes in front of TLS is looked at."""
+        try:
+            self.upgrade.passed(flow.side, piece)
+        except Refused as reason:
+            self.fail(str(reason))
+            return
+        self.limit_flows()
 
     def ended(self, flow, is_reset):
         """A direction has ended."""

@@ -24,8 +24,8 @@ AGAIN = 0.05
 SHOWN = struct.Struct("QQQ?d")
 
 # What each connection is relayed by: the server's name and its addresses, the numbers of the options that are refused in its place,
-# and the path of a connection's capture by its number.
-Plan = namedtuple("Plan", "target places refused path_of")
+# what TLS to it needs, or None, and the path of a connection's capture by its number.
+Plan = namedtuple("Plan", "target places refused tls path_of")
 # What a lane says: a line that is to be told, a connection that has ended, or that memory was refused.
 TELLS, ENDED, NO_MEMORY = "tells", "ended", "no memory"
 

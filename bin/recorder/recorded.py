@@ -20,8 +20,8 @@ class Recorded:
         self.replies = Replies(self.requests)
         self.refusals = Refusals(refused)
         self.ending = Ending(self.requests, self.replies)
-        # How many seconds it took, and why the recording is not whole.
-        self.seconds, self.fault = 0.0, None
+        # How many seconds it took, the version of TLS to the server, or None, and why the recording is not whole.
+        self.seconds, self.tls, self.fault = 0.0, None, None
 
     def note(self, side, piece):
         """Counts a piece that was written down."""

@@ -11,6 +11,7 @@ from .output import begin_line, shared
 from .progress import Progress
 from .relay import Relay
 from .room import Signals, Stopped, reason_of, remove, tell
+from .tls import tls_of
 from .words import names
 
 # Seconds without a byte after which connections are ended that are still open behind the client's end.
@@ -66,7 +67,7 @@ class Recording:
         except OSError as error:
             raise Stopped(f"cannot find {self.words.to}: {reason_of(error)}") from None
         wanted = self.wanted_address()
-        self.relay = Relay(Plan(self.words.to, places, self.words.refused, self.path_of), self.tell)
+        self.relay = Relay(Plan(self.words.to, places, self.words.refused, tls_of(self.words), self.path_of), self.tell)
         try:
             listener, self.address = listen(wanted)
         except OSError as error:

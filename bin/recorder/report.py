@@ -41,6 +41,11 @@ def refused_lines(held):
     return [f"refused in the server's place: {', '.join(held.refusals.names())}"] if held.refusals.refused else []
 
 
+def tls_lines(held):
+    """That TLS was between."""
+    return [f"{held.tls} to the server, and none to the client"] if held.tls is not None else []
+
+
 def strict_lines(judged):
     return [f"strict: {doubt}" for doubt in judged.doubts] if judged.status == STRICT else []
 
@@ -49,13 +54,13 @@ def said_of(judged, is_one):
     """The lines of a connection: one where all is well."""
     held, line, more = judged.held, judged.line, judged.more
     if judged.kind == UNASKED:
-        return [listed(held), *refused_lines(held), *ending_lines(held)] if held.path is not None else []
+        return [listed(held), *refused_lines(held), *tls_lines(held), *ending_lines(held)] if held.path is not None else []
     if judged.apart.reason is not None:
         line, more = f"{line}, {judged.apart.line()}", []
     elif judged.is_alone():
         line = f"{line}, compared alone"
     first = line if is_one else f"connection {held.number}: {line}"
-    return [first, *more, *strict_lines(judged), *refused_lines(held), *ending_lines(held)]
+    return [first, *more, *strict_lines(judged), *refused_lines(held), *tls_lines(held), *ending_lines(held)]
 
 
 def as_json(judged, kept, name):
@@ -71,7 +76,7 @@ def as_json(judged, kept, name):
         "requests": requests_of(held), "answered": answered, "improper": improper,
         "client_bytes": client, "server_bytes": server, "seconds": round(held.seconds, 3),
         "ended": held.ending.as_json(), "strict": judged.doubts, "text": judged.more, "fault": held.fault,
-        "refused": held.refusals.names(),
+        "refused": held.refusals.names(), "tls": held.tls,
     })
 
 
