@@ -70,18 +70,18 @@ class Requests:
     def feed(self, piece):
         at = 0
         while at < len(piece) and self.is_sure:
+            if not self._rest:
+                head = self._head + piece[at : at + self._size - len(self._head)]
+                at += len(head) - len(self._head)
+                self._head = head
+                if len(head) == self._size:
+                    self._begin(head)
             if self._rest:
                 step = min(self._rest, len(piece) - at)
                 if self._kept is not None:
                     self._keep(piece[at : at + step], step == self._rest)
                 self._rest -= step
-            else:
-                head = self._head + piece[at : at + self._size - len(self._head)]
-                step = len(head) - len(self._head)
-                self._head = head
-                if len(head) == self._size:
-                    self._begin(head)
-            at += step
+                at += step
             if not self._rest:
                 self.count, self._adds = self.count + self._adds, 0
 
