@@ -9,7 +9,8 @@ import sys
 import threading
 from pathlib import Path
 
-from messages import ABORT, ACK, CLIENT, SERVER, STARTTLS, ack, answer, client_flags, entered, greeting, longest_runs, option, read, simple, write
+from messages import (ABORT, ACK, CLIENT, SERVER, STARTTLS, ack, answer, client_flags, entered, greeting, longest_runs, option, read,
+                      simple, write)
 from record.recorded_ends import GOOD, MIB, Ends, Server, all_of, bytes_of, ended, player, run_parts, runs_of
 from recorder.tls import has_keys
 
@@ -19,6 +20,9 @@ ASKS = option(STARTTLS)[1]
 KEPT = "nbdcheck-record: kept {0}/session.1.cap\n"
 
 
+NEW_KEY = ("-newkey", "ec", "-pkeyopt", "ec_paramgen_curve:P-256", "-nodes")
+
+
 def openssl(*words):
     subprocess.run(["openssl", *words], check=True, stdout=subprocess.DEVNULL, stderr=subprocess.DEVNULL, timeout=60)
 
@@ -26,7 +30,7 @@ def openssl(*words):
 def signed(folder, name, names, authority="ca"):
     """A certificate for these names, signed by an authority of the same folder, and its key."""
     key, request, certificate, more = (f"{folder}/{name}-{kind}.pem" for kind in ("key", "request", "cert", "names"))
-    openssl("req", "-newkey", "ec", "-pkeyopt", "ec_paramgen_curve:P-256", "-nodes", "-keyout", key, "-out", request, "-subj", f"/CN={name}")
+    openssl("req", *NEW_KEY, "-keyout", key, "-out", request, "-subj", f"/CN={name}")
     Path(more).write_text(f"subjectAltName={names}\n")
     openssl("x509", "-req", "-in", request, "-CA", f"{folder}/{authority}-cert.pem", "-CAkey", f"{folder}/{authority}-key.pem",
             "-set_serial", "7", "-days", "2", "-extfile", more, "-out", certificate)
@@ -35,8 +39,8 @@ def signed(folder, name, names, authority="ca"):
 def certificates(folder):
     """A folder with an authority, a server's certificate and a client's."""
     Path(folder).mkdir()
-    openssl("req", "-x509", "-newkey", "ec", "-pkeyopt", "ec_paramgen_curve:P-256", "-nodes", "-keyout", f"{folder}/ca-key.pem",
-            "-out", f"{folder}/ca-cert.pem", "-days", "2", "-subj", "/CN=authority")
+    openssl("req", "-x509", *NEW_KEY, "-keyout", f"{folder}/ca-key.pem", "-out", f"{folder}/ca-cert.pem", "-days", "2",
+            "-subj", "/CN=authority")
     signed(folder, "server", "DNS:localhost,IP:127.0.0.1")
     signed(folder, "client", "DNS:client")
     return folder
@@ -82,8 +86,8 @@ def ran(folder, server, records, *asked, keep="k"):
 def judged(tally, folder):
     """The plain session is captured and judged; the server has the client's own flags, and the end by TLS too."""
     certificates(f"{folder}/tls")
-    for number, (version, newest, wants) in enumerate((("TLSv1.3", ssl.TLSVersion.TLSv1_3, False), ("TLSv1.2", ssl.TLSVersion.TLSv1_2, False),
-                                                       ("TLSv1.3", ssl.TLSVersion.TLSv1_3, True))):
+    for number, (version, wants) in enumerate((("TLSv1.3", False), ("TLSv1.2", False), ("TLSv1.3", True))):
+        newest = ssl.TLSVersion[version.replace(".", "_")]
         with SecureServer(GOOD, f"{folder}/tls", newest=newest, wants_client=wants) as server:
             found = ran(folder, server, GOOD, keep=number)
         tally.want(f"{version}, {wants}", found, (0, f"{YES}\n{version} to the server, and none to the client\n{COUNTS}\n",
@@ -151,17 +155,17 @@ def failures(tally, folder):
     alone = Path(folder, "tls2")
     alone.mkdir()
     shutil.copy(f"{folder}/tls/ca-cert.pem", alone)
-    for name, make, reason in (
-        ("ERR_POLICY", lambda: SecureServer(GOOD, f"{folder}/tls", answers=(policy,)), "the server refuses NBD_OPT_STARTTLS: NBD_REP_ERR_POLICY"),
-        ("an odd answer", lambda: SecureServer(GOOD, f"{folder}/tls", answers=(answer(7, ACK),)), "the server's answer to NBD_OPT_STARTTLS is none"),
-        ("an end", lambda: SecureServer(GOOD, f"{folder}/tls", answers=()), "the server closed the connection at NBD_OPT_STARTTLS"),
-        ("another authority", lambda: SecureServer(GOOD, f"{folder}/other"), "no TLS with the server: unable to get local issuer certificate"),
-        ("another name", lambda: SecureServer(GOOD, f"{folder}/tls", "elsewhere"),
+    for name, records, place, how, reason in (
+        ("ERR_POLICY", GOOD, "tls", {"answers": (policy,)}, "the server refuses NBD_OPT_STARTTLS: NBD_REP_ERR_POLICY"),
+        ("an odd answer", GOOD, "tls", {"answers": (answer(7, ACK),)}, "the server's answer to NBD_OPT_STARTTLS is none"),
+        ("an end", GOOD, "tls", {"answers": ()}, "the server closed the connection at NBD_OPT_STARTTLS"),
+        ("another authority", GOOD, "other", {}, "no TLS with the server: unable to get local issuer certificate"),
+        ("another name", GOOD, "tls", {"name": "elsewhere"},
          "no TLS with the server: Hostname mismatch, certificate is not valid for 'localhost'."),
-        ("a newstyle that is not fixed", lambda: SecureServer([greeting(0)], f"{folder}/tls"), "the server's newstyle is not fixed"),
-        ("no NBD", lambda: SecureServer([(SERVER, b"220 ready to serve")], f"{folder}/tls"), "the server's greeting is none of newstyle"),
+        ("a newstyle that is not fixed", [greeting(0)], "tls", {}, "the server's newstyle is not fixed"),
+        ("no NBD", [(SERVER, b"220 ready to serve")], "tls", {}, "the server's greeting is none of newstyle"),
     ):
-        with make() as server:
+        with SecureServer(records, f"{folder}/{place}", **how) as server:
             status, out, err = ran(folder, server, GOOD)
         tally.want(f"{name}: status", (status, out.splitlines()[0]), (3, f"no answer: {reason}"))
         tally.holds(f"{name}: told", f"nbdcheck-record: connection 1: {reason}" in err.splitlines(), err)
@@ -195,8 +199,8 @@ def mistakes(tally, folder):
     Path(folder, "keys").write_text("user\n")
     status, out, err = ended("--tls-psk", f"{folder}/keys", *here)
     if has_keys():
-        tally.want("--tls-psk, no key", (status, err), (3, f"nbdcheck-record: --tls-psk {folder}/keys: its first line is not NAME:KEY, the key "
-                                                       "in hexadecimal\n"))
+        line = f"nbdcheck-record: --tls-psk {folder}/keys: its first line is not NAME:KEY, the key in hexadecimal\n"
+        tally.want("--tls-psk, no key", (status, err), (3, line))
     else:
         line = f"--tls-psk: python 3.13 or later is needed for it, and this is {sys.version.split()[0]}"
         tally.want("--tls-psk", (status, out, line in err.splitlines()[-1]), (2, "", True))
