@@ -104,6 +104,13 @@ class SecureEnd:
         while self.out:
             self.out = self.out[self.raw.send(self.out) :]
 
+    def flush_or_hear(self):
+        """Sends what is ready; where the other side has gone, what it said before is still to be heard."""
+        try:
+            self.flush()
+        except BrokenPipeError:
+            pass
+
     def pull(self):
         """Takes what has come, or its end."""
         piece = self.raw.recv(LARGEST)
@@ -121,12 +128,12 @@ class SecureEnd:
                     self.flush()
                     return True
                 except ssl.SSLWantReadError:
-                    self.flush()
+                    self.flush_or_hear()
                     self.pull()
         except BlockingIOError:
             return False
         except ssl.SSLError:
-            self.flush()
+            self.flush_or_hear()
             raise
 
     def send(self, data):

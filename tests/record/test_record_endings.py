@@ -37,7 +37,7 @@ def byte_of(end):
     end.settimeout(1)
     try:
         return end.recv(1)
-    except TimeoutError:
+    except socket.timeout:
         return b"-"
 
 

@@ -104,6 +104,24 @@ def judged(tally, folder):
     tally.want("a wrong byte", (found[0], found[1].splitlines()[0]), (1, "no content request 2 offset 2 in any order"))
 
 
+def by_key(tally, folder):
+    """A name and a key that both sides know, and another key, where this python has it."""
+    if not has_keys():
+        print("skipped: TLS by a key, which python has from 3.13 on", flush=True)
+        return
+    certificates(f"{folder}/tls")
+    key = bytes(range(32))
+    for name, said, wanted in (("a key", key, [YES, "TLSv1.2 to the server, and none to the client"]),
+                               ("another key", key[::-1], ["no answer: no TLS with the server: "])):
+        Path(folder, "keys").write_text(f"alice:{said.hex()}\n")
+        with SecureServer(GOOD, f"{folder}/tls", newest=ssl.TLSVersion.TLSv1_2) as server:
+            server.context.set_ciphers("PSK")
+            server.context.set_psk_server_callback({"alice": key}.get)
+            found = ended("--to", server.address, "--start", "zero", "--tls-psk", f"{folder}/keys", "--", *player(folder, GOOD))
+        begins = [line[: len(part)] for line, part in zip(found[1].splitlines(), wanted)]
+        tally.want(name, (found[0], begins), (0 if said is key else 3, wanted))
+
+
 def large(tally, folder):
     """Large messages of both sides, cut as they come, and a client that sends its flags and its first option at once."""
     certificates(f"{folder}/tls")
@@ -206,7 +224,7 @@ def mistakes(tally, folder):
         tally.want("--tls-psk", (status, out, line in err.splitlines()[-1]), (2, "", True))
 
 
-PARTS = (judged, large, halves, failures, mistakes)
+PARTS = (judged, by_key, large, halves, failures, mistakes)
 
 
 def run(tally):
