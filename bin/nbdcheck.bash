@@ -91,6 +91,7 @@ complete -o filenames -F _nbdcheck_picture nbdcheck-picture
 
 _nbdcheck_record() {
     local asked="--to --listen --start --arrival --order --profile --refuse --strict --format --report --keep --out --help"
+    asked="$asked --tls-certificates --tls-psk"
     local starts="unknown zero image:"
     local options="list starttls info go structured-reply list-meta-context set-meta-context extended-headers"
     local word=${COMP_WORDS[COMP_CWORD]} before=${COMP_WORDS[COMP_CWORD - 1]} at
@@ -114,7 +115,7 @@ _nbdcheck_record() {
         _nbdcheck_words "text json junit" "$word"
     elif [ "$before" = --refuse ]; then
         _nbdcheck_words "$options" "$word"
-    elif [ "$before" = --keep ]; then
+    elif [ "$before" = --keep ] || [ "$before" = --tls-certificates ]; then
         mapfile -t COMPREPLY < <(compgen -d -- "$word")
     elif [[ $word = -* ]]; then
         _nbdcheck_words "$asked --" "$word"

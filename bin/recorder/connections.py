@@ -7,15 +7,18 @@ import selectors
 import socket
 import time
 
-from .captures import CLIENT, SERVER, Capture, Requests
-from .endings import NAMES, Ending
-from .refusals import Refusals, unsupported
-from .replies import Replies
+from .captures import CLIENT, SERVER, Capture
+from .endings import NAMES
+from .refusals import unsupported
 from .room import reason_of
+from .tls import Refused, Upgrade
 
 READ, WRITE = selectors.EVENT_READ, selectors.EVENT_WRITE
-# The most bytes that are taken at once: larger pieces are slower. One is held for each direction, until it is forwarded.
-LARGEST = 2**16
+# The most bytes that are taken at once, so that heads go along with 64 KiB: larger pieces are slower. One is held for each direction,
+# until it is forwarded.
+LARGEST = 2**16 + 2**10
+# How many pieces of one direction are taken before others have their turn.
+IN_A_ROW = 8
 
 
 class Flow:
@@ -23,20 +26,23 @@ class Flow:
 
     def __init__(self, side, source, target):
         self.side, self.source, self.target = side, source, target
-        # What is written down and not yet forwarded, and how many bytes were written down.
-        self.held, self.count = b"", 0
+        # What is written down and not yet forwarded.
+        self.held = b""
         # Whether more may come, and whether all that came was forwarded with its end, or the target has gone.
         self.is_open, self.is_ended = True, False
+        # How many bytes are taken at once.
+        self.most = LARGEST
 
     def is_ready(self):
         """Whether more is taken: where what came before was forwarded."""
-        return self.is_open and not self.held
+        return self.is_open and not self.held and self.most > 0
 
     def forward(self):
         """Hands on what is held, as far as the target takes it, and then the end; the error where the target has gone."""
         try:
             while self.held:
-                self.held = self.held[self.target.send(self.held) :]
+                count = self.target.send(self.held)
+                self.held = b"" if count == len(self.held) else memoryview(self.held)[count:]
         except BlockingIOError:
             return None
         except OSError as error:
@@ -75,17 +81,15 @@ def send_at_once(target):
 class Connection:
     """A client's connection, and the one to the server that it is relayed to."""
 
-    def __init__(self, relay, number, client):
-        self.relay, self.number, self.client, self.server = relay, number, client, None
-        self.places = list(relay.places)
-        self.capture, self.flows, self.requests = None, {}, Requests()
-        self.replies = Replies(self.requests)
-        self.refusals = Refusals(relay.refused)
-        self.ending = Ending(self.requests, self.replies)
-        # When it began, and how many seconds it took, up to its end.
-        self.begun, self.seconds = time.monotonic(), 0.0
-        # Why the recording is not whole, and the events that each end is watched for.
-        self.fault, self.is_closed, self.watched = None, False, {}
+    def __init__(self, lane, recorded, client):
+        self.lane, self.recorded, self.client, self.server = lane, recorded, client, None
+        self.places = list(lane.plan.places)
+        self.capture, self.flows = None, {}
+        # The way to TLS, up to its end.
+        self.upgrade = None
+        self.begun = time.monotonic()
+        # The events that each end is watched for.
+        self.is_closed, self.watched = False, {}
 
     def connect(self):
         """Tries the server's addresses, until one is connected or on its way."""
@@ -97,16 +101,16 @@ class Connection:
                 self.server.setblocking(False)
                 error = self.server.connect_ex(where)
             except OSError as failure:
-                return self.fail(f"cannot connect to {self.relay.target}: {reason_of(failure)}")
+                return self.fail(f"cannot connect to {self.lane.plan.target}: {reason_of(failure)}")
             if error == 0:
                 return self.begin()
             if error == errno.EINPROGRESS:
                 return self.watch(self.server, WRITE)
             self.server.close()
             if error == errno.EAGAIN:
-                return self.relay.waiting.append(self)
+                return self.lane.waiting.append(self)
             self.places.pop(0)
-        return self.fail(f"cannot connect to {self.relay.target}: {os.strerror(error)}")
+        return self.fail(f"cannot connect to {self.lane.plan.target}: {os.strerror(error)}")
 
     def connected(self):
         """The server's address has answered."""
@@ -118,20 +122,32 @@ class Connection:
         self.places.pop(0)
         if self.places:
             return self.connect()
-        return self.fail(f"cannot connect to {self.relay.target}: {os.strerror(error)}")
+        return self.fail(f"cannot connect to {self.lane.plan.target}: {os.strerror(error)}")
 
     def begin(self):
         """Both ends are there."""
-        path = self.relay.path_of(self.number)
+        path = self.lane.plan.path_of(self.recorded.number)
         try:
             self.capture = Capture(path)
         except OSError as error:
             return self.fail(f"cannot write {path}: {reason_of(error)}")
-        self.flows = {CLIENT: Flow(CLIENT, self.client, self.server), SERVER: Flow(SERVER, self.server, self.client)}
+        self.recorded.path, self.recorded.has_begun = path, True
         for each in (self.client, self.server):
             if each.family != socket.AF_UNIX:
                 send_at_once(each)
+        self.begin_flows()
+        if self.lane.plan.tls is not None:
+            self.upgrade = Upgrade(self.server, self.lane.plan.tls)
+            self.limit_flows()
         return self.watch_both()
+
+    def begin_flows(self):
+        self.flows = {CLIENT: Flow(CLIENT, self.client, self.server), SERVER: Flow(SERVER, self.server, self.client)}
+
+    def limit_flows(self):
+        """Takes no more of each side than passes in front of TLS."""
+        for side, flow in self.flows.items():
+            flow.most = self.upgrade.most(side)
 
     def ready(self, which, mask):
         """This end takes more, or more has come from it."""
@@ -140,85 +156,124 @@ class Connection:
         if not self.flows:
             self.connected()
             return
+        if self.upgrade is not None and self.upgrade.is_under_way():
+            self.go_on()
+            return
         ours, other = (CLIENT, SERVER) if which is self.client else (SERVER, CLIENT)
         if mask & WRITE:
             self.forward(self.flows[other])
-        if mask & READ and self.flows[ours].is_ready():
-            self.take(self.flows[ours])
+        if mask & READ:
+            self.take_some(self.flows[ours])
         if self.is_closed:
             return
         if all(flow.is_ended for flow in self.flows.values()):
             self.close()
+        elif self.upgrade is not None and self.upgrade.is_under_way():
+            self.go_on()
         else:
             self.watch_both()
+
+    def go_on(self):
+        """Goes on with the negotiation of TLS, while nothing passes; then the server is spoken to by it."""
+        try:
+            is_there = self.upgrade.turn()
+        except Refused as reason:
+            self.fail(str(reason))
+            return
+        if not is_there:
+            self.watch(self.client, 0)
+            self.watch(self.server, READ | (WRITE if self.upgrade.is_sending() else 0))
+            return
+        self.watch(self.server, 0)
+        self.server, self.upgrade = self.upgrade.end, None
+        self.recorded.tls = self.server.version()
+        self.begin_flows()
+        self.watch_both()
 
     def forward(self, flow):
         error = flow.forward()
         if error is not None:
             other = SERVER if flow.side == CLIENT else CLIENT
-            self.ending.gone(other, error)
+            self.recorded.ending.gone(other, error)
             self.tell_gone(other, error)
 
     def tell_gone(self, side, error):
-        self.relay.tell(f"connection {self.number}: the {NAMES[side]}: {reason_of(error)}")
+        self.lane.tell(f"connection {self.recorded.number}: the {NAMES[side]}: {reason_of(error)}")
+
+    def take_some(self, flow):
+        """Takes what has come, as long as whole pieces come and are forwarded at once."""
+        for _ in range(IN_A_ROW):
+            if not flow.is_ready() or self.take(flow) < LARGEST:
+                return
 
     def take(self, flow):
-        """Writes down what has come, and then forwards it."""
+        """Writes down what has come, and then forwards it; how many bytes there were."""
         try:
-            piece = flow.source.recv(LARGEST)
+            piece = flow.source.recv(flow.most)
         except BlockingIOError:
-            return
+            return 0
         except OSError as error:
             self.tell_gone(flow.side, error)
-            self.ending.ended(flow.side, True, has_closed(flow.target))
-            piece = b""
-        if piece:
-            try:
-                self.capture.add(flow.side, piece)
-            except OSError as error:
-                self.fail(f"cannot write {self.capture.path}: {reason_of(error)}")
-                return
-            self.note(flow, piece)
-            if flow.side == CLIENT and self.relay.refused and not self.refuse(flow, piece):
-                return
-        else:
-            flow.is_open = False
-            flow.held = self.refusals.left() if flow.side == CLIENT else b""
-            self.ending.ended(flow.side, False, has_closed(flow.target))
+            self.ended(flow, True)
+            return 0
+        if not piece:
+            self.ended(flow, False)
+        elif self.write_down(flow.side, piece):
+            flow.held = piece
+            if flow.side == CLIENT and self.lane.plan.refused and not self.refuse(flow, piece):
+                return 0
+            self.forward(flow)
+            if self.upgrade is not None:
+                self.note_upgrade(flow, piece)
+        return len(piece)
+
+    def note_upgrade(self, flow, piece):
+        """What passes in front of TLS is looked at."""
+        try:
+            self.upgrade.passed(flow.side, piece)
+        except Refused as reason:
+            self.fail(str(reason))
+            return
+        self.limit_flows()
+
+    def ended(self, flow, is_reset):
+        """A direction has ended."""
+        self.recorded.ending.ended(flow.side, is_reset, has_closed(flow.target))
+        flow.is_open = False
+        flow.held = self.recorded.refusals.left() if flow.side == CLIENT else b""
         self.forward(flow)
 
-    def note(self, flow, piece):
-        """Counts a piece that was written down."""
-        flow.held = memoryview(piece)
-        flow.count += len(piece)
-        (self.requests if flow.side == CLIENT else self.replies).feed(piece)
-        self.relay.moved = time.monotonic()
+    def write_down(self, side, piece):
+        """Writes a piece down and counts it; whether that could be done."""
+        try:
+            self.capture.add(side, piece)
+        except OSError as error:
+            self.fail(f"cannot write {self.capture.path}: {reason_of(error)}")
+            return False
+        self.lane.note(self.recorded, side, piece)
+        return True
 
     def refuse(self, flow, piece):
         """Answers the options of a piece that are refused, and holds the rest of it; whether that could be done."""
         held = []
-        for part in self.refusals.split(piece):
+        for part in self.recorded.refusals.split(piece):
             if isinstance(part, bytes):
                 held.append(part)
             elif not self.answer(self.flows[SERVER], part):
                 return False
-        flow.held = memoryview(b"".join(held))
+        flow.held = b"".join(held)
         return True
 
     def answer(self, flow, option):
         """Writes down the answer to an option that is refused, and sends it; whether the server's bytes are at a place for it."""
-        if self.replies.options + 1 < self.refusals.count or self.replies.middle() is not None:
+        replies = self.recorded.replies
+        if replies.options + 1 < self.recorded.refusals.count or replies.middle() is not None:
             self.fail("an option to be refused came before the one before it had its answer")
             return False
         said = unsupported(option)
-        try:
-            self.capture.add(SERVER, said)
-        except OSError as error:
-            self.fail(f"cannot write {self.capture.path}: {reason_of(error)}")
+        if not self.write_down(SERVER, said):
             return False
-        self.replies.feed(said)
-        flow.count += len(said)
-        flow.held = memoryview(bytes(flow.held) + said)
+        flow.held = bytes(flow.held) + said
         self.forward(flow)
         return True
 
@@ -233,26 +288,22 @@ class Connection:
             return
         self.watched[which] = mask
         if before == 0:
-            self.relay.selector.register(which, mask, self.ready)
+            self.lane.selector.register(which, mask, self.ready)
         elif mask == 0:
-            self.relay.selector.unregister(which)
+            self.lane.selector.unregister(which)
         else:
-            self.relay.selector.modify(which, mask, self.ready)
-
-    def is_empty(self):
-        """Whether not a byte passed."""
-        return not any(flow.count for flow in self.flows.values())
+            self.lane.selector.modify(which, mask, self.ready)
 
     def fail(self, reason):
         """Ends the connection, whose recording is not whole."""
-        self.fault = reason
-        self.relay.tell(f"connection {self.number}: {reason}")
+        self.recorded.fault = reason
+        self.lane.tell(f"connection {self.recorded.number}: {reason}")
         self.close()
 
     def close(self):
         """Closes both ends and the capture."""
-        self.is_closed, self.seconds = True, time.monotonic() - self.begun
-        self.ending.close()
+        self.is_closed, self.recorded.seconds = True, time.monotonic() - self.begun
+        self.recorded.ending.close()
         for which in (self.client, self.server):
             if which is not None and which.fileno() >= 0:
                 self.watch(which, 0)
@@ -261,6 +312,6 @@ class Connection:
             try:
                 self.capture.close()
             except OSError as error:
-                self.fault = self.fault or f"cannot write {self.capture.path}: {reason_of(error)}"
-                self.relay.tell(f"connection {self.number}: {self.fault}")
-        self.relay.forget(self)
+                self.recorded.fault = self.recorded.fault or f"cannot write {self.capture.path}: {reason_of(error)}"
+                self.lane.tell(f"connection {self.recorded.number}: {self.recorded.fault}")
+        self.lane.ended(self)

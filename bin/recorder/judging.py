@@ -4,17 +4,23 @@ import re
 from collections import namedtuple
 
 from .answers import FILES, NO, NOT_JUDGED, STRICT, YES
+from .apart import BESIDE_NONE, Connections
 
-APART = "contents not compared: another connection may change the export"
 EMPTY_LINE = "empty: no byte passed"
 # What became of a connection, as the last line counts it: its contents were compared, or the protocol alone was judged; not a byte
 # passed; nobody broke a rule, and nbdcheck does not follow the session; or there is no answer, or none was asked for.
-COMPARED, ALONE, EMPTY, OUTSIDE, NONE, UNASKED = "compared", "not compared", "empty", "not judged", "no answer", "not asked"
-COUNTED = (COMPARED, ALONE, EMPTY, OUTSIDE)
+COMPARED, UNCOMPARED, EMPTY, OUTSIDE, NONE, UNASKED = "compared", "not compared", "empty", "not judged", "no answer", "not asked"
+COUNTED = (COMPARED, UNCOMPARED, EMPTY, OUTSIDE)
 COUNTS = re.compile(r"yes requests (\d+) answered (\d+) improper (\d+)")
 
-# A connection, what became of it, its exit status, nbdcheck's line with the lines behind it, and what --strict refuses, also unasked.
-Judged = namedtuple("Judged", "held kind status line more doubts")
+
+class Judged(namedtuple("Judged", "held kind status line more doubts apart", defaults=(BESIDE_NONE,))):
+    """A connection, what became of it, its exit status, nbdcheck's line with the lines behind it, what --strict refuses, also unasked,
+    and what is said of it beside the other connections."""
+
+    def is_alone(self):
+        """Whether it was compared, though other connections changed what it does not touch."""
+        return self.kind == COMPARED and self.apart.is_alone
 
 
 def counts_of(line):
@@ -23,25 +29,18 @@ def counts_of(line):
     return tuple(map(int, found.groups())) if found else None
 
 
-def doubts_of(held, line, kind):
+def doubts_of(held, line, kind, apart=BESIDE_NONE):
     """What a suite may not want to pass, where there is no no."""
     requests, answered, improper = counts_of(line) or (0, 0, 0)
     left = held.ending.client_left()
     found = (
         (kind == EMPTY, EMPTY_LINE),
-        (kind == ALONE, APART),
+        (kind == UNCOMPARED, apart.line()),
         (improper, f"improper requests {improper}"),
         (requests > answered, f"requests without a reply {requests - answered}"),
         (left, f"the client left in the middle of {left}"),
     )
     return [text for holds, text in found if holds]
-
-
-def is_compared(held, others, has_order):
-    """Whether contents can be compared: no other connection may have changed the export, and an order is that of one session."""
-    if held.requests.is_none():
-        return True
-    return all(other.requests.is_none() if has_order else not other.requests.may_change() for other in others)
 
 
 def kind_of(answer, compares):
@@ -50,7 +49,7 @@ def kind_of(answer, compares):
         return OUTSIDE
     if answer.status not in (YES, NO):
         return NONE
-    return COMPARED if compares and not answer.line.startswith("no at byte ") else ALONE
+    return COMPARED if compares and not answer.line.startswith("no at byte ") else UNCOMPARED
 
 
 def worth_saying(answer):
@@ -66,25 +65,25 @@ class Judge:
 
     def __init__(self, nbdcheck, recording):
         self.nbdcheck, self.recording, self.words = nbdcheck, recording, recording.words
+        self.connections = Connections(recording.recorded(), recording.words.order is not None)
 
-    def _ask(self, held, others, compares):
+    def _ask(self, held, compares):
         """Whether the order that is given, that of arrival or some order explains the session, or whether it kept the protocol."""
         if not compares:
-            return self.nbdcheck.protocol(held.capture.path)
-        order = None if others and held.requests.is_none() else self.words.order
+            return self.nbdcheck.protocol(held.path)
+        order = None if self.connections.has_others() and held.requests.is_none() else self.words.order
         if order is None and self.words.arrival:
-            return self.nbdcheck.explain_arrival(held.capture.path, self.recording.room.path("order"))
-        return self.nbdcheck.explain(held.capture.path, order)
+            return self.nbdcheck.explain_arrival(held.path, self.recording.room.path("order"))
+        return self.nbdcheck.explain(held.path, order)
 
     def _answered(self, held):
-        others = [other for other in self.recording.recorded() if other is not held]
-        compares = is_compared(held, others, self.words.order is not None)
-        answer = self._ask(held, others, compares)
-        kind = kind_of(answer, compares)
-        doubts = doubts_of(held, answer.line, kind) if answer.status == YES else []
+        apart = self.connections.apart(held)
+        answer = self._ask(held, apart.reason is None)
+        kind = kind_of(answer, apart.reason is None)
+        doubts = doubts_of(held, answer.line, kind, apart) if answer.status == YES else []
         status = STRICT if doubts and self.words.strict else answer.status
-        more = worth_saying(answer) if compares else [APART]
-        return Judged(held, kind, status, answer.line or f"no answer: status {answer.status}", more, doubts)
+        more = worth_saying(answer) if apart.reason is None else [apart.line()]
+        return Judged(held, kind, status, answer.line or f"no answer: status {answer.status}", more, doubts, apart)
 
     def one(self, held):
         """What is said of a connection."""

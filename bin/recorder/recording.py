@@ -6,10 +6,12 @@ import sys
 import time
 
 from .addresses import Address, listen
+from .lanes import Plan
 from .output import begin_line, shared
 from .progress import Progress
 from .relay import Relay
 from .room import Signals, Stopped, reason_of, remove, tell
+from .tls import tls_of
 from .words import names
 
 # Seconds without a byte after which connections are ended that are still open behind the client's end.
@@ -65,11 +67,13 @@ class Recording:
         except OSError as error:
             raise Stopped(f"cannot find {self.words.to}: {reason_of(error)}") from None
         wanted = self.wanted_address()
+        self.relay = Relay(Plan(self.words.to, places, self.words.refused, tls_of(self.words), self.path_of), self.tell)
         try:
             listener, self.address = listen(wanted)
         except OSError as error:
+            self.relay.close()
             raise Stopped(f"cannot listen on {wanted}: {reason_of(error)}") from None
-        self.relay = Relay(listener, self.words.to, places, self.words.refused, self.path_of, self.tell)
+        self.relay.listen(listener)
         self.signals = Signals(self.relay.selector)
         if self.words.client is None and wanted.port == 0:
             self.tell(f"listening on {self.address}")
@@ -98,7 +102,7 @@ class Recording:
         """How long the connections that the client left may stay, or 0 where it is over."""
         if not self.relay.open:
             return 0
-        left = QUIET - (time.monotonic() - self.relay.moved)
+        left = QUIET - (time.monotonic() - self.relay.moved())
         if left <= 0:
             self.tell(f"connections still open {QUIET} seconds behind the client's end: {len(self.relay.open)}")
         return max(left, 0)
@@ -156,7 +160,7 @@ class Recording:
 
     def recorded(self):
         """The connections that have a capture."""
-        return [held for held in self.connections() if held.capture is not None]
+        return [held for held in self.connections() if held.path is not None]
 
     def connections(self):
         return [] if self.relay is None else self.relay.connections
@@ -171,4 +175,4 @@ class Recording:
 
     def tell_kept(self, connections):
         for connection in connections:
-            self.tell(f"kept {connection.capture.path}")
+            self.tell(f"kept {connection.path}")

@@ -2,7 +2,7 @@
 
 import struct
 
-from .captures import FLAGS_SIZE, OPTION, OPTION_SIZE
+from .requests import FLAGS_SIZE, OPTION, OPTION_SIZE
 
 # The numbers of options, by the words that name them.
 OPTIONS = {"list": 3, "starttls": 5, "info": 6, "go": 7, "structured-reply": 8, "list-meta-context": 9, "set-meta-context": 10,

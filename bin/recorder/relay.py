@@ -1,14 +1,16 @@
-"""The relay: it listens, and holds the connections that it took."""
+"""The relay: it listens, and hands the connections that it takes to lanes."""
 
 import errno
+import os
 import selectors
 import time
 
-from .connections import Connection
+from .lanes import ENDED, NO_MEMORY, Handle
+from .recorded import Recorded
 from .room import reason_of
 
-# Seconds until a unix socket whose queue was full is tried again.
-AGAIN = 0.05
+# How many processes relay connections, and how many connections are taken before others have their turn.
+LANES, AT_ONCE = 4, 16
 # What `accept` says of a client that has gone already.
 GONE = (errno.ECONNABORTED, errno.EPROTO)
 
@@ -16,46 +18,55 @@ GONE = (errno.ECONNABORTED, errno.EPROTO)
 class Relay:
     """Connections from a listening socket to a server, each with its capture."""
 
-    def __init__(self, listener, target, places, refused, path_of, tell):
-        self.listener, self.target, self.places = listener, target, places
-        # The numbers of the options that are refused in the server's place.
-        self.refused = refused
-        self.path_of, self.tell = path_of, tell
+    def __init__(self, plan, tell):
+        self.plan, self.tell = plan, tell
+        self.lanes = []
+        for _ in range(LANES):
+            self.lanes.append(Handle(plan, self.lanes))
         self.selector = selectors.DefaultSelector()
+        for lane in self.lanes:
+            self.selector.register(lane.pipe, selectors.EVENT_READ, self.hear)
+        self.listener = None
+        # What was recorded of each connection, and which of them are open, by their numbers.
+        self.connections, self.open = [], set()
+        # When the last connection came, and why one could not be taken.
+        self.came, self.fault = time.monotonic(), None
+
+    def listen(self, listener):
+        """Takes connections from this socket."""
+        self.listener = listener
         self.selector.register(listener, selectors.EVENT_READ, self.accept)
-        # All connections, those that are open, and those whose server has to be tried again.
-        self.connections, self.open, self.waiting = [], set(), []
-        # When the last bytes came, and why a connection could not be taken.
-        self.moved, self.fault = time.monotonic(), None
 
     def turn(self, seconds):
         """Serves what is ready, and waits for that no longer than so many seconds, or for ever where that is None."""
-        if self.waiting:
-            seconds = AGAIN if seconds is None else min(seconds, AGAIN)
         for key, mask in self.selector.select(seconds):
             key.data(key.fileobj, mask)
-        waiting, self.waiting = self.waiting, []
-        for connection in waiting:
-            connection.connect()
 
     def accept(self, *_):
-        """Takes the connections that clients opened."""
-        while self.listener is not None:
+        """Takes connections that clients opened; whether there may be more of them."""
+        for _ in range(AT_ONCE):
+            if self.listener is None:
+                return False
             try:
                 client, _ = self.listener.accept()
             except BlockingIOError:
-                return
+                return False
             except OSError as error:
                 if error.errno not in GONE:
                     self.cannot_accept(error)
-                    return
+                    return False
                 continue
-            client.setblocking(False)
-            connection = Connection(self, len(self.connections) + 1, client)
-            self.connections.append(connection)
-            self.open.add(connection)
-            self.moved = time.monotonic()
-            connection.connect()
+            with client:
+                self.give(client)
+        return True
+
+    def give(self, client):
+        """Hands a connection to the lane that has the fewest."""
+        recorded = Recorded(len(self.connections) + 1, self.plan.refused)
+        self.connections.append(recorded)
+        self.open.add(recorded.number)
+        self.came = time.monotonic()
+        min(self.lanes, key=lambda lane: len(lane.open)).give(recorded.number, client)
 
     def cannot_accept(self, error):
         """Listens again when a connection has ended, or where there is none, not at all."""
@@ -66,18 +77,54 @@ class Relay:
         else:
             self.stop()
 
-    def forget(self, connection):
+    def hear(self, pipe, *_):
+        """What a lane says; whether it goes on."""
+        lane = next(lane for lane in self.lanes if lane.pipe is pipe)
+        said = lane.said()
+        if said is None:
+            self.lost(lane)
+            return False
+        what, found = said
+        if what == NO_MEMORY:
+            raise MemoryError
+        if what == ENDED:
+            lane.open.discard(found.number)
+            self.ended(found)
+        else:
+            self.tell(found)
+        return True
+
+    def ended(self, recorded):
         """A connection has ended."""
-        self.open.discard(connection)
+        self.connections[recorded.number - 1] = recorded
+        self.open.discard(recorded.number)
         if self.listener is not None and self.listener not in self.selector.get_map():
             self.selector.register(self.listener, selectors.EVENT_READ, self.accept)
+
+    def lost(self, lane):
+        """A lane has ended; where that was not asked for, its connections are not recorded as a whole."""
+        self.selector.unregister(lane.pipe)
+        self.lanes.remove(lane)
+        lane.end()
+        status = lane.wait()
+        for number in lane.open:
+            recorded, path = self.connections[number - 1], self.plan.path_of(number)
+            recorded.path = path if os.path.exists(path) else None
+            recorded.fault = f"the process that recorded it ended with status {status}"
+            self.tell(f"connection {number}: {recorded.fault}")
+            self.ended(recorded)
+        if not self.lanes and self.listener is not None:
+            self.fault = "no process is left that relays"
+            self.tell(self.fault)
+            self.stop()
 
     def end(self):
         """Takes the connections that have come up to now, and no more."""
         if self.listener is not None:
-            self.accept()
+            while self.accept():
+                pass
             self.stop()
-            self.moved = time.monotonic()
+            self.came = time.monotonic()
 
     def stop(self):
         """Listens no longer."""
@@ -90,13 +137,18 @@ class Relay:
     def close(self):
         """Ends what is still open."""
         self.stop()
-        for connection in list(self.open):
-            connection.close()
+        for lane in self.lanes:
+            lane.end()
+        for lane in list(self.lanes):
+            while self.hear(lane.pipe):
+                pass
+
+    def moved(self):
+        """When the last byte or the last connection came."""
+        return max([self.came, *(lane.counts()[-1] for lane in self.lanes)])
 
     def counts(self):
         """How many connections there were, their requests or None where these are not known, and the bytes of each side."""
-        begun = [connection for connection in self.connections if connection.flows]
-        requests = [connection.requests for connection in begun]
-        known = sum(found.count for found in requests) if all(found.is_sure for found in requests) else None
-        sides = [sum(connection.flows[side].count for connection in begun) for side in "CS"]
-        return len(self.connections), known, *sides
+        found = [lane.counts() for lane in self.lanes]
+        requests, client, server = (sum(counts[at] for counts in found) for at in range(3))
+        return len(self.connections), requests if all(counts[3] for counts in found) else None, client, server

@@ -40,25 +40,29 @@ class Replies:
     def feed(self, piece):
         at = 0
         while at < len(piece) and self.is_sure:
+            if not self._rest:
+                at += self._feed_head(piece, at)
             if self._rest:
                 step = min(self._rest, len(piece) - at)
                 self._rest -= step
-            elif not self._head and self._size == 4 and len(piece) - at >= (size := HEADS.get(piece[at : at + 4], len(piece) + 1)):
-                # The usual case: a whole head at once.
-                self._take(piece[at : at + size])
-                step = size
-            else:
-                part = piece[at : at + self._size - len(self._head)]
-                step = len(part)
-                self._head += part
-                if self._size == GREETING_SIZE and not GREETING.startswith(self._head[: len(GREETING)]):
-                    self.is_sure = False
-                elif len(self._head) == self._size:
-                    self._begin(self._head)
-            at += step
+                at += step
             if not self._rest and self._is_last:
                 self.requests.waiting.pop(self._cookie, None)
                 self._is_last = False
+
+    def _feed_head(self, piece, at):
+        """Takes a head, or a part of one; how many bytes."""
+        if not self._head and self._size == 4 and len(piece) - at >= (size := HEADS.get(piece[at : at + 4], len(piece) + 1)):
+            # The usual case: a whole head at once.
+            self._take(piece[at : at + size])
+            return size
+        part = piece[at : at + self._size - len(self._head)]
+        self._head += part
+        if self._size == GREETING_SIZE and not GREETING.startswith(self._head[: len(GREETING)]):
+            self.is_sure = False
+        elif len(self._head) == self._size:
+            self._begin(self._head)
+        return len(part)
 
     def _begin(self, head):
         """The bytes of which the length was known have come: what follows them?"""

@@ -7,7 +7,7 @@ import xml.etree.ElementTree as xml
 
 from .answers import NO, NOT_JUDGED, STRICT, YES
 from .captures import CLIENT, SERVER
-from .judging import ALONE, APART, COMPARED, EMPTY, UNASKED, counts_of
+from .judging import COMPARED, EMPTY, UNASKED, UNCOMPARED, counts_of
 from .room import reason_of
 
 # What XML cannot say.
@@ -16,7 +16,7 @@ UNSAYABLE = re.compile("[^\t\n\r -\ud7ff\ue000-\ufffd\U00010000-\U0010ffff]")
 
 def bytes_of(held):
     """How many bytes of each side were written down."""
-    return tuple(held.flows[side].count if held.flows else 0 for side in (CLIENT, SERVER))
+    return held.counts[CLIENT], held.counts[SERVER]
 
 
 def requests_of(held):
@@ -28,17 +28,22 @@ def listed(held):
     """What was recorded of a connection."""
     requests, (client, server) = requests_of(held), bytes_of(held)
     told = "unknown" if requests is None else requests
-    return f"{held.capture.path}: requests {told}, bytes {client} of the client, {server} of the server"
+    return f"{held.path}: requests {told}, bytes {client} of the client, {server} of the server"
 
 
 def ending_lines(held):
     """How a connection ended, where that was not as usual."""
-    return [] if held.fault is not None or not held.flows or held.ending.is_usual() else [held.ending.line()]
+    return [] if held.fault is not None or not held.has_begun or held.ending.is_usual() else [held.ending.line()]
 
 
 def refused_lines(held):
     """The options that were refused in the server's place."""
     return [f"refused in the server's place: {', '.join(held.refusals.names())}"] if held.refusals.refused else []
+
+
+def tls_lines(held):
+    """That TLS was between."""
+    return [f"{held.tls} to the server, and none to the client"] if held.tls is not None else []
 
 
 def strict_lines(judged):
@@ -49,11 +54,13 @@ def said_of(judged, is_one):
     """The lines of a connection: one where all is well."""
     held, line, more = judged.held, judged.line, judged.more
     if judged.kind == UNASKED:
-        return [listed(held), *refused_lines(held), *ending_lines(held)] if held.capture is not None else []
-    if more == [APART]:
-        line, more = f"{line}, {APART}", []
+        return [listed(held), *refused_lines(held), *tls_lines(held), *ending_lines(held)] if held.path is not None else []
+    if judged.apart.reason is not None:
+        line, more = f"{line}, {judged.apart.line()}", []
+    elif judged.is_alone():
+        line = f"{line}, compared alone"
     first = line if is_one else f"connection {held.number}: {line}"
-    return [first, *more, *strict_lines(judged), *refused_lines(held), *ending_lines(held)]
+    return [first, *more, *strict_lines(judged), *refused_lines(held), *tls_lines(held), *ending_lines(held)]
 
 
 def as_json(judged, kept, name):
@@ -61,14 +68,15 @@ def as_json(judged, kept, name):
     held = judged.held
     client, server = bytes_of(held)
     _, answered, improper = counts_of(judged.line) or (None, None, None)
-    is_kept = held.capture is not None and held in kept
+    is_kept = held.path is not None and held in kept
     return json.dumps({
-        "name": name, "connection": held.number, "capture": held.capture.path if is_kept else None, "verdict": judged.line or None,
-        "result": judged.kind, "status": judged.status, "judged": judged.kind in (COMPARED, ALONE),
-        "compared": judged.kind == COMPARED, "requests": requests_of(held), "answered": answered, "improper": improper,
+        "name": name, "connection": held.number, "capture": held.path if is_kept else None, "verdict": judged.line or None,
+        "result": judged.kind, "status": judged.status, "judged": judged.kind in (COMPARED, UNCOMPARED),
+        "compared": judged.kind == COMPARED, "alone": judged.is_alone(), "meeting": judged.apart.meeting_as_json(),
+        "requests": requests_of(held), "answered": answered, "improper": improper,
         "client_bytes": client, "server_bytes": server, "seconds": round(held.seconds, 3),
         "ended": held.ending.as_json(), "strict": judged.doubts, "text": judged.more, "fault": held.fault,
-        "refused": held.refusals.names(),
+        "refused": held.refusals.names(), "tls": held.tls,
     })
 
 
@@ -104,7 +112,7 @@ def as_junit(judged, kept, troubles, name):
     for each in judged:
         lines = said_of(each, True)
         if each.held in kept:
-            lines.append(f"kept {each.held.capture.path}")
+            lines.append(f"kept {each.held.path}")
         found.append(add_case(suite, f"connection {each.held.number}", each.held.seconds, outcome(each), lines))
     found += [add_case(suite, who, 0, ("error", line), [line]) for who, line, _ in troubles]
     for kind, plural in (("failure", "failures"), ("error", "errors"), ("skipped", "skipped")):

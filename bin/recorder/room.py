@@ -19,9 +19,9 @@ class Stopped(Exception):
 
 
 def tell(line):
-    """A line on standard error."""
+    """A line on standard error, in one write."""
     try:
-        print(f"nbdcheck-record: {line}", file=sys.stderr, flush=True)
+        print(f"nbdcheck-record: {line}\n", end="", file=sys.stderr, flush=True)
     except OSError:
         pass
 

@@ -1,10 +1,12 @@
 """The command line of nbdcheck-record."""
 
 import argparse
+import platform
 from collections import namedtuple
 
 from .addresses import Malformed, parse
 from .refusals import OPTIONS
+from .tls import has_keys
 
 # The profiles that nbdcheck has; it is asked for the second where none is named: most clients ask for metadata contexts.
 PROFILES = ("base", "wide")
@@ -48,7 +50,7 @@ Exit status, of several the first in the order 1, 2, 4, 3, 5, 6, 7, 10:
   128 and the signal's number: interrupted; without CLIENT an interrupt is the end, and not told so"""
 
 # What the words name; `client` is None where there is none.
-Words = namedtuple("Words", "to listen client start arrival order profile strict format report refused keep out asks")
+Words = namedtuple("Words", "to listen client start arrival order profile strict format report refused certificates psk keep out asks")
 
 
 def make_parser():
@@ -67,6 +69,10 @@ def make_parser():
     parser.add_argument("--report", metavar="PATH", help="writes the report to this file, and its text to standard output")
     parser.add_argument("--refuse", metavar="OPTIONS", default="", help="answers these options in the server's place, by "
                         "ERR_UNSUP: " + ", ".join(OPTIONS))
+    tls = parser.add_mutually_exclusive_group()
+    tls.add_argument("--tls-certificates", metavar="DIR", help="speaks TLS to the server, and none to the client: ca-cert.pem of this "
+                     "folder verifies it, client-cert.pem and client-key.pem are sent where they are there")
+    tls.add_argument("--tls-psk", metavar="FILE", help="speaks TLS to the server by the name and the key of this file (python 3.13)")
     parser.add_argument("--keep", metavar="DIR", help="keeps each capture, as DIR/session.1.cap and so on")
     parser.add_argument("--out", metavar="OUT", help="without CLIENT: the captures' names (session)")
     return parser
@@ -116,6 +122,8 @@ def check_values(found):
             raise Malformed(f"--refuse {name}: wanted are {', '.join(OPTIONS)}")
     if found.format not in FORMATS:
         raise Malformed(f"--format {found.format}: wanted is text, json or junit")
+    if found.tls_psk is not None and not has_keys():
+        raise Malformed(f"--tls-psk: python 3.13 or later is needed for it, and this is {platform.python_version()}")
 
 
 def check_others(found, client, asks):
@@ -147,4 +155,5 @@ def read_words(words):
     except Malformed as reason:
         parser.error(str(reason))
     return Words(to, listen, client, found.start or "unknown", found.arrival, found.order, found.profile, found.strict, found.format,
-                 found.report, {OPTIONS[name] for name in refused_of(found)}, found.keep, found.out or "session", asks)
+                 found.report, {OPTIONS[name] for name in refused_of(found)}, found.tls_certificates, found.tls_psk, found.keep,
+                 found.out or "session", asks)

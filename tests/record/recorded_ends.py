@@ -21,6 +21,9 @@ MIB = 2**20
 GOOD = begun() + [write(1, 1, b"ab"), simple(1), read(2, 0, 4), simple(2, b"\0ab\0")]
 # The answer of a session without a request.
 NONE = "yes requests 0 answered 0 improper 0"
+# Why contents are not compared of the first and of the second of two connections that play GOOD.
+MEET = {number: f"contents not compared: request 1, a WRITE, meets request 1 of connection {3 - number}, a WRITE, at offset 1"
+        for number in (1, 2)}
 
 # A client: it plays its part of the session of a file, and ends with a status.
 PLAYER = """
@@ -65,6 +68,16 @@ class Tool:
         if self.process.poll() is None:
             self.process.kill()
         self.process.communicate()
+
+    def all(self):
+        """Its processes: the one that was run is the last."""
+        pid = self.process.pid
+        return [int(lane) for lane in Path(f"/proc/{pid}/task/{pid}/children").read_text().split()] + [pid]
+
+    def signal(self, number):
+        """Sends a signal to all of its processes."""
+        for pid in self.all():
+            os.kill(pid, number)
 
     def end(self, number=None):
         """Its status, standard output and standard error, after this signal."""

@@ -11,7 +11,7 @@ import threading
 
 from messages import BLOCK_STATUS, CLIENT, DISC, PAYLOAD_LEN, SERVER, TRIM, WRITE, begun, extended_request, read, request, write
 from record.recorded_ends import GOOD, MIB, Ends, Tool, all_of, bytes_of, of_side, player, run_parts, runs_of, sizes_of
-from recorder import captures
+from recorder.requests import Requests
 
 
 def data_of(count, seed):
@@ -141,9 +141,11 @@ def connections(tally, folder):
         status, out, err = ends.interrupt()
         tally.want("a server that refuses", (status, out, os.path.exists(ends.capture())), (3, "", False))
         said(tally, "a server that refuses", err, f"connection 1: cannot connect to {ends.there}: Connection refused")
-    with Ends(folder, "many", limits={resource.RLIMIT_NOFILE: 13}) as ends:
+    # Enough for the process that listens, and for three connections of each one that relays.
+    with Ends(folder, "many", limits={resource.RLIMIT_NOFILE: 16}) as ends:
+        ends.listener.listen(32)
         client, server = ends.both()
-        others = [ends.connect() for _ in range(3)]
+        others = [ends.connect() for _ in range(16)]
         client.sendall(b"still")
         tally.want("few descriptors: the first goes on", all_of(server, 5), b"still")
         client.close(), server.close()
@@ -250,15 +252,15 @@ def counts(tally, _):
                                ("its end", sent + large[:-56], 3), ("nothing", b"", 0), ("extended headers", options + long, 4),
                                ("in a filter", options + long[:-65], 2)):
         for size in (1, 7, 4096, len(data) + 1):
-            count = captures.Requests()
+            count = Requests()
             for at in range(0, len(data), size):
                 count.feed(data[at : at + size])
             tally.want(f"requests of {name} in pieces of {size}", (count.count, count.is_sure), (wanted, True))
-    count = captures.Requests()
+    count = Requests()
     count.feed(sent + b"\x16\x03\x01" + bytes(99))
     tally.want("requests before other bytes", (count.count, count.is_sure), (2, False))
     for name, data in (("another head", sent + long[:32]), ("a shorter head", options + long + 2 * large[-28:])):
-        count = captures.Requests()
+        count = Requests()
         count.feed(data)
         tally.want(f"{name}: not sure", count.is_sure, False)
 

@@ -10,7 +10,7 @@ from pathlib import Path
 
 from built import PROGRAM, TOP
 from messages import SERVER, begun, longest_runs, read, simple, write
-from record.recorded_ends import GOOD, NONE, RECORD, Ends, Server, Tool, ended, player, run_parts, runs_of, sizes_of
+from record.recorded_ends import GOOD, MEET, NONE, RECORD, Ends, Server, Tool, ended, player, run_parts, runs_of, sizes_of
 
 # As GOOD, with another byte than the one that was written.
 WRONG = GOOD[:-1] + [simple(2, b"\0aB\0")]
@@ -29,7 +29,7 @@ ONE = "yes requests 1 answered 1 improper 0"
 ALL = "connections 1: compared 1, not compared 0, empty 0, not judged 0\n"
 NO_ANSWER = "connections 1: compared 0, not compared 0, empty 0, not judged 0, no answer 1\n"
 NEVER = "nbdcheck-record: no connection came: nothing was recorded\n"
-APART = "contents not compared: another connection may change the export"
+ORDER_OF = {n: f"contents not compared: the order is of one connection, and connection {n} has requests too" for n in (1, 2)}
 
 MALFORMED = {
     "nothing": ([], "--to"),
@@ -193,9 +193,9 @@ def several(tally, folder):
     """Several connections: contents where no other one may have changed them, else the protocol alone, and the gravest status."""
     both = ["sh", "-c", '"$@" && "$@"', "sh"]
     for name, records, first, second, wanted in (
-        ("WRITEs", GOOD, f"connection 1: ok, {APART}", f"connection 2: ok, {APART}", 0),
-        ("wrong bytes", WRONG, f"connection 1: ok, {APART}", f"connection 2: ok, {APART}", 0),
-        ("cut", CUT, f"connection 1: {UNFINISHED}, {APART}", f"connection 2: {UNFINISHED}, {APART}", 1),
+        ("WRITEs", GOOD, f"connection 1: ok, {MEET[1]}", f"connection 2: ok, {MEET[2]}", 0),
+        ("wrong bytes", WRONG, f"connection 1: ok, {MEET[1]}", f"connection 2: ok, {MEET[2]}", 0),
+        ("cut", CUT, f"connection 1: {UNFINISHED}, {MEET[1]}", f"connection 2: {UNFINISHED}, {MEET[2]}", 1),
         ("READs", READS, f"connection 1: {ONE}", f"connection 2: {ONE}", 0),
         ("no request", begun(), f"connection 1: {NONE}", f"connection 2: {NONE}", 0),
         ("wrong READs", STALE, f"connection 1: {STALE_LINE}", f"connection 2: {STALE_LINE}", 1),
@@ -216,8 +216,8 @@ def beside_others(tally, folder):
     for name, other, asked, wanted in (
         ("no request", begun(), [], [f"connection 1: {NONE}", f"connection 2: {YES}"]),
         ("no request, --order", begun(), ["--order", order], [f"connection 1: {NONE}", f"connection 2: {YES}"]),
-        ("READs", READS, [], [f"connection 1: ok, {APART}", f"connection 2: {YES}"]),
-        ("READs, --order", READS, ["--order", order], [f"connection 1: ok, {APART}", f"connection 2: ok, {APART}"]),
+        ("READs", READS, [], [f"connection 1: ok, {MEET[1].replace('WRITE', 'READ', 1)}", f"connection 2: {YES}"]),
+        ("READs, --order", READS, ["--order", order], [f"connection {number}: ok, {ORDER_OF[3 - number]}" for number in (1, 2)]),
     ):
         with Ends(folder, name, "--start", "zero", *asked) as ends:
             for records in (other, GOOD):
@@ -262,7 +262,7 @@ def statuses(tally, folder):
         lines = f"line {status}\n{ALL if status == 1 else NO_ANSWER}"
         tally.want(f"status {status}", ask(1, status), (wanted, lines, strange + kept_lines(capture)))
     for first, second, wanted in ((4, 1, 1), (4, 3, 4), (3, 5, 3), (0, 5, 5)):
-        lines = "".join(f"connection {number}: line {status}, {APART}\n" for number, status in ((1, first), (2, second)))
+        lines = "".join(f"connection {number}: line {status}, {MEET[number]}\n" for number, status in ((1, first), (2, second)))
         known = sum(status < 2 for status in (first, second))
         unknown = f", no answer {2 - known}" if known < 2 else ""
         lines += f"connections 2: compared 0, not compared {known}, empty 0, not judged 0{unknown}\n"

@@ -11,9 +11,10 @@ from pathlib import Path
 
 from messages import (CLIENT, DISC, DONE, READ, SERVER, begun, by_name, client_flags, content, extended_chunk,
                       extended_request, failed, greeting, longest_runs, option, read, records_of, request, simple, write)
-from record.recorded_ends import GOOD, MIB, SECONDS, Ends, Tool, run_parts
+from record.recorded_ends import GOOD, MIB, SECONDS, Ends, Tool, run_parts, runs_of
 from recorder import captures
 
+LOST = "the process that recorded it ended with status -9"
 DATA = bytes((at * 7 + at // 251) % 256 for at in range(20_000))
 
 
@@ -31,8 +32,17 @@ def pages(tally, _):
             tally.want(f"{size} bytes from {at} on", longest_runs(records_of(found)), [(CLIENT, DATA[:size])])
 
 
+def byte_of(end):
+    """A byte of a connection, nothing where it has ended, or a sign that it goes on."""
+    end.settimeout(1)
+    try:
+        return end.recv(1)
+    except socket.timeout:
+        return b"-"
+
+
 def killed(tally, folder):
-    """SIGKILL in the midst of large pieces: the capture ends with a whole line."""
+    """SIGKILL in the midst of large pieces, of the tool alone and of each of its processes: the capture ends with a whole line."""
     for number in range(6):
         with Ends(folder, f"killed{number}", env_more={"TMPDIR": folder}) as ends:
             client, server = ends.both()
@@ -56,6 +66,8 @@ def killed(tally, folder):
             while not Path(ends.capture()).exists() or os.path.getsize(ends.capture()) < 2 * MIB:
                 time.sleep(0.01)
             time.sleep(0.007 * number)
+            if number % 2:
+                ends.tool.signal(signal.SIGKILL)
             ends.tool.process.kill()
             ends.tool.process.wait()
             [thread.join() for thread in threads]
@@ -66,6 +78,28 @@ def killed(tally, folder):
             whole = all(line == b"\n" or line.startswith(b"S 0") and len(line) % 2 and line.endswith(b"\n") for line in last)
             tally.holds("SIGKILL leaves whole lines", last and whole, last[-1:])
             os.unlink(ends.capture())
+
+
+def lost(tally, folder):
+    """A process of the tool that relays is killed: its connection has no answer, others go on, and a new one is taken."""
+    with Ends(folder, "lost") as ends:
+        pairs = [ends.both() for _ in range(4)]
+        for pair in pairs:
+            ends.play(*pair, GOOD)
+        os.kill(ends.tool.all()[0], signal.SIGKILL)
+        told = [number for number, (client, _) in enumerate(pairs, 1) if len(byte_of(client)) == 0]
+        tally.want("a process is killed: one connection ends", len(told), 1)
+        pairs.append(ends.both())
+        ends.play(*pairs[-1], GOOD)
+        [end.close() for pair in pairs for end in pair]
+        status, out, err = ends.interrupt()
+    tally.want("a process is killed", (status, err), (3, f"nbdcheck-record: connection {told[0]}: {LOST}\n"))
+    tally.want("a process is killed: captures", [runs_of(ends.capture(number)) for number in range(1, 6)], [longest_runs(GOOD)] * 5)
+    with Ends(folder, "none") as ends:
+        ends.connect().close()
+        [os.kill(pid, signal.SIGKILL) for pid in ends.tool.all()[:-1]]
+        status, _, err = ends.tool.end()
+    tally.want("each process is killed", (status, err.splitlines()[-1]), (3, "nbdcheck-record: no process is left that relays"))
 
 
 LEAVES = request(DISC, 9, 0, 0)
@@ -132,9 +166,9 @@ def at_once(tally, folder):
         with Ends(folder, f"both{name}") as ends:
             client, server = ends.both()
             ends.play(client, server, records)
-            ends.tool.process.send_signal(signal.SIGSTOP)
+            ends.tool.signal(signal.SIGSTOP)
             server.close(), client.close()
-            ends.tool.process.send_signal(signal.SIGCONT)
+            ends.tool.signal(signal.SIGCONT)
             status, out, err = ends.interrupt()
         line = "" if wanted is None else f"ended: {wanted}\n"
         tally.want(f"both close, {name}", (status, out.partition("\n")[2], err), (0, line, ""))
@@ -173,7 +207,7 @@ def by_reset(tally, folder):
         tally.want(f"the {who} resets: told", err, f"nbdcheck-record: connection 1: the {who}: Connection reset by peer\n")
 
 
-PARTS = (pages, killed, told_ending, at_once, by_reset)
+PARTS = (pages, killed, lost, told_ending, at_once, by_reset)
 
 
 def run(tally):

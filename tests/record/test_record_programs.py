@@ -2,6 +2,7 @@
 
 import contextlib
 import os
+import random
 import re
 import shutil
 import signal
@@ -13,6 +14,7 @@ from pathlib import Path
 
 from built import PROGRAM
 from record.recorded_ends import MIB, NONE, RECORD, SECONDS, Tool, run_parts
+from record.test_record_tls import certificates
 
 # A system's own programs stand before those of a python that was installed beside it.
 PATH = "/usr/bin:" + os.environ["PATH"]
@@ -53,11 +55,11 @@ def is_there(name):
     return shutil.which(name, path=PATH) is not None
 
 
-def image_of(folder):
+def image_of(folder, size=MIB):
     """An export of zeroes."""
     path = Path(folder, "image")
     path.write_bytes(b"")
-    os.truncate(path, MIB)
+    os.truncate(path, size)
     return str(path)
 
 
@@ -89,19 +91,21 @@ def running(words, address):
     finally:
         child.terminate()
         child.wait(SECONDS)
+        if "/" in address and os.path.exists(address):
+            os.unlink(address)
 
 
 @contextlib.contextmanager
-def nbdkit(folder, *words):
+def nbdkit(folder, *words, size="1M"):
     path = f"{folder}/nbdkit.sock"
-    with running(["nbdkit", "-f", "-U", path, *words, "memory", "1M"], path) as address:
+    with running(["nbdkit", "-f", "-U", path, *words, "memory", size], path) as address:
         yield address
 
 
 @contextlib.contextmanager
-def qemu_nbd(folder):
+def qemu_nbd(folder, *words, size=MIB):
     path = f"{folder}/qemu-nbd.sock"
-    with running(["qemu-nbd", "-t", "-f", "raw", "-k", path, image_of(folder)], path) as address:
+    with running(["qemu-nbd", "-t", *words, "-f", "raw", "-k", path, image_of(folder, size)], path) as address:
         yield address
 
 
@@ -182,11 +186,63 @@ def run_by_nbdkit(tally, folder):
     tally.want("nbdcopy of several connections", (done.returncode, lines), (0, [f"connection {number}: yes" for number in range(1, 5)]))
 
 
-PARTS = (pairs, run_by_nbdkit)
+# fio's four jobs, each on a quarter of its own; each opens a connection before it and one for it.
+JOBS = [*FIO, "--numjobs=4", "--offset_increment=256k"]
+
+
+def strictly(tally, name, address, start, words, count):
+    """A run that lets nothing pass but a yes whose contents were compared, with so many connections."""
+    with Tool("--to", address, "--start", start, "--strict", "--", *words, env_more={"PATH": PATH}) as tool:
+        status, out, err = tool.end()
+    last = f"connections {count}: compared {count}, not compared 0, empty 0, not judged 0"
+    is_right = status == 0 and len(first_lines(out)) == count and out.splitlines()[-1] == last
+    tally.holds(name, is_right, (status, out, err))
+    return out
+
+
+def by_four(tally, folder):
+    """nbdcopy's four connections to a server and from it, and fio's four jobs: each connection is compared."""
+    source = Path(folder, "source")
+    source.write_bytes(random.Random(4).randbytes(64 * MIB))
+    for name, begin in (("nbdkit", lambda: nbdkit(folder, size="64M")), ("qemu-nbd", lambda: qemu_nbd(folder, "-e", "8", size=64 * MIB))):
+        if not is_there(name):
+            continue
+        if is_there("nbdcopy"):
+            with begin() as address:
+                strictly(tally, f"nbdcopy to {name}", address, "zero", ["nbdcopy", str(source), "{uri}"], 4)
+                strictly(tally, f"nbdcopy from {name}", address, f"image:{source}", ["nbdcopy", "{uri}", "null:"], 4)
+        if is_there("fio"):
+            with begin() as address:
+                out = strictly(tally, f"fio's jobs and {name}", address, "zero", JOBS, 8)
+            tally.want(f"fio's jobs and {name}: alone", out.count("improper 0, compared alone\n"), 4)
+
+
+def by_tls(tally, folder):
+    """Clients without TLS and an nbdkit that requires it."""
+    if not (is_there("nbdkit") and is_there("openssl")):
+        return
+    certificates(f"{folder}/tls")
+    port = free_port()
+    asks = ["--tls=require", f"--tls-certificates={folder}/tls", "--tls-verify-peer"]
+    with running(["nbdkit", "-f", "-i", "127.0.0.1", "-p", str(port), *asks, "memory", "1M"], str(port)):
+        for client in ("nbdsh", "nbdcopy", "nbdinfo of contexts", "qemu-io"):
+            words, _, wanted = CLIENTS[client]
+            if is_there(words[0]):
+                with Tool("--to", f"localhost:{port}", "--start", "unknown", "--tls-certificates", f"{folder}/tls", "--", *words,
+                          env_more={"PATH": PATH}) as tool:
+                    status, out, err = tool.end()
+                lines = out.splitlines()
+                is_right = status == 0 and [line[:12] for line in first_lines(out)] == [line[:12] for line in wanted]
+                tally.holds(f"{client} by TLS", is_right and "TLSv1.3 to the server, and none to the client" in lines, (status, out, err))
+
+
+PARTS = (pairs, run_by_nbdkit, by_four, by_tls)
 
 
 def run(tally):
     skipped = {name.split()[0] for name in (*SERVERS, *CLIENTS) if not is_there(name.split()[0])}
     for name in sorted(skipped):
         print(f"skipped: {name}", flush=True)
+    if "nbdkit" in skipped:
+        print("skipped: TLS to nbdkit", flush=True)
     run_parts(tally, PARTS)

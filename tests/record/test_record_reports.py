@@ -10,7 +10,7 @@ from pathlib import Path
 
 from built import PROGRAM
 from messages import CLIENT, STARTTLS, ack, begun, client_flags, export, go_data, greeting, option, read, simple, write
-from record.recorded_ends import GOOD, NONE, Ends, Server, Tool, ended, player, run_parts
+from record.recorded_ends import GOOD, MEET, NONE, Ends, Server, Tool, ended, player, run_parts
 
 YES = "yes requests 2 answered 2 improper 0"
 # A READ that passes the end of the export, and one without a reply.
@@ -20,7 +20,6 @@ READS = begun() + [read(1, 0, 4), simple(1, bytes(4))]
 WRONG = GOOD[:-1] + [simple(2, b"\0aB\0")]
 TLS = [greeting(), client_flags(), option(STARTTLS), ack(STARTTLS)]
 HUGE = [greeting(), client_flags(), option(7, go_data()), export(size=2**63), ack(7)]
-APART = "contents not compared: another connection may change the export"
 NO = "no content request 2 offset 2 in any order"
 
 
@@ -47,7 +46,7 @@ def one_line(tally, folder):
     tally.want("a yes", client_of(folder, GOOD), (0, f"{YES}\n{counts(1)}\n", ""))
     tally.want("two connections without a request", client_of(folder, begun(), count=2),
                (0, f"connection 1: {NONE}\nconnection 2: {NONE}\n{counts(2)}\n", ""))
-    lines = "".join(f"connection {number}: ok, {APART}\n" for number in (1, 2))
+    lines = "".join(f"connection {number}: ok, {MEET[number]}\n" for number in (1, 2))
     tally.want("two connections that write", client_of(folder, GOOD, count=2), (0, f"{lines}{counts(0, 2)}\n", ""))
     status, lines = lines_of(client_of(folder, IMPROPER))
     tally.want("improper", (status, lines[0], lines[1], lines[-1]),
@@ -108,7 +107,7 @@ def strict(tally, folder):
     """What --strict refuses of a yes."""
     tally.want("strict, a yes", client_of(folder, GOOD, "--strict"), (0, f"{YES}\n{counts(1)}\n", ""))
     for name, records, count, wanted in (("improper", IMPROPER, 1, "improper requests 1"),
-                                         ("unanswered", UNANSWERED, 1, "requests without a reply 1"), ("apart", GOOD, 2, APART)):
+                                         ("unanswered", UNANSWERED, 1, "requests without a reply 1"), ("apart", GOOD, 2, MEET[1])):
         status, out, err = client_of(folder, records, "--strict", "--keep", f"{folder}/{name}", count=count)
         tally.want(f"strict, {name}", (status, f"strict: {wanted}" in out.splitlines()), (7, True))
         kept = "".join(f"nbdcheck-record: kept {folder}/{name}/session.{number}.cap\n" for number in range(1, count + 1))
@@ -168,9 +167,9 @@ def as_json(tally, folder):
     """An object for each connection, a line each."""
     wanted = {
         "name": "nbdcheck-record", "connection": 1, "capture": None, "verdict": YES,
-        "result": "compared", "status": 0, "judged": True, "compared": True,
-        "requests": 2, "answered": 2, "improper": 0, "client_bytes": 84, "server_bytes": 106, "strict": [], "text": [], "fault": None,
-        "refused": [],
+        "result": "compared", "status": 0, "judged": True, "compared": True, "alone": False,
+        "meeting": None, "requests": 2, "answered": 2, "improper": 0, "client_bytes": 84, "server_bytes": 106, "strict": [], "text": [],
+        "fault": None, "refused": [],
         "ended": {"first": "client", "by": "end of file", "outstanding": 0, "client_in": None, "server_in": None},
     }
     status, out, err = client_of(folder, GOOD, "--format", "json")
@@ -188,7 +187,7 @@ def as_json(tally, folder):
                ["not judged", 6, False, False, None])
     found = [json.loads(line) for line in client_of(folder, GOOD, "--format", "json", "--keep", f"{folder}/j", count=2)[1].splitlines()]
     tally.want("JSON of two", [[each[name] for name in ("connection", "capture", "verdict", "compared", "strict")] for each in found],
-               [[number, f"{folder}/j/session.{number}.cap", "ok", False, [APART]] for number in (1, 2)])
+               [[number, f"{folder}/j/session.{number}.cap", "ok", False, [MEET[number]]] for number in (1, 2)])
     report = f"{folder}/r.json"
     found = client_of(folder, UNANSWERED, "--format", "json", "--report", report, "--strict")
     tally.want("--report: standard output has the text", (found[0], found[1].splitlines()[0]), (7, "yes requests 3 answered 2 improper 0"))
