@@ -4,10 +4,11 @@ ghost use Rattle.std.specs.Prelude.{◌≡◌};
 ghost use Rattle.nbd_capture.specs.declared.capture.CaptureFault.TheVariants.{Memory};
 
 use std::alloc::{AllocError, AllocFailed};
+use std::fmt;
 use thiserror::Error;
 
 /// Why a capture text gave no more chunks.
-#[derive(Clone, Copy, Debug, PartialEq, Eq, Drop, Error)]
+#[derive(Clone, Copy, PartialEq, Eq, Drop, Error)]
 pub enum CaptureFault {
     /// The line with this number, from 1, is the first bad one: it is malformed, or no LF follows it.
     #[error("capture line {0}")]
@@ -18,6 +19,13 @@ pub enum CaptureFault {
     /// An allocation was refused.
     #[error("memory")]
     Memory,
+}
+
+// As it is printed, which is less to prove than what a derived one writes.
+impl fmt::Debug for CaptureFault {
+    fn fmt<W: fmt::Write>(&self, f: &mut fmt::Formatter<W>) -> fmt::Result {
+        fmt::Display::fmt(self, f)
+    }
 }
 
 impl<T: Drop> From<AllocFailed<T>> for CaptureFault {

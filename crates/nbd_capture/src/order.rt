@@ -13,10 +13,11 @@ use crate::lines::first_line;
 use memchr::memchr;
 use nbd_wire::{Entry, Part};
 use std::alloc::{AllocFailed, Global};
+use std::fmt;
 use thiserror::Error;
 
 /// Why an order text gave no entries. Nothing is kept of a text after a fault.
-#[derive(Clone, Copy, Debug, Drop, Error)]
+#[derive(Clone, Copy, Drop, Error)]
 pub enum OrderTextFault {
     /// The line with this number, from 1, is the first bad one: it is malformed, or no LF follows it.
     #[error("order line {0}")]
@@ -24,6 +25,13 @@ pub enum OrderTextFault {
     /// An allocation was refused.
     #[error("memory")]
     Memory,
+}
+
+// As it is printed, which is less to prove than what a derived one writes.
+impl fmt::Debug for OrderTextFault {
+    fn fmt<W: fmt::Write>(&self, f: &mut fmt::Formatter<W>) -> fmt::Result {
+        fmt::Display::fmt(self, f)
+    }
 }
 
 impl<T: Drop> From<AllocFailed<T>> for OrderTextFault {

@@ -12,7 +12,7 @@ use thiserror::Error;
 
 /// Why a run gave no answer. The text goes to standard error. Nothing was written, but for `Write` and
 /// `Memory`.
-#[derive(Debug, Drop, Error)]
+#[derive(Drop, Error)]
 pub enum RunFault {
     /// The capture's line with this number, counted from 1, is malformed, or no line feed
     /// ends it.
@@ -35,6 +35,13 @@ pub enum RunFault {
     /// A growth of memory was refused. Of `run_check` nothing stands written, of `run_show` and `run_make`
     /// a prefix of the message lines or chunk lines, possibly nothing.
     Memory,
+}
+
+// As it is printed, which is less to prove than what a derived one writes.
+impl fmt::Debug for RunFault {
+    fn fmt<W: fmt::Write>(&self, f: &mut fmt::Formatter<W>) -> fmt::Result {
+        fmt::Display::fmt(self, f)
+    }
 }
 
 impl RunFault {

@@ -6,11 +6,11 @@ ghost use Rattle.nbd_lines.specs.Faults.{IsMakeCause, LeavesMade, Makes, of_outp
 use crate::output::{OutputFault, write_chunks};
 use crate::script::{ScriptFault, parse_script};
 use std::alloc::Global;
-use std::io;
+use std::{fmt, io};
 use thiserror::Error;
 
 /// Why a script was not made into a capture.
-#[derive(Clone, Copy, Debug, Drop, Error)]
+#[derive(Clone, Copy, Drop, Error)]
 pub enum MakeFault {
     /// The line with this number, from 1, is the script's first bad one. Nothing was written.
     #[error("script line {0}")]
@@ -21,6 +21,13 @@ pub enum MakeFault {
     /// An allocation was refused. A prefix of the chunk lines, possibly nothing, stands written.
     #[error("memory")]
     Memory,
+}
+
+// As it is printed, which is less to prove than what a derived one writes.
+impl fmt::Debug for MakeFault {
+    fn fmt<W: fmt::Write>(&self, f: &mut fmt::Formatter<W>) -> fmt::Result {
+        fmt::Display::fmt(self, f)
+    }
 }
 
 impl From<ScriptFault> for MakeFault {

@@ -12,11 +12,11 @@ use crate::printing::append_line;
 use nbd_capture::{WriteFault, write_chunk, write_whole};
 use nbd_wire::{Message, append, side_of};
 use std::alloc::{AllocError, Global};
-use std::io;
+use std::{fmt, io};
 use thiserror::Error;
 
 /// Why not all of an output was written.
-#[derive(Clone, Copy, Debug, Drop, Error)]
+#[derive(Clone, Copy, Drop, Error)]
 pub enum OutputFault {
     /// The writer failed, or took no byte.
     #[error("write")]
@@ -24,6 +24,13 @@ pub enum OutputFault {
     /// An allocation was refused.
     #[error("memory")]
     Memory,
+}
+
+// As it is printed, which is less to prove than what a derived one writes.
+impl fmt::Debug for OutputFault {
+    fn fmt<W: fmt::Write>(&self, f: &mut fmt::Formatter<W>) -> fmt::Result {
+        fmt::Display::fmt(self, f)
+    }
 }
 
 impl From<AllocError> for OutputFault {

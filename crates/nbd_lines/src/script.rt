@@ -11,10 +11,11 @@ use crate::reading::parse_message;
 use nbd_capture::first_line;
 use nbd_wire::Message;
 use std::alloc::{AllocError, AllocFailed, Global};
+use std::fmt;
 use thiserror::Error;
 
 /// Why a script gave no messages. Nothing is kept of a text after a fault.
-#[derive(Clone, Copy, Debug, Drop, Error)]
+#[derive(Clone, Copy, Drop, Error)]
 pub enum ScriptFault {
     /// The line with this number, from 1, is the first bad one: it is malformed, its message has no encoding,
     /// or no LF stands after it.
@@ -23,6 +24,13 @@ pub enum ScriptFault {
     /// An allocation was refused.
     #[error("memory")]
     Memory,
+}
+
+// As it is printed, which is less to prove than what a derived one writes.
+impl fmt::Debug for ScriptFault {
+    fn fmt<W: fmt::Write>(&self, f: &mut fmt::Formatter<W>) -> fmt::Result {
+        fmt::Display::fmt(self, f)
+    }
 }
 
 impl<T: Drop> From<AllocFailed<T>> for ScriptFault {
