@@ -21,7 +21,7 @@ PARTS = {path.stem.removeprefix("test_"): f"{path.parent.name}.{path.stem}"
          for path in sorted((TOP / "tests").glob("*/test_*.py"), key=lambda path: path.name)}
 # Parts that measure seconds, or in which programs wait for one another: each of them has the machine for itself, behind the others.
 ALONE = ("build", "picture_pages", "record", "record_answers", "record_apart", "record_endings", "record_programs", "record_refusals", "record_reports",
-         "record_tls", "sizes")
+         "record_suites", "record_tls", "sizes")
 
 
 def run_part(name):

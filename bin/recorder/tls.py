@@ -30,6 +30,12 @@ class Refused(Exception):
     """Why there is no TLS."""
 
 
+def said_of(error):
+    """What went wrong with TLS, in the words of OpenSSL or of the system."""
+    reason = getattr(error, "verify_message", None) or getattr(error, "reason", None)
+    return reason_of(error) if reason is None else reason.replace("_", " ")
+
+
 def has_keys():
     """Whether this python has TLS with keys that both sides know."""
     return hasattr(ssl.SSLContext, "set_psk_client_callback")
@@ -221,7 +227,7 @@ class Upgrade:
         except BlockingIOError:
             return False
         except OSError as error:
-            raise Refused(f"no TLS with the server: {getattr(error, 'verify_message', None) or reason_of(error)}") from None
+            raise Refused(f"no TLS with the server: {said_of(error)}") from None
 
     def is_sending(self):
         """Whether the server has to take more."""
