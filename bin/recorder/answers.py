@@ -48,7 +48,8 @@ class Nbdcheck:
     def __init__(self, program, start, profile, tell):
         self.program, self.tell = program, tell
         self.start = ["--start", start]
-        self.profile = [] if profile is None else ["--profile", profile]
+        # With hints: the log of a suite has the reason behind a fault.
+        self.profile = [*([] if profile is None else ["--profile", profile]), "--hints"]
 
     def can_run(self):
         """Whether it runs; the repository's is built here, where it is not built yet."""
