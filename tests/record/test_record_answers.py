@@ -268,16 +268,16 @@ def statuses(tally, folder):
         lines += f"connections 2: compared 0, not compared {known}, empty 0, not judged 0{unknown}\n"
         tally.want(f"statuses {first} and {second}", ask(2, first, second), (wanted, lines, kept_lines(capture, other)))
     for asked, wanted in (
-        (["--start", "zero"], [f"explain {capture} --start zero --profile wide"]),
-        ([], [f"explain {capture} --start unknown --profile wide"]),
-        (["--order", notes, "--profile", "base"], [f"explain {capture} {notes} --start unknown --profile base"]),
+        (["--start", "zero"], [f"explain {capture} --start zero --profile wide --hints"]),
+        ([], [f"explain {capture} --start unknown --profile wide --hints"]),
+        (["--order", notes, "--profile", "base"], [f"explain {capture} {notes} --start unknown --profile base --hints"]),
     ):
         ask(1, 0, 0, *asked)
         tally.want(f"its words, {asked}", notes.read_text().splitlines(), ["--version", *wanted])
     ask(1, 0, 0, "--arrival", "--profile", "base")
     found = notes.read_text().splitlines()
     tally.want("its words, --arrival", (found[1], found[2].startswith(f"explain {capture} /")),
-               (f"order {capture} --arrival --profile base", True))
+               (f"order {capture} --arrival --profile base --hints", True))
     tally.want("nbdcheck fails at once", ask(1, 0, version="3"),
                (3, "", f"nbdcheck-record: cannot run {program}: it ended with status 3\n"))
     client = ["touch", f"{folder}/came", "{uri}"]
