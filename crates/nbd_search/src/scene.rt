@@ -5,7 +5,6 @@ use crate::replay::Range;
 use crate::work::Work;
 use nbd_export::Start;
 use nbd_session::{Asked, Transcript};
-use nbd_state::Span;
 use nbd_wire::{Piece, Profile, commands};
 
 /// The last slot of a request that may stay out.
@@ -13,7 +12,7 @@ pub const NEVER: usize = usize::MAX;
 
 /// Bytes that a request leaves in a range, or reads there. The start is request 0, which leaves its bytes first.
 #[derive(Clone, Copy, Drop)]
-pub struct Patch {
+pub struct Patch<'a> {
     /// The request's number.
     pub request: usize,
     /// The last slot in which it may be served, or `NEVER`. Slot t is from the completion of request t to the next.
@@ -29,16 +28,23 @@ pub struct Patch {
     /// Its range, to before `hi`.
     pub lo: u64,
     pub hi: u64,
-    // Where its bytes begin, and of a READ the piece that has them.
+    // Its bytes, and where they begin; none where they are zeroes that no message has, None where they are unknown.
     from: u64,
-    piece: usize,
+    bytes: Option<&'a [u8]>,
     /// What stands for its bytes in the range that is searched; None where they are unknown.
     pub value: Option<u64>,
     /// Its column while it is open in a search.
     pub column: usize,
 }
 
-impl Patch {
+impl<'a> Patch<'a> {
+    /// Its bytes from `lo` to before `hi`, if they are known; none where they are zeroes that no message has.
+    pub fn bytes(&self, lo: u64, hi: u64) -> Option<&'a [u8]> {
+        let first = lo.saturating_sub(self.from) as usize;
+        let behind = hi.saturating_sub(self.from) as usize;
+        Some(self.bytes?.get(first..behind).unwrap_or(&[]))
+    }
+
     /// Whether it is a READ that can find this where that was left.
     pub fn reads(&self, left: Option<u64>) -> bool {
         self.is_read && (left.is_none() || left == self.value)
@@ -48,14 +54,12 @@ impl Patch {
 /// The requests of a session.
 #[derive(Drop)]
 pub struct Scene<'a> {
-    transcript: &'a Transcript,
-    start: &'a Start,
     /// The export's size in bytes.
     pub size: u64,
     /// By their numbers, each whole; number 0 is the start. A range is empty where no bytes are left or read.
-    pub requests: Vec<Patch>,
+    pub requests: Vec<Patch<'a>>,
     /// What they leave or read; of a READ at least one for each piece with bytes.
-    pub patches: Vec<Patch>,
+    pub patches: Vec<Patch<'a>>,
 }
 
 impl<'a> Scene<'a> {
@@ -66,13 +70,16 @@ impl<'a> Scene<'a> {
         work: &mut Work,
     ) -> Scene<'a> {
         let mut scene = Scene {
-            transcript,
-            start,
             size: transcript.export().unwrap_or((0, 0)).0,
             requests: Vec::new(work.alloc),
             patches: Vec::new(work.alloc),
         };
-        let whole = scene.patch(0, 0, None, (0, scene.size));
+        let bytes: Option<&[u8]> = match start {
+            Start::Image(image) => Some(image.as_slice()),
+            Start::Zeroes => Some(&[]),
+            Start::Unknown => None,
+        };
+        let whole = scene.patch(0, false, (0, scene.size), bytes);
         work.keep(&mut scene.requests, whole);
         scene.keep(whole, work);
         for number in 1..=transcript.count() {
@@ -83,40 +90,55 @@ impl<'a> Scene<'a> {
         scene
     }
 
-    fn add(&mut self, profile: Profile, one: &Asked, work: &mut Work) {
-        let (request, due) = (self.requests.len(), due_of(profile, one, 0));
+    fn add(&mut self, profile: Profile, one: &'a Asked, work: &mut Work) {
         let (is_change, command) = (one.touches(one.offset), one.command);
         let is_read = one.succeeded() && matches!(command, commands::READ | commands::BLOCK_STATUS);
         let length = if is_change || is_read { one.length } else { 0 };
-        let whole = self.patch(request, due, None, (one.offset, length));
-        work.keep(&mut self.requests, whole);
+        let bytes = match one.payload.as_slice() {
+            bytes if one.succeeded() && command != commands::TRIM => Some(bytes),
+            _ => None,
+        };
+        let whole = self.patch(due_of(profile, one, 0), false, (one.offset, length), bytes);
         if is_change {
             self.keep(whole, work);
         }
         let count = if is_read { one.pieces.len() } else { 0 };
         for i in 0..count {
-            let (span, due) = (Span::of(&one.pieces[i]), due_of(profile, one, i));
-            let patch = self.patch(request, due, Some(i), (span.offset, span.size));
+            let (range, bytes): (_, &[u8]) = match &one.pieces[i] {
+                Piece::Bytes { offset, bytes } => {
+                    ((*offset, bytes.as_slice().len() as u64), bytes.as_slice())
+                }
+                Piece::Hole { offset, size } => ((*offset, *size), &[]),
+            };
+            let patch = self.patch(due_of(profile, one, i), true, range, Some(bytes));
             self.keep(patch, work);
         }
+        work.keep(&mut self.requests, whole);
     }
 
-    // What a request does from an offset on in so many bytes; of a READ the piece with these.
-    fn patch(&self, request: usize, due: usize, piece: Option<usize>, range: (u64, u64)) -> Patch {
-        let slot = match piece {
-            Some(_) => request,
-            None if due == NEVER => 0,
-            None => due,
+    // What the request that comes next does from an offset on in so many bytes.
+    fn patch(
+        &self,
+        due: usize,
+        is_read: bool,
+        range: (u64, u64),
+        bytes: Option<&'a [u8]>,
+    ) -> Patch<'a> {
+        let request = self.requests.len();
+        let slot = match is_read {
+            true => request,
+            false if due == NEVER => 0,
+            false => due,
         };
         Patch {
             request,
             due,
             slot,
-            is_read: piece.is_some(),
+            is_read,
             lo: range.0.min(self.size),
             hi: range.0.saturating_add(range.1).min(self.size),
             from: range.0,
-            piece: piece.unwrap_or(0),
+            bytes,
             moment: (0, 0),
             is_wrong: false,
             value: None,
@@ -124,7 +146,7 @@ impl<'a> Scene<'a> {
         }
     }
 
-    fn keep(&mut self, patch: Patch, work: &mut Work) {
+    fn keep(&mut self, patch: Patch<'a>, work: &mut Work) {
         if patch.lo < patch.hi {
             work.keep(&mut self.patches, patch);
         }
@@ -152,54 +174,29 @@ impl<'a> Scene<'a> {
             patch.slot = patch.due;
         }
     }
+}
 
-    /// Numbers the bytes of patches from `lo` to before `hi`: the same have the same number, unknown ones none.
-    pub fn number(&self, patches: &mut [Patch], lo: u64, hi: u64, work: &mut Work) {
-        for patch in patches.iter_mut() {
-            work.spend((hi.saturating_sub(lo) as usize / 8).saturating_add(4));
-            patch.value = self.bytes(patch, lo, hi).map(mixed);
+/// Numbers the bytes of patches from `lo` to before `hi`: the same have the same number, unknown ones none.
+pub fn number(patches: &mut [Patch], lo: u64, hi: u64, work: &mut Work) {
+    for patch in patches.iter_mut() {
+        work.spend((hi.saturating_sub(lo) as usize / 16).saturating_add(4));
+        patch.value = patch.bytes(lo, hi).map(mixed);
+    }
+}
+
+/// The first offset from `lo` to before `hi` at which a READ did not get what a change left, or `hi`.
+pub fn differs(change: &Patch, read: &Patch, lo: u64, hi: u64, work: &mut Work) -> u64 {
+    let (Some(left), Some(got)) = (change.bytes(lo, hi), read.bytes(lo, hi)) else {
+        return hi;
+    };
+    let count = left.len().max(got.len());
+    work.spend((count / 8).saturating_add(4));
+    for place in 0..count {
+        if byte_at(left, place) != byte_at(got, place) {
+            return lo.saturating_add(place as u64);
         }
     }
-
-    /// The patch's bytes from `lo` to before `hi`, if they are known; none where they are zeroes that no message has.
-    pub fn bytes(&self, patch: &Patch, lo: u64, hi: u64) -> Option<&'a [u8]> {
-        let first = lo.saturating_sub(patch.from) as usize;
-        let behind = hi.saturating_sub(patch.from) as usize;
-        Some(self.all_bytes(patch)?.get(first..behind).unwrap_or(&[]))
-    }
-
-    fn all_bytes(&self, patch: &Patch) -> Option<&'a [u8]> {
-        let Some(one) = self.transcript.asked(patch.request as u64) else {
-            return match self.start {
-                Start::Image(image) => Some(image.as_slice()),
-                Start::Zeroes => Some(&[]),
-                Start::Unknown => None,
-            };
-        };
-        match one.pieces.get(patch.piece) {
-            Some(Piece::Bytes { bytes, .. }) => Some(bytes.as_slice()),
-            Some(Piece::Hole { .. }) => Some(&[]),
-            // A change has no pieces.
-            None if !one.succeeded() || one.command == commands::TRIM => None,
-            None => Some(one.payload.as_slice()),
-        }
-    }
-
-    /// The first offset from `lo` to before `hi` at which a READ did not get what a change left, or `hi`.
-    pub fn differs(&self, change: &Patch, read: &Patch, lo: u64, hi: u64, work: &mut Work) -> u64 {
-        let (left, got) = (self.bytes(change, lo, hi), self.bytes(read, lo, hi));
-        let (Some(left), Some(got)) = (left, got) else {
-            return hi;
-        };
-        let count = left.len().max(got.len());
-        work.spend((count / 8).saturating_add(4));
-        for place in 0..count {
-            if byte_at(left, place) != byte_at(got, place) {
-                return lo.saturating_add(place as u64);
-            }
-        }
-        hi
-    }
+    hi
 }
 
 // The last slot of a request; by chunk that of a piece of a READ, of which none has an earlier one than the first.
@@ -217,12 +214,20 @@ const MIXER: u64 = 0x9e37_79b9_7f4a_7c15;
 
 // A number for these bytes: 0 for zeroes, and hardly ever the same one for others.
 fn mixed(bytes: &[u8]) -> u64 {
-    let mut number = 0u64;
-    for byte in bytes {
-        number = (number ^ u64::from(*byte)).wrapping_mul(MIXER);
-        number ^= number >> 32;
+    let (words, rest) = bytes.as_chunks::<8>();
+    let mut number = 0;
+    for word in words {
+        number = mixed_with(number, u64::from_le_bytes(*word));
+    }
+    for byte in rest {
+        number = mixed_with(number, u64::from(*byte));
     }
     number
+}
+
+fn mixed_with(number: u64, more: u64) -> u64 {
+    let product = (number ^ more).wrapping_mul(MIXER);
+    product ^ (product >> 32)
 }
 
 // Where there is no byte it is zero.

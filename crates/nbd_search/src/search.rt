@@ -5,7 +5,7 @@ use crate::order::{Served, arrange, arrive, entries_of};
 use crate::progress::Progress;
 use crate::proposal::{Place, Proposal, Reason};
 use crate::replay::wrong_ranges;
-use crate::scene::{NEVER, Patch, Scene};
+use crate::scene::{NEVER, Patch, Scene, number};
 use crate::sweep::{Outcome, Sweep};
 use crate::walk::{Register, Walk, events_of};
 use crate::work::{Limits, Work};
@@ -43,6 +43,12 @@ pub fn propose(
         alone: NEVER,
         is_stuck: false,
         is_exact: false,
+        register: Register {
+            lo: 0,
+            hi: 0,
+            read: 0,
+            operations: Vec::new(alloc),
+        },
         sweep: Sweep::new(work),
     };
     let proposal = search.run(&mut scene);
@@ -54,13 +60,15 @@ pub fn propose(
 }
 
 #[derive(Drop)]
-struct Search {
+struct Search<'a> {
     // The search of one register, and what all may cost.
-    sweep: Sweep,
+    sweep: Sweep<'a>,
+    // What is looked at.
+    register: Register<'a>,
     // What is served in the registers, each in an order of its own.
     served: Vec<Served>,
     // What refutes each order, and the least READ that is refuted alone, or `NEVER`.
-    refuting: Vec<Patch>,
+    refuting: Vec<Patch<'a>>,
     alone: usize,
     // A register has no order, or too many states.
     is_stuck: bool,
@@ -68,8 +76,8 @@ struct Search {
     is_exact: bool,
 }
 
-impl Search {
-    fn run(&mut self, scene: &mut Scene) -> Proposal {
+impl<'a> Search<'a> {
+    fn run(&mut self, scene: &mut Scene<'a>) -> Proposal {
         arrive(&mut scene.requests);
         if !self.refine(scene) {
             arrive(&mut scene.requests);
@@ -86,7 +94,7 @@ impl Search {
 
     // The present order is replayed, first that of arrival; what it gets wrong is searched and binds the next one,
     // until nothing is wrong. Else an order in parts needs no registers but those of the order of arrival.
-    fn refine(&mut self, scene: &mut Scene) -> bool {
+    fn refine(&mut self, scene: &mut Scene<'a>) -> bool {
         let mut count = 0;
         for round in 1..=ROUNDS {
             self.sweep.work.progress.rounds = round;
@@ -111,7 +119,7 @@ impl Search {
     }
 
     // Goes along the order of arrival once more, with nothing taken as it was there, if a register has no order so.
-    fn go_again(&mut self, scene: &mut Scene) {
+    fn go_again(&mut self, scene: &mut Scene<'a>) {
         if self.is_stuck && self.refuting.is_empty() {
             scene.unpin();
             self.served.clear();
@@ -122,40 +130,41 @@ impl Search {
     }
 
     // Goes along the export, and looks at the registers that are closed on the way.
-    fn go_along(&mut self, scene: &Scene) {
+    fn go_along(&mut self, scene: &Scene<'a>) {
         let events = events_of(scene, &mut self.sweep.work);
-        let mut walk = Walk::new(scene, &mut self.sweep.work);
+        let mut walk = Walk::new(scene.requests.len(), &mut self.sweep.work);
         for (offset, begins, place) in &events {
             if let (Some(patch), false) = (scene.patches.get(*place), self.sweep.work.is_over()) {
                 walk.go_to(*offset, &mut self.sweep.work);
-                self.close(scene, &mut walk, patch);
+                self.close(&mut walk, patch, scene.requests.len());
                 walk.pass(patch, *begins, &mut self.sweep.work);
             }
         }
     }
 
     // Looks at the registers that are closed since a patch begins or ends.
-    fn close(&mut self, scene: &Scene, walk: &mut Walk, patch: &Patch) {
-        for _ in 0..scene.requests.len() {
-            let Some(mut register) = walk.close(patch, &mut self.sweep.work) else {
+    fn close(&mut self, walk: &mut Walk<'a>, patch: &Patch, count: usize) {
+        for _ in 0..count {
+            if !walk.close(patch, &mut self.register, &mut self.sweep.work) {
                 break;
-            };
-            self.look_at(scene, walk, &mut register);
+            }
+            self.look_at(walk);
         }
     }
 
-    // Looks for an order of all bytes of a register as one value, else of shorter ranges, each for itself.
-    fn look_at(&mut self, scene: &Scene, walk: &Walk, register: &mut Register) {
-        let (mut lo, mut hi) = (register.lo, register.hi);
+    // Looks for an order of all bytes of the register as one value, else of shorter ranges, each for itself.
+    fn look_at(&mut self, walk: &Walk<'a>) {
+        let (first, end) = (self.register.lo, self.register.hi);
+        let (mut lo, mut hi) = (first, end);
         for _ in lo..u64::MAX {
-            let is_whole = (lo, hi) == (register.lo, register.hi);
-            match self.search(scene, register, lo, hi) {
-                Outcome::Order => (lo, hi) = (hi, register.hi),
-                _ if is_whole && self.ask(scene, walk, register) => return,
+            let is_whole = (lo, hi) == (first, end);
+            match self.search(lo, hi) {
+                Outcome::Order => (lo, hi) = (hi, end),
+                _ if is_whole && self.ask(walk) => return,
                 Outcome::NoOrder(_) if hi.saturating_sub(lo) > 1 => {
                     hi = lo.saturating_add(hi.saturating_sub(lo) / 2);
                 }
-                outcome => return self.stick(register, outcome),
+                outcome => return self.stick(outcome),
             }
             if lo >= hi {
                 return;
@@ -163,40 +172,42 @@ impl Search {
         }
     }
 
-    // Looks for an order of the bytes of a register from `lo` to before `hi` as one value, while all others had one.
-    fn search(&mut self, scene: &Scene, register: &mut Register, lo: u64, hi: u64) -> Outcome {
+    // Looks for an order of the bytes of the register from `lo` to before `hi` as one value, while all others had one.
+    fn search(&mut self, lo: u64, hi: u64) -> Outcome {
         if self.is_stuck {
             return Outcome::BrokenOff;
         }
-        self.sweep.work.place = place_of(register.read, lo);
-        scene.number(&mut register.operations, lo, hi, &mut self.sweep.work);
-        let outcome = self.sweep.run(&mut register.operations);
+        self.sweep.work.place = place_of(self.register.read, lo);
+        let operations = &mut self.register.operations;
+        number(operations, lo, hi, &mut self.sweep.work);
+        let outcome = self.sweep.run(operations);
         if let Outcome::Order = outcome {
-            self.sweep.trace(lo, hi, &mut self.served);
+            let served = self.sweep.trace(lo, hi);
+            self.sweep.work.keep(&mut self.served, served);
         }
         outcome
     }
 
     // Asks whether a READ is refuted alone that is less than those found; whether any was, or a register is stuck.
-    fn ask(&mut self, scene: &Scene, walk: &Walk, register: &mut Register) -> bool {
+    fn ask(&mut self, walk: &Walk<'a>) -> bool {
         let work = &mut self.sweep.work;
-        if let Some((read, offset)) = walk.refuted(scene, register, self.alone, work) {
+        if let Some((read, offset)) = walk.refuted(&self.register, self.alone, work) {
             let (behind, mut reads) = (offset.saturating_add(1), [read]);
-            scene.number(&mut reads, offset, behind, work);
-            scene.number(&mut register.operations, offset, behind, work);
+            number(&mut reads, offset, behind, work);
+            number(&mut self.register.operations, offset, behind, work);
             (self.alone, self.is_stuck) = (read.request, true);
             work.place = place_of(read.request, offset);
-            self.refuting = few_of(&register.operations, &reads, work);
+            self.refuting = few_of(&self.register.operations, &reads, work);
         }
         self.is_stuck
     }
 
-    // A byte of a register has no order, or too many states.
-    fn stick(&mut self, register: &Register, outcome: Outcome) {
+    // A byte of the register has no order, or too many states.
+    fn stick(&mut self, outcome: Outcome) {
         self.is_stuck = true;
         match outcome {
             Outcome::NoOrder(slot) if self.is_exact => {
-                self.refuting = shrink(&register.operations, slot, &mut self.sweep);
+                self.refuting = shrink(&self.register.operations, slot, &mut self.sweep);
             }
             _ if self.is_exact => {
                 self.sweep.work.end.get_or_insert(Reason::States);

@@ -5,7 +5,6 @@
 use crate::order::Served;
 use crate::scene::{NEVER, Patch};
 use crate::work::Work;
-use std::mem;
 
 /// How many operations can be open.
 const COUNT: usize = 1024;
@@ -45,10 +44,10 @@ impl State {
         self.debt[one.column / 64 % WORDS] ^= 1 << (one.column % 64);
     }
 
-    // Serves an operation, before its last switch or behind it. What is served first is what was left before.
+    // Serves an operation, before its last switch or behind it.
     fn serve(&mut self, one: &Patch, behind: usize, log: &mut Vec<Logged>, work: &mut Work) {
-        let request = if self.log == 0 { 0 } else { one.request };
-        work.keep(log, (request, self.turn.saturating_add(behind), self.log));
+        let turn = self.turn.saturating_add(behind);
+        work.keep(log, (one.request, turn, self.log));
         self.log = log.len();
         self.flip(one);
     }
@@ -75,23 +74,23 @@ impl State {
     }
 }
 
-// A request that was served, or 0 for what was left before; its turn: what one state has served is in order by turns and
-// then by places in the log; and the place behind that of what the state served before it, or 0.
+// A request that was served; its turn: what one state has served is in order by turns and then by places in the log; and
+// the place behind that of what the state served before it, or 0.
 type Logged = (usize, usize, usize);
 
 #[derive(Drop)]
-pub struct Sweep {
+pub struct Sweep<'a> {
     pub work: Work,
     // The operations that have arrived and are not due yet, by their columns; what is closed has no request.
-    open: Vec<Patch>,
+    open: Vec<Patch<'a>>,
     closed: Vec<usize>,
     states: Vec<State>,
     log: Vec<Logged>,
     slot: usize,
 }
 
-impl Sweep {
-    pub fn new(work: Work) -> Sweep {
+impl<'a> Sweep<'a> {
+    pub fn new(work: Work) -> Sweep<'a> {
         Sweep {
             open: Vec::new(work.alloc),
             closed: Vec::new(work.alloc),
@@ -103,15 +102,25 @@ impl Sweep {
     }
 
     /// Serves these operations, which stand by their numbers.
-    pub fn run(&mut self, operations: &mut [Patch]) -> Outcome {
+    pub fn run(&mut self, operations: &mut [Patch<'a>]) -> Outcome {
         self.begin();
-        for (slot, is_due, place) in &moves_of(operations, &mut self.work) {
-            if let Some(one) = operations.get_mut(*place) {
-                if *is_due {
-                    self.slot = *slot;
-                    self.fall_due(one);
-                } else {
+        let dues = dues_of(operations, &mut self.work);
+        let (mut come, mut gone) = (0usize, 0usize);
+        for _ in 0..operations.len().saturating_add(dues.len()) {
+            let Some((slot, place)) = dues.get(gone) else {
+                break;
+            };
+            match operations.get_mut(come) {
+                Some(one) if one.request <= *slot => {
                     self.arrive(one);
+                    come = come.saturating_add(1);
+                }
+                _ => {
+                    self.slot = *slot;
+                    if let Some(one) = operations.get(*place) {
+                        self.fall_due(one);
+                    }
+                    gone = gone.saturating_add(1);
                 }
             }
             let is_wide = self.states.len() as u64 > self.work.limits.states;
@@ -135,7 +144,7 @@ impl Sweep {
     }
 
     // An operation arrives: no state has served it, but a READ is served where it matches.
-    fn arrive(&mut self, one: &mut Patch) {
+    fn arrive(&mut self, one: &mut Patch<'a>) {
         one.column = self.closed.pop().unwrap_or(self.open.len());
         match self.open.get_mut(one.column) {
             Some(closed) => *closed = *one,
@@ -153,25 +162,30 @@ impl Sweep {
     }
 
     // An operation is in its last slot: each state that has not served it does so, in each way.
-    fn fall_due(&mut self, one: &Patch) {
-        for state in &mem::replace(&mut self.states, Vec::new(self.work.alloc)) {
-            if state.has_served(one) {
-                self.work.keep(&mut self.states, *state);
-            } else {
-                self.branch(state, one);
-            }
+    fn fall_due(&mut self, one: &Patch<'a>) {
+        let mut is_changed = false;
+        for place in 0..self.states.len() {
+            let state = match self.states.get(place) {
+                Some(state) if !state.has_served(one) => *state,
+                _ => continue,
+            };
+            self.branch(&state, one);
+            is_changed = true;
+        }
+        if is_changed {
+            self.states.retain(|state| state.has_served(one));
         }
         if let Some(open) = self.open.get_mut(one.column) {
             open.request = NEVER;
         }
         self.work.keep(&mut self.closed, one.column);
-        if self.states.len() > 1 {
+        if is_changed && self.states.len() > 1 {
             self.prune();
         }
     }
 
     // Adds what a state becomes by serving what is due; a READ with an open change to its value, or to an unknown one.
-    fn branch(&mut self, state: &State, one: &Patch) {
+    fn branch(&mut self, state: &State, one: &Patch<'a>) {
         for value in [one.value, None] {
             self.put(state, one, value, true);
             if state.turn > 0 {
@@ -184,10 +198,10 @@ impl Sweep {
     }
 
     // Adds the state with a change to this value served, by a switch or hidden, and the open READs that match it there.
-    fn put(&mut self, state: &State, one: &Patch, value: Option<u64>, is_switch: bool) {
+    fn put(&mut self, state: &State, one: &Patch<'a>, value: Option<u64>, is_switch: bool) {
         self.work.spend((self.open.len() / 2).saturating_add(8));
         let slot = if is_switch { self.slot } else { state.last };
-        let Some(change) = self.change(state, one, value, slot) else {
+        let Some(change) = change_of(&self.open, state, one, value, slot) else {
             return;
         };
         let (mut state, behind) = (*state, usize::from(is_switch));
@@ -195,7 +209,7 @@ impl Sweep {
             (state.value, state.last) = (value, slot);
             state.turn = state.turn.saturating_add(2);
         }
-        state.serve(&change, behind, &mut self.log, &mut self.work);
+        state.serve(change, behind, &mut self.log, &mut self.work);
         for open in &self.open {
             if open.reads(value) && open.request <= slot && !state.has_served(open) {
                 state.serve(open, behind, &mut self.log, &mut self.work);
@@ -204,40 +218,29 @@ impl Sweep {
         self.work.keep(&mut self.states, state);
     }
 
-    // The change with which what is due is served in a slot, if there is one: itself, or of the open changes to this value
-    // that the state has not served the one with the earliest last slot.
-    fn change(&self, state: &State, one: &Patch, value: Option<u64>, slot: usize) -> Option<Patch> {
-        if one.request > slot {
-            return None;
-        }
-        if !one.is_read {
-            return Some(*one);
-        }
-        let (mut found, mut due) = (None, NEVER);
-        for open in &self.open {
-            let is_such = !open.is_read && open.value == value && open.request <= slot;
-            if is_such && open.due <= due && !state.has_served(open) {
-                (found, due) = (Some(*open), open.due);
-            }
-        }
-        found
-    }
-
     // Drops each state for which another one can stand.
     fn prune(&mut self) {
-        let mut states = mem::replace(&mut self.states, Vec::new(self.work.alloc));
-        self.work.spend(states.len().saturating_mul(16));
-        states.sort_unstable_by_key(|state| (state.value, NEVER - state.last, state.debt));
-        for state in &states {
-            if !self.is_dominated(state) {
-                self.work.keep(&mut self.states, *state);
+        self.work.spend(self.states.len().saturating_mul(16));
+        self.states
+            .sort_unstable_by_key(|state| (state.value, NEVER - state.last, state.debt));
+        let mut kept = 0usize;
+        for place in 0..self.states.len() {
+            if let Some(state) = self.states.get(place).copied() {
+                if self.is_dominated(kept, &state) {
+                    continue;
+                }
+                if let Some(free) = self.states.get_mut(kept) {
+                    *free = state;
+                }
+                kept = kept.saturating_add(1);
             }
         }
+        self.states.truncate(kept);
     }
 
-    // Whether one of the states with its value has no more against it, and can hide what this one has served besides.
-    fn is_dominated(&mut self, state: &State) -> bool {
-        for other in self.states.iter().rev() {
+    // Whether one of the first states with its value has no more against it, and can hide what this one has served besides.
+    fn is_dominated(&mut self, kept: usize, state: &State) -> bool {
+        for other in self.states.get(..kept).unwrap_or(&[]).iter().rev() {
             self.work.spend(1);
             if other.value != state.value {
                 break;
@@ -252,8 +255,8 @@ impl Sweep {
         false
     }
 
-    /// Adds what was served in this range to a list; first request 0, which stands for what was left before.
-    pub fn trace(&mut self, lo: u64, hi: u64, served: &mut Vec<Served>) {
+    /// What was served in this range, behind what was left before.
+    pub fn trace(&mut self, lo: u64, hi: u64) -> Served {
         let (mut list, mut place) = (Vec::new(self.work.alloc), 0);
         if let Some(state) = self.states.first() {
             place = state.log;
@@ -262,26 +265,53 @@ impl Sweep {
             let Some((request, turn, before)) = self.log.get(place.wrapping_sub(1)) else {
                 break;
             };
-            self.work.keep(&mut list, (*turn, place, *request));
+            if *before > 0 {
+                self.work.keep(&mut list, (*turn, place, *request));
+            }
             place = *before;
         }
         list.sort_unstable();
+        let mut requests = Vec::new(self.work.alloc);
         for (_, _, request) in &list {
-            self.work.keep(served, (*request, lo, hi));
+            self.work.keep(&mut requests, *request);
         }
+        Served { lo, hi, requests }
     }
 }
 
-// In which slots operations arrive, and then are due; with their places.
-fn moves_of(operations: &[Patch], work: &mut Work) -> Vec<(usize, bool, usize)> {
-    let mut moves = Vec::new(work.alloc);
-    for place in 0..operations.len() {
-        let (request, due) = (operations[place].request, operations[place].due);
-        work.keep(&mut moves, (request, false, place));
-        if due < NEVER {
-            work.keep(&mut moves, (due, true, place));
+// The change with which what is due is served in a slot, if there is one: itself, or of the open changes to this value
+// that the state has not served the one with the earliest last slot.
+fn change_of<'a, 'b>(
+    open: &'b [Patch<'a>],
+    state: &State,
+    one: &'b Patch<'a>,
+    value: Option<u64>,
+    slot: usize,
+) -> Option<&'b Patch<'a>> {
+    if one.request > slot {
+        return None;
+    }
+    if !one.is_read {
+        return Some(one);
+    }
+    let (mut found, mut due) = (None, NEVER);
+    for change in open {
+        let is_such = !change.is_read && change.value == value && change.request <= slot;
+        if is_such && change.due <= due && !state.has_served(change) {
+            (found, due) = (Some(change), change.due);
         }
     }
-    moves.sort_unstable();
-    moves
+    found
+}
+
+// The slots in which operations are due, with their places.
+fn dues_of(operations: &[Patch], work: &mut Work) -> Vec<(usize, usize)> {
+    let mut dues = Vec::new(work.alloc);
+    for place in 0..operations.len() {
+        if operations[place].due < NEVER {
+            work.keep(&mut dues, (operations[place].due, place));
+        }
+    }
+    dues.sort_unstable();
+    dues
 }
