@@ -10,7 +10,7 @@ const MOST: usize = 64;
 
 /// Few of the requests of a byte that has no order, as came out in a slot: of the READs that are due there the last 1,
 /// 2, 4 .. that have none, but for those that the others do not need.
-pub fn shrink<'a>(operations: &[Patch<'a>], slot: usize, sweep: &mut Sweep<'a>) -> Vec<Patch<'a>> {
+pub fn shrink(operations: &[Patch], slot: usize, sweep: &mut Sweep) -> Vec<Patch> {
     let mut reads = reads_by(operations, slot, &mut sweep.work);
     let mut size = 1usize;
     for _ in 0..64 {
@@ -30,7 +30,7 @@ pub fn shrink<'a>(operations: &[Patch<'a>], slot: usize, sweep: &mut Sweep<'a>) 
 }
 
 // The READs that are due up to a slot, the last first.
-fn reads_by<'a>(operations: &[Patch<'a>], slot: usize, work: &mut Work) -> Vec<Patch<'a>> {
+fn reads_by(operations: &[Patch], slot: usize, work: &mut Work) -> Vec<Patch> {
     let mut reads = Vec::new(work.alloc);
     for one in operations {
         if one.is_read && one.due <= slot {
@@ -41,17 +41,13 @@ fn reads_by<'a>(operations: &[Patch<'a>], slot: usize, work: &mut Work) -> Vec<P
     reads
 }
 
-fn has_none<'a>(operations: &[Patch<'a>], reads: &[Patch<'a>], sweep: &mut Sweep<'a>) -> bool {
+fn has_none(operations: &[Patch], reads: &[Patch], sweep: &mut Sweep) -> bool {
     let mut few = few_of(operations, reads, &mut sweep.work);
     matches!(sweep.run(&mut few), Outcome::NoOrder(_))
 }
 
 /// These READs, and what may help one: the newest change surely before it, and those that it sees with its bytes.
-pub fn few_of<'a>(
-    operations: &[Patch<'a>],
-    reads: &[Patch<'a>],
-    work: &mut Work,
-) -> Vec<Patch<'a>> {
+pub fn few_of(operations: &[Patch], reads: &[Patch], work: &mut Work) -> Vec<Patch> {
     let (mut helped, mut few) = (Vec::new(work.alloc), Vec::new(work.alloc));
     for read in reads {
         work.spend(operations.len());

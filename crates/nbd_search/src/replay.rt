@@ -55,10 +55,10 @@ impl Replay {
         let Some(patch) = scene.patches.get(place) else {
             return;
         };
-        let bytes = patch.bytes(patch.lo, patch.hi);
+        let bytes = scene.bytes(patch, patch.lo, patch.hi);
         work.spend((bytes.unwrap_or(&[]).len() / 8).saturating_add(32));
         if patch.is_read {
-            self.compare(patch, place, work);
+            self.compare(scene, patch, place, work);
         } else {
             work.is_lost |= self.leave(patch, bytes).is_err();
         }
@@ -78,11 +78,11 @@ impl Replay {
 
     // Notes where a READ, whose patch is at a place, got other bytes: in aligned blocks, of zeroes in more and more of them.
     // What adjoins is one range.
-    fn compare(&mut self, read: &Patch, place: usize, work: &mut Work) {
+    fn compare(&mut self, scene: &Scene, read: &Patch, place: usize, work: &mut Work) {
         let (mut at, mut size) = (read.lo, BLOCK);
         for _ in read.lo..read.hi {
             work.spend(64);
-            let bytes = read.bytes(at, read.hi).unwrap_or(&[]);
+            let bytes = scene.bytes(read, at, read.hi).unwrap_or(&[]);
             let Some(offset) = self.first_other(at, read.hi, bytes, work) else {
                 break;
             };

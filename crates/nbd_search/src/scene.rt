@@ -12,7 +12,7 @@ pub const NEVER: usize = usize::MAX;
 
 /// Bytes that a request leaves in a range, or reads there. The start is request 0, which leaves its bytes first.
 #[derive(Clone, Copy, Drop)]
-pub struct Patch<'a> {
+pub struct Patch {
     /// The request's number.
     pub request: usize,
     /// The last slot in which it may be served, or `NEVER`. Slot t is from the completion of request t to the next.
@@ -28,23 +28,16 @@ pub struct Patch<'a> {
     /// Its range, to before `hi`.
     pub lo: u64,
     pub hi: u64,
-    // Its bytes, and where they begin; none where they are zeroes that no message has, None where they are unknown.
+    // Where its bytes begin, and their place in the scene.
     from: u64,
-    bytes: Option<&'a [u8]>,
+    bytes: usize,
     /// What stands for its bytes in the range that is searched; None where they are unknown.
     pub value: Option<u64>,
     /// Its column while it is open in a search.
     pub column: usize,
 }
 
-impl<'a> Patch<'a> {
-    /// Its bytes from `lo` to before `hi`, if they are known; none where they are zeroes that no message has.
-    pub fn bytes(&self, lo: u64, hi: u64) -> Option<&'a [u8]> {
-        let first = lo.saturating_sub(self.from) as usize;
-        let behind = hi.saturating_sub(self.from) as usize;
-        Some(self.bytes?.get(first..behind).unwrap_or(&[]))
-    }
-
+impl Patch {
     /// Whether it is a READ that can find this where that was left.
     pub fn reads(&self, left: Option<u64>) -> bool {
         self.is_read && (left.is_none() || left == self.value)
@@ -57,9 +50,11 @@ pub struct Scene<'a> {
     /// The export's size in bytes.
     pub size: u64,
     /// By their numbers, each whole; number 0 is the start. A range is empty where no bytes are left or read.
-    pub requests: Vec<Patch<'a>>,
+    pub requests: Vec<Patch>,
     /// What they leave or read; of a READ at least one for each piece with bytes.
-    pub patches: Vec<Patch<'a>>,
+    pub patches: Vec<Patch>,
+    // The bytes of patches; none where they are zeroes that no message has, and None where they are unknown.
+    bytes: Vec<Option<&'a [u8]>>,
 }
 
 impl<'a> Scene<'a> {
@@ -69,19 +64,21 @@ impl<'a> Scene<'a> {
         start: &'a Start,
         work: &mut Work,
     ) -> Scene<'a> {
+        let (size, _) = transcript.export().unwrap_or((0, 0));
         let mut scene = Scene {
-            size: transcript.export().unwrap_or((0, 0)).0,
+            size,
             requests: Vec::new(work.alloc),
             patches: Vec::new(work.alloc),
+            bytes: Vec::new(work.alloc),
         };
         let bytes: Option<&[u8]> = match start {
             Start::Image(image) => Some(image.as_slice()),
             Start::Zeroes => Some(&[]),
             Start::Unknown => None,
         };
-        let whole = scene.patch(0, false, (0, scene.size), bytes);
+        let whole = scene.patch(0, false, (0, size), bytes, work);
         work.keep(&mut scene.requests, whole);
-        scene.keep(whole, work);
+        work.keep(&mut scene.patches, whole);
         for number in 1..=transcript.count() {
             if let Some(one) = transcript.asked(number) {
                 scene.add(profile, one, work);
@@ -98,9 +95,15 @@ impl<'a> Scene<'a> {
             bytes if one.succeeded() && command != commands::TRIM => Some(bytes),
             _ => None,
         };
-        let whole = self.patch(due_of(profile, one, 0), false, (one.offset, length), bytes);
+        let whole = self.patch(
+            due_of(profile, one, 0),
+            false,
+            (one.offset, length),
+            bytes,
+            work,
+        );
         if is_change {
-            self.keep(whole, work);
+            work.keep(&mut self.patches, whole);
         }
         let count = if is_read { one.pieces.len() } else { 0 };
         for i in 0..count {
@@ -110,21 +113,23 @@ impl<'a> Scene<'a> {
                 }
                 Piece::Hole { offset, size } => ((*offset, *size), &[]),
             };
-            let patch = self.patch(due_of(profile, one, i), true, range, Some(bytes));
-            self.keep(patch, work);
+            let patch = self.patch(due_of(profile, one, i), true, range, Some(bytes), work);
+            work.keep(&mut self.patches, patch);
         }
         work.keep(&mut self.requests, whole);
     }
 
     // What the request that comes next does from an offset on in so many bytes.
     fn patch(
-        &self,
+        &mut self,
         due: usize,
         is_read: bool,
         range: (u64, u64),
         bytes: Option<&'a [u8]>,
-    ) -> Patch<'a> {
-        let request = self.requests.len();
+        work: &mut Work,
+    ) -> Patch {
+        let (request, place) = (self.requests.len(), self.bytes.len());
+        work.keep(&mut self.bytes, bytes);
         let slot = match is_read {
             true => request,
             false if due == NEVER => 0,
@@ -138,17 +143,11 @@ impl<'a> Scene<'a> {
             lo: range.0.min(self.size),
             hi: range.0.saturating_add(range.1).min(self.size),
             from: range.0,
-            bytes,
+            bytes: place,
             moment: (0, 0),
             is_wrong: false,
             value: None,
             column: 0,
-        }
-    }
-
-    fn keep(&mut self, patch: Patch<'a>, work: &mut Work) {
-        if patch.lo < patch.hi {
-            work.keep(&mut self.patches, patch);
         }
     }
 
@@ -162,41 +161,43 @@ impl<'a> Scene<'a> {
                 let (mut right, mut wrong) = (*rest, *rest);
                 (right.hi, wrong.lo, wrong.hi, rest.lo) = (*lo, *lo, *hi, *hi);
                 (wrong.slot, wrong.is_wrong) = (wrong.due, true);
-                self.keep(right, work);
-                self.keep(wrong, work);
+                work.keep(&mut self.patches, right);
+                work.keep(&mut self.patches, wrong);
             }
         }
     }
 
-    /// Takes nothing as it was on arrival, where READs are served when they come and what has no reply is not.
-    pub fn unpin(&mut self) {
-        for patch in self.patches.iter_mut() {
-            patch.slot = patch.due;
+    /// Numbers the bytes of patches from `lo` to before `hi`: the same have the same number, unknown ones none.
+    pub fn number(&self, patches: &mut [Patch], lo: u64, hi: u64, work: &mut Work) {
+        for patch in patches.iter_mut() {
+            work.spend((hi.saturating_sub(lo) as usize / 16).saturating_add(4));
+            patch.value = self.bytes(patch, lo, hi).map(mixed);
         }
     }
-}
 
-/// Numbers the bytes of patches from `lo` to before `hi`: the same have the same number, unknown ones none.
-pub fn number(patches: &mut [Patch], lo: u64, hi: u64, work: &mut Work) {
-    for patch in patches.iter_mut() {
-        work.spend((hi.saturating_sub(lo) as usize / 16).saturating_add(4));
-        patch.value = patch.bytes(lo, hi).map(mixed);
+    /// The patch's bytes from `lo` to before `hi`, if they are known; none where they are zeroes that no message has.
+    pub fn bytes(&self, patch: &Patch, lo: u64, hi: u64) -> Option<&'a [u8]> {
+        let bytes = self.bytes.get(patch.bytes).copied().flatten()?;
+        let first = lo.saturating_sub(patch.from) as usize;
+        let behind = hi.saturating_sub(patch.from) as usize;
+        Some(bytes.get(first..behind).unwrap_or(&[]))
     }
-}
 
-/// The first offset from `lo` to before `hi` at which a READ did not get what a change left, or `hi`.
-pub fn differs(change: &Patch, read: &Patch, lo: u64, hi: u64, work: &mut Work) -> u64 {
-    let (Some(left), Some(got)) = (change.bytes(lo, hi), read.bytes(lo, hi)) else {
-        return hi;
-    };
-    let count = left.len().max(got.len());
-    work.spend((count / 8).saturating_add(4));
-    for place in 0..count {
-        if byte_at(left, place) != byte_at(got, place) {
-            return lo.saturating_add(place as u64);
+    /// The first offset from `lo` to before `hi` at which a READ did not get what a change left, or `hi`.
+    pub fn differs(&self, change: &Patch, read: &Patch, lo: u64, hi: u64, work: &mut Work) -> u64 {
+        let (left, got) = (self.bytes(change, lo, hi), self.bytes(read, lo, hi));
+        let (Some(left), Some(got)) = (left, got) else {
+            return hi;
+        };
+        let count = left.len().max(got.len());
+        work.spend((count / 8).saturating_add(4));
+        for place in 0..count {
+            if byte_at(left, place) != byte_at(got, place) {
+                return lo.saturating_add(place as u64);
+            }
         }
+        hi
     }
-    hi
 }
 
 // The last slot of a request; by chunk that of a piece of a READ, of which none has an earlier one than the first.
@@ -208,9 +209,6 @@ fn due_of(profile: Profile, one: &Asked, piece: usize) -> usize {
     };
     due.unwrap_or(u64::MAX) as usize
 }
-
-/// An odd number with bits in no order.
-const MIXER: u64 = 0x9e37_79b9_7f4a_7c15;
 
 // A number for these bytes: 0 for zeroes, and hardly ever the same one for others.
 fn mixed(bytes: &[u8]) -> u64 {
@@ -225,8 +223,9 @@ fn mixed(bytes: &[u8]) -> u64 {
     number
 }
 
+// (an odd number with bits in no order)
 fn mixed_with(number: u64, more: u64) -> u64 {
-    let product = (number ^ more).wrapping_mul(MIXER);
+    let product = (number ^ more).wrapping_mul(0x9e37_79b9_7f4a_7c15);
     product ^ (product >> 32)
 }
 

@@ -5,9 +5,9 @@ use crate::order::{Served, arrange, arrive, entries_of};
 use crate::progress::Progress;
 use crate::proposal::{Place, Proposal, Reason};
 use crate::replay::wrong_ranges;
-use crate::scene::{NEVER, Patch, Scene, number};
+use crate::scene::{NEVER, Patch, Scene};
 use crate::sweep::{Outcome, Sweep};
-use crate::walk::{Register, Walk, events_of};
+use crate::walk::{Walk, events_of};
 use crate::work::{Limits, Work};
 use nbd_export::Start;
 use nbd_session::Transcript;
@@ -43,12 +43,6 @@ pub fn propose(
         alone: NEVER,
         is_stuck: false,
         is_exact: false,
-        register: Register {
-            lo: 0,
-            hi: 0,
-            read: 0,
-            operations: Vec::new(alloc),
-        },
         sweep: Sweep::new(work),
     };
     let proposal = search.run(&mut scene);
@@ -60,15 +54,13 @@ pub fn propose(
 }
 
 #[derive(Drop)]
-struct Search<'a> {
+struct Search {
     // The search of one register, and what all may cost.
-    sweep: Sweep<'a>,
-    // What is looked at.
-    register: Register<'a>,
+    sweep: Sweep,
     // What is served in the registers, each in an order of its own.
     served: Vec<Served>,
     // What refutes each order, and the least READ that is refuted alone, or `NEVER`.
-    refuting: Vec<Patch<'a>>,
+    refuting: Vec<Patch>,
     alone: usize,
     // A register has no order, or too many states.
     is_stuck: bool,
@@ -76,8 +68,8 @@ struct Search<'a> {
     is_exact: bool,
 }
 
-impl<'a> Search<'a> {
-    fn run(&mut self, scene: &mut Scene<'a>) -> Proposal {
+impl Search {
+    fn run(&mut self, scene: &mut Scene) -> Proposal {
         arrive(&mut scene.requests);
         if !self.refine(scene) {
             arrive(&mut scene.requests);
@@ -94,7 +86,7 @@ impl<'a> Search<'a> {
 
     // The present order is replayed, first that of arrival; what it gets wrong is searched and binds the next one,
     // until nothing is wrong. Else an order in parts needs no registers but those of the order of arrival.
-    fn refine(&mut self, scene: &mut Scene<'a>) -> bool {
+    fn refine(&mut self, scene: &mut Scene) -> bool {
         let mut count = 0;
         for round in 1..=ROUNDS {
             self.sweep.work.progress.rounds = round;
@@ -119,9 +111,11 @@ impl<'a> Search<'a> {
     }
 
     // Goes along the order of arrival once more, with nothing taken as it was there, if a register has no order so.
-    fn go_again(&mut self, scene: &mut Scene<'a>) {
+    fn go_again(&mut self, scene: &mut Scene) {
         if self.is_stuck && self.refuting.is_empty() {
-            scene.unpin();
+            for patch in scene.patches.iter_mut() {
+                patch.slot = patch.due;
+            }
             self.served.clear();
             (self.is_stuck, self.is_exact) = (false, true);
             self.go_along(scene);
@@ -130,41 +124,40 @@ impl<'a> Search<'a> {
     }
 
     // Goes along the export, and looks at the registers that are closed on the way.
-    fn go_along(&mut self, scene: &Scene<'a>) {
+    fn go_along(&mut self, scene: &Scene) {
         let events = events_of(scene, &mut self.sweep.work);
         let mut walk = Walk::new(scene.requests.len(), &mut self.sweep.work);
         for (offset, begins, place) in &events {
             if let (Some(patch), false) = (scene.patches.get(*place), self.sweep.work.is_over()) {
                 walk.go_to(*offset, &mut self.sweep.work);
-                self.close(&mut walk, patch, scene.requests.len());
+                self.close(scene, &mut walk, patch);
                 walk.pass(patch, *begins, &mut self.sweep.work);
             }
         }
     }
 
     // Looks at the registers that are closed since a patch begins or ends.
-    fn close(&mut self, walk: &mut Walk<'a>, patch: &Patch, count: usize) {
-        for _ in 0..count {
-            if !walk.close(patch, &mut self.register, &mut self.sweep.work) {
+    fn close(&mut self, scene: &Scene, walk: &mut Walk, patch: &Patch) {
+        for _ in 0..scene.requests.len() {
+            if !walk.close(patch, &mut self.sweep.work) {
                 break;
             }
-            self.look_at(walk);
+            self.look_at(scene, walk);
         }
     }
 
     // Looks for an order of all bytes of the register as one value, else of shorter ranges, each for itself.
-    fn look_at(&mut self, walk: &Walk<'a>) {
-        let (first, end) = (self.register.lo, self.register.hi);
-        let (mut lo, mut hi) = (first, end);
+    fn look_at(&mut self, scene: &Scene, walk: &mut Walk) {
+        let (mut lo, mut hi) = (walk.since, walk.at);
         for _ in lo..u64::MAX {
-            let is_whole = (lo, hi) == (first, end);
-            match self.search(lo, hi) {
-                Outcome::Order => (lo, hi) = (hi, end),
-                _ if is_whole && self.ask(walk) => return,
+            let is_whole = (lo, hi) == (walk.since, walk.at);
+            match self.search(scene, walk, lo, hi) {
+                Outcome::Order => (lo, hi) = (hi, walk.at),
+                _ if is_whole && self.ask(scene, walk) => return,
                 Outcome::NoOrder(_) if hi.saturating_sub(lo) > 1 => {
                     hi = lo.saturating_add(hi.saturating_sub(lo) / 2);
                 }
-                outcome => return self.stick(outcome),
+                outcome => return self.stick(walk, outcome),
             }
             if lo >= hi {
                 return;
@@ -173,14 +166,13 @@ impl<'a> Search<'a> {
     }
 
     // Looks for an order of the bytes of the register from `lo` to before `hi` as one value, while all others had one.
-    fn search(&mut self, lo: u64, hi: u64) -> Outcome {
+    fn search(&mut self, scene: &Scene, walk: &mut Walk, lo: u64, hi: u64) -> Outcome {
         if self.is_stuck {
             return Outcome::BrokenOff;
         }
-        self.sweep.work.place = place_of(self.register.read, lo);
-        let operations = &mut self.register.operations;
-        number(operations, lo, hi, &mut self.sweep.work);
-        let outcome = self.sweep.run(operations);
+        self.sweep.work.place = place_of(walk.read, lo);
+        scene.number(&mut walk.operations, lo, hi, &mut self.sweep.work);
+        let outcome = self.sweep.run(&mut walk.operations);
         if let Outcome::Order = outcome {
             let served = self.sweep.trace(lo, hi);
             self.sweep.work.keep(&mut self.served, served);
@@ -189,25 +181,30 @@ impl<'a> Search<'a> {
     }
 
     // Asks whether a READ is refuted alone that is less than those found; whether any was, or a register is stuck.
-    fn ask(&mut self, walk: &Walk<'a>) -> bool {
-        let work = &mut self.sweep.work;
-        if let Some((read, offset)) = walk.refuted(&self.register, self.alone, work) {
+    fn ask(&mut self, scene: &Scene, walk: &mut Walk) -> bool {
+        let (work, mut found) = (&mut self.sweep.work, None);
+        for read in &walk.operations {
+            if read.is_wrong && read.request < self.alone && found.is_none() {
+                found = walk.unseen(scene, read, work);
+            }
+        }
+        if let Some((read, offset)) = found {
             let (behind, mut reads) = (offset.saturating_add(1), [read]);
-            number(&mut reads, offset, behind, work);
-            number(&mut self.register.operations, offset, behind, work);
+            scene.number(&mut reads, offset, behind, work);
+            scene.number(&mut walk.operations, offset, behind, work);
             (self.alone, self.is_stuck) = (read.request, true);
             work.place = place_of(read.request, offset);
-            self.refuting = few_of(&self.register.operations, &reads, work);
+            self.refuting = few_of(&walk.operations, &reads, work);
         }
         self.is_stuck
     }
 
     // A byte of the register has no order, or too many states.
-    fn stick(&mut self, outcome: Outcome) {
+    fn stick(&mut self, walk: &Walk, outcome: Outcome) {
         self.is_stuck = true;
         match outcome {
             Outcome::NoOrder(slot) if self.is_exact => {
-                self.refuting = shrink(&self.register.operations, slot, &mut self.sweep);
+                self.refuting = shrink(&walk.operations, slot, &mut self.sweep);
             }
             _ if self.is_exact => {
                 self.sweep.work.end.get_or_insert(Reason::States);

@@ -79,18 +79,18 @@ impl State {
 type Logged = (usize, usize, usize);
 
 #[derive(Drop)]
-pub struct Sweep<'a> {
+pub struct Sweep {
     pub work: Work,
     // The operations that have arrived and are not due yet, by their columns; what is closed has no request.
-    open: Vec<Patch<'a>>,
+    open: Vec<Patch>,
     closed: Vec<usize>,
     states: Vec<State>,
     log: Vec<Logged>,
     slot: usize,
 }
 
-impl<'a> Sweep<'a> {
-    pub fn new(work: Work) -> Sweep<'a> {
+impl Sweep {
+    pub fn new(work: Work) -> Sweep {
         Sweep {
             open: Vec::new(work.alloc),
             closed: Vec::new(work.alloc),
@@ -102,8 +102,13 @@ impl<'a> Sweep<'a> {
     }
 
     /// Serves these operations, which stand by their numbers.
-    pub fn run(&mut self, operations: &mut [Patch<'a>]) -> Outcome {
-        self.begin();
+    pub fn run(&mut self, operations: &mut [Patch]) -> Outcome {
+        self.work.progress.searches = self.work.progress.searches.saturating_add(1);
+        self.open.clear();
+        self.closed.clear();
+        self.log.clear();
+        self.states.clear();
+        self.work.keep(&mut self.states, State::default());
         let dues = dues_of(operations, &mut self.work);
         let (mut come, mut gone) = (0usize, 0usize);
         for _ in 0..operations.len().saturating_add(dues.len()) {
@@ -134,17 +139,8 @@ impl<'a> Sweep<'a> {
         Outcome::Order
     }
 
-    fn begin(&mut self) {
-        self.work.progress.searches = self.work.progress.searches.saturating_add(1);
-        self.open.clear();
-        self.closed.clear();
-        self.log.clear();
-        self.states.clear();
-        self.work.keep(&mut self.states, State::default());
-    }
-
     // An operation arrives: no state has served it, but a READ is served where it matches.
-    fn arrive(&mut self, one: &mut Patch<'a>) {
+    fn arrive(&mut self, one: &mut Patch) {
         one.column = self.closed.pop().unwrap_or(self.open.len());
         match self.open.get_mut(one.column) {
             Some(closed) => *closed = *one,
@@ -162,7 +158,7 @@ impl<'a> Sweep<'a> {
     }
 
     // An operation is in its last slot: each state that has not served it does so, in each way.
-    fn fall_due(&mut self, one: &Patch<'a>) {
+    fn fall_due(&mut self, one: &Patch) {
         let mut is_changed = false;
         for place in 0..self.states.len() {
             let state = match self.states.get(place) {
@@ -185,7 +181,7 @@ impl<'a> Sweep<'a> {
     }
 
     // Adds what a state becomes by serving what is due; a READ with an open change to its value, or to an unknown one.
-    fn branch(&mut self, state: &State, one: &Patch<'a>) {
+    fn branch(&mut self, state: &State, one: &Patch) {
         for value in [one.value, None] {
             self.put(state, one, value, true);
             if state.turn > 0 {
@@ -198,7 +194,7 @@ impl<'a> Sweep<'a> {
     }
 
     // Adds the state with a change to this value served, by a switch or hidden, and the open READs that match it there.
-    fn put(&mut self, state: &State, one: &Patch<'a>, value: Option<u64>, is_switch: bool) {
+    fn put(&mut self, state: &State, one: &Patch, value: Option<u64>, is_switch: bool) {
         self.work.spend((self.open.len() / 2).saturating_add(8));
         let slot = if is_switch { self.slot } else { state.last };
         let Some(change) = change_of(&self.open, state, one, value, slot) else {
@@ -281,13 +277,13 @@ impl<'a> Sweep<'a> {
 
 // The change with which what is due is served in a slot, if there is one: itself, or of the open changes to this value
 // that the state has not served the one with the earliest last slot.
-fn change_of<'a, 'b>(
-    open: &'b [Patch<'a>],
+fn change_of<'a>(
+    open: &'a [Patch],
     state: &State,
-    one: &'b Patch<'a>,
+    one: &'a Patch,
     value: Option<u64>,
     slot: usize,
-) -> Option<&'b Patch<'a>> {
+) -> Option<&'a Patch> {
     if one.request > slot {
         return None;
     }

@@ -1,7 +1,7 @@
 //! The way along the export: what READs got wrong is looked at in ranges in which the same requests matter to it.
 
 use crate::dues::Dues;
-use crate::scene::{NEVER, Patch, Scene, differs};
+use crate::scene::{NEVER, Patch, Scene};
 use crate::work::Work;
 use std::collections::BTreeMap;
 use std::mem;
@@ -23,34 +23,22 @@ pub fn events_of(scene: &Scene, work: &mut Work) -> Vec<Event> {
     events
 }
 
-/// A range whose bytes are taken as one value, with a period: the requests from one number to another, such that all
-/// others are due before or came later, and the newest change before them is surely the last that is served before.
+// A period, which is the requests from one number to another, such that all others are due before or came later, and the
+// newest change before them is surely the last that is served before: since which offset it is open, a READ that is wrong
+// in it, its first number, and that change.
+type Period = (u64, usize, usize, usize);
+
+/// What holds the present offset, and the register that was closed last: a range whose bytes are taken as one value.
 #[derive(Drop)]
-pub struct Register<'a> {
-    /// The range, to before `hi`.
-    pub lo: u64,
-    pub hi: u64,
-    /// A READ that is wrong.
+pub struct Walk {
+    /// The present offset, where the register ends; where that begins; and a READ that is wrong there.
+    pub at: u64,
+    pub since: u64,
     pub read: usize,
-    /// First that change, then what the requests of the period do, by their numbers.
-    pub operations: Vec<Patch<'a>>,
-}
-
-// The period of a READ that is wrong since an offset: its first number, and the newest change before it.
-#[derive(Clone, Copy, Drop)]
-struct Period {
-    since: u64,
-    read: usize,
-    first: usize,
-    newest: usize,
-}
-
-/// What holds the present offset.
-#[derive(Drop)]
-pub struct Walk<'a> {
-    at: u64,
-    // By their numbers the patches that hold it and are not left out.
-    now: BTreeMap<usize, Patch<'a>>,
+    /// First the newest change before the register's period, then what the requests of that do, by their numbers.
+    pub operations: Vec<Patch>,
+    // By their numbers the patches that hold the offset and are not left out.
+    now: BTreeMap<usize, Patch>,
     // Their slots; those of the changes that are not left out.
     every: Dues,
     changes: Dues,
@@ -60,11 +48,14 @@ pub struct Walk<'a> {
     news: Vec<usize>,
 }
 
-impl<'a> Walk<'a> {
+impl Walk {
     /// Nothing of so many requests holds the offset.
-    pub fn new(count: usize, work: &mut Work) -> Walk<'a> {
+    pub fn new(count: usize, work: &mut Work) -> Walk {
         Walk {
             at: 0,
+            since: 0,
+            read: 0,
+            operations: Vec::new(work.alloc),
             now: BTreeMap::new(work.alloc),
             every: Dues::new(count, work),
             changes: Dues::new(count, work),
@@ -89,20 +80,15 @@ impl<'a> Walk<'a> {
     // Whether a READ is wrong, and its period is not open.
     fn is_new(&self, read: usize) -> bool {
         match self.open.range(read..).next() {
-            Some((_, period)) if period.first <= read => false,
+            Some((_, (_, _, first, _))) if *first <= read => false,
             _ => matches!(self.now.get(&read), Some(one) if one.is_wrong),
         }
     }
 
     fn open(&mut self, read: usize, work: &mut Work) {
         let first = self.first(read, work);
-        let period = Period {
-            since: self.at,
-            read,
-            first,
-            newest: self.changes.newest(first, first),
-        };
-        let last = self.last(first, work);
+        let (newest, last) = (self.changes.newest(first, first), self.last(first, work));
+        let period = (self.at, read, first, newest);
         work.is_lost |= self.open.insert(last, period).is_err();
     }
 
@@ -139,49 +125,52 @@ impl<'a> Walk<'a> {
         NEVER
     }
 
-    /// Closes a period to which it matters that a patch begins or ends here, if there is one, and makes it a register.
-    pub fn close(&mut self, patch: &Patch, register: &mut Register<'a>, work: &mut Work) -> bool {
+    /// Closes a period to which it matters that a patch begins or ends here, if there is one: it is a register.
+    pub fn close(&mut self, patch: &Patch, work: &mut Work) -> bool {
         work.spend(16);
         let Some(last) = self.touched(patch) else {
             return false;
         };
-        if let Some(period) = self.open.remove(&last) {
-            (register.lo, register.hi) = (period.since, self.at);
-            register.read = period.read;
-            register.operations.clear();
-            if let Some(one) = self.now.get(&period.newest) {
-                work.keep(&mut register.operations, *one);
+        if let Some((since, read, first, newest)) = self.open.remove(&last) {
+            (self.since, self.read) = (since, read);
+            self.operations.clear();
+            if let Some(one) = self.now.get(&newest) {
+                work.keep(&mut self.operations, *one);
             }
-            for (number, one) in self.now.range(period.first..) {
-                if *number > last {
-                    break;
-                }
-                let mut one = *one;
-                if one.is_wrong && one.hi > self.at {
-                    work.keep(&mut self.news, one.request);
-                }
-                // Until its period ends a READ may be served, also one that is taken as served when it came.
-                if one.is_read {
-                    one.due = one.due.min(last);
-                }
-                work.keep(&mut register.operations, one);
-            }
+            self.take_in(first, last, work);
         }
         true
     }
 
+    // Takes in the requests of a period. Until it ends a READ may be served, also one that is taken as served when it came.
+    fn take_in(&mut self, first: usize, last: usize, work: &mut Work) {
+        for (number, one) in self.now.range(first..) {
+            if *number > last {
+                break;
+            }
+            let mut one = *one;
+            if one.is_wrong && one.hi > self.at {
+                work.keep(&mut self.news, one.request);
+            }
+            if one.is_read {
+                one.due = one.due.min(last);
+            }
+            work.keep(&mut self.operations, one);
+        }
+    }
+
     // The last number of an open period to which a patch matters: a change does up to one that is surely later.
     fn touched(&self, patch: &Patch) -> Option<usize> {
-        let (last, period) = self.open.range(patch.request..).next()?;
+        let (last, (_, _, first, newest)) = self.open.range(patch.request..).next()?;
         match patch.is_read {
-            true if period.first > patch.slot => None,
-            false if period.newest > patch.due => None,
+            true if *first > patch.slot => None,
+            false if *newest > patch.due => None,
             _ => Some(*last),
         }
     }
 
     /// Lets a patch begin or end here, when the periods to which it matters are closed.
-    pub fn pass(&mut self, patch: &Patch<'a>, begins: bool, work: &mut Work) {
+    pub fn pass(&mut self, patch: &Patch, begins: bool, work: &mut Work) {
         work.spend(16);
         self.every.set(patch.request, patch.slot, begins);
         if patch.slot < patch.request {
@@ -200,33 +189,16 @@ impl<'a> Walk<'a> {
         }
     }
 
-    /// The first READ of a register that is refuted alone, if it is less than one, and the first such offset.
-    pub fn refuted(
-        &self,
-        register: &Register<'a>,
-        end: usize,
-        work: &mut Work,
-    ) -> Option<(Patch<'a>, u64)> {
-        for read in &register.operations {
-            if read.is_wrong && read.request < end {
-                if let Some(offset) = self.unseen(read, register.lo, work) {
-                    return Some((*read, offset));
-                }
-            }
-        }
-        None
-    }
-
-    // The first offset from one up to here at which no change left a READ's byte that it can see: the newest that is
-    // surely before it, and those that may be served behind that one and before the READ.
-    fn unseen(&self, read: &Patch, lo: u64, work: &mut Work) -> Option<u64> {
+    /// A READ, and the first offset from one up to here at which no change left its byte that it can see: the newest that
+    /// is surely before it, and those that may be served behind that one and before the READ.
+    pub fn unseen(&self, scene: &Scene, read: &Patch, work: &mut Work) -> Option<(Patch, u64)> {
         let newest = self.changes.newest(read.request, read.request);
         let end = read.due.saturating_add(1);
         // What was left out may have left it.
         if self.every.newest(end, 1) > 0 {
             return None;
         }
-        let (mut offset, mut begun, mut number) = (lo, lo, 0);
+        let (mut offset, mut begun, mut number) = (self.since, self.since, 0);
         for _ in 0..u64::MAX {
             work.spend(4);
             if offset >= self.at || work.is_over() {
@@ -236,12 +208,12 @@ impl<'a> Walk<'a> {
                 Some(found) => {
                     number = found.saturating_add(1);
                     if let Some(change) = self.now.get(&found) {
-                        offset = differs(change, read, offset, self.at, work);
+                        offset = scene.differs(change, read, offset, self.at, work);
                     }
                 }
                 // All were asked: once more, if that was of use.
                 None if offset > begun => (begun, number) = (offset, 0),
-                None => return Some(offset),
+                None => return Some((*read, offset)),
             }
         }
         None
