@@ -110,6 +110,11 @@ impl Sweep {
         self.states.clear();
         self.work.keep(&mut self.states, State::default());
         let dues = dues_of(operations, &mut self.work);
+        self.serve(operations, &dues)
+    }
+
+    // Serves them; with the slots in which they are due, and their places.
+    fn serve(&mut self, operations: &mut [Patch], dues: &[(usize, usize)]) -> Outcome {
         let (mut come, mut gone) = (0usize, 0usize);
         for _ in 0..operations.len().saturating_add(dues.len()) {
             let Some((slot, place)) = dues.get(gone) else {
