@@ -5,6 +5,7 @@ use crate::replay::Range;
 use crate::work::Work;
 use nbd_export::Start;
 use nbd_session::{Asked, Transcript};
+use nbd_state::Span;
 use nbd_wire::{Piece, Profile, commands};
 
 /// The last slot of a request that may stay out.
@@ -107,13 +108,9 @@ impl<'a> Scene<'a> {
         }
         let count = if is_read { one.pieces.len() } else { 0 };
         for i in 0..count {
-            let (range, bytes): (_, &[u8]) = match &one.pieces[i] {
-                Piece::Bytes { offset, bytes } => {
-                    ((*offset, bytes.as_slice().len() as u64), bytes.as_slice())
-                }
-                Piece::Hole { offset, size } => ((*offset, *size), &[]),
-            };
-            let patch = self.patch(due_of(profile, one, i), true, range, Some(bytes), work);
+            let (span, due) = (Span::of(&one.pieces[i]), due_of(profile, one, i));
+            let bytes = bytes_of(&one.pieces[i]);
+            let patch = self.patch(due, true, (span.offset, span.size), Some(bytes), work);
             work.keep(&mut self.patches, patch);
         }
         work.keep(&mut self.requests, whole);
@@ -197,6 +194,14 @@ impl<'a> Scene<'a> {
             }
         }
         hi
+    }
+}
+
+// The bytes of a piece; none where they are zeroes that no message has.
+fn bytes_of(piece: &Piece) -> &[u8] {
+    match piece {
+        Piece::Bytes { bytes, .. } => bytes.as_slice(),
+        Piece::Hole { .. } => &[],
     }
 }
 

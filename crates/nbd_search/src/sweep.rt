@@ -174,15 +174,12 @@ impl Sweep {
             is_changed = true;
         }
         if is_changed {
-            self.states.retain(|state| state.has_served(one));
+            self.prune(one);
         }
         if let Some(open) = self.open.get_mut(one.column) {
             open.request = NEVER;
         }
         self.work.keep(&mut self.closed, one.column);
-        if is_changed && self.states.len() > 1 {
-            self.prune();
-        }
     }
 
     // Adds what a state becomes by serving what is due; a READ with an open change to its value, or to an unknown one.
@@ -219,17 +216,18 @@ impl Sweep {
         self.work.keep(&mut self.states, state);
     }
 
-    // Drops each state for which another one can stand.
-    fn prune(&mut self) {
+    // Drops each state that has not served what is due, or for which another one can stand.
+    fn prune(&mut self, one: &Patch) {
         self.work.spend(self.states.len().saturating_mul(16));
         self.states
             .sort_unstable_by_key(|state| (state.value, NEVER - state.last, state.debt));
         let mut kept = 0usize;
         for place in 0..self.states.len() {
-            if let Some(state) = self.states.get(place).copied() {
-                if self.is_dominated(kept, &state) {
-                    continue;
-                }
+            let state = match self.states.get(place) {
+                Some(state) if state.has_served(one) => *state,
+                _ => continue,
+            };
+            if !self.is_dominated(kept, &state) {
                 if let Some(free) = self.states.get_mut(kept) {
                     *free = state;
                 }
