@@ -34,34 +34,32 @@ pub fn arrive(requests: &mut [Patch]) {
 /// Puts requests off as far as the registers want it; whether that changed any, ends, and makes none late.
 pub fn arrange(served: &[Served], requests: &mut [Patch], work: &mut Work) -> bool {
     for pass in 0..PASSES {
-        let mut is_changed = false;
-        for register in served {
-            work.spend(register.requests.len().saturating_mul(2).saturating_add(8));
-            match put_off(register, requests) {
-                Some(changes) if !work.is_over() => is_changed |= changes,
-                _ => return false,
-            }
-        }
-        if !is_changed {
-            return pass > 0;
+        match put_off(served, requests, work) {
+            Some(true) if !work.is_over() => {}
+            Some(false) => return pass > 0,
+            _ => return false,
         }
     }
     false
 }
 
 // Puts each request of a register off behind the one before it: whether that changed any; None where one would be late.
-fn put_off(register: &Served, requests: &mut [Patch]) -> Option<bool> {
-    let (mut is_changed, mut first) = (false, (0, 0));
-    for request in &register.requests {
-        let one = requests.get_mut(*request)?;
-        let is_out = one.moment.0 == NEVER;
-        first = first.max(if is_out { (*request, 0) } else { one.moment });
-        is_changed |= first != one.moment;
-        one.moment = first;
-        if one.due < first.0 {
-            return None;
+fn put_off(served: &[Served], requests: &mut [Patch], work: &mut Work) -> Option<bool> {
+    let mut is_changed = false;
+    for register in served {
+        let mut first = (0, 0);
+        work.spend(register.requests.len().saturating_mul(2).saturating_add(8));
+        for request in &register.requests {
+            let one = requests.get_mut(*request)?;
+            let is_out = one.moment.0 == NEVER;
+            first = first.max(if is_out { (*request, 0) } else { one.moment });
+            is_changed |= first != one.moment;
+            one.moment = first;
+            if one.due < first.0 {
+                return None;
+            }
+            first.1 = first.1.saturating_add(1);
         }
-        first.1 = first.1.saturating_add(1);
     }
     Some(is_changed)
 }

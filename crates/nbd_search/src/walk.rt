@@ -125,12 +125,20 @@ impl Walk {
         NEVER
     }
 
-    /// Closes a period to which it matters that a patch begins or ends here, if there is one: it is a register.
+    /// Closes a period to which it matters that a patch begins or ends here, if there is one: it is a register. A change
+    /// matters up to one that is surely later.
     pub fn close(&mut self, patch: &Patch, work: &mut Work) -> bool {
         work.spend(16);
-        let Some(last) = self.touched(patch) else {
+        let Some((last, (_, _, first, newest))) = self.open.range(patch.request..).next() else {
             return false;
         };
+        let (last, from, end) = match patch.is_read {
+            true => (*last, *first, patch.slot),
+            false => (*last, *newest, patch.due),
+        };
+        if from > end {
+            return false;
+        }
         if let Some((since, read, first, newest)) = self.open.remove(&last) {
             (self.since, self.read) = (since, read);
             self.operations.clear();
@@ -156,16 +164,6 @@ impl Walk {
                 one.due = one.due.min(last);
             }
             work.keep(&mut self.operations, one);
-        }
-    }
-
-    // The last number of an open period to which a patch matters: a change does up to one that is surely later.
-    fn touched(&self, patch: &Patch) -> Option<usize> {
-        let (last, (_, _, first, newest)) = self.open.range(patch.request..).next()?;
-        match patch.is_read {
-            true if *first > patch.slot => None,
-            false if *newest > patch.due => None,
-            _ => Some(*last),
         }
     }
 
