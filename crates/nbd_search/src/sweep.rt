@@ -5,6 +5,7 @@
 use crate::order::Served;
 use crate::scene::{NEVER, Patch};
 use crate::work::Work;
+use std::mem;
 
 /// How many operations can be open.
 const COUNT: usize = 1024;
@@ -85,6 +86,8 @@ pub struct Sweep {
     open: Vec<Patch>,
     closed: Vec<usize>,
     states: Vec<State>,
+    // What they come from.
+    before: Vec<State>,
     log: Vec<Logged>,
     slot: usize,
 }
@@ -95,6 +98,7 @@ impl Sweep {
             open: Vec::new(work.alloc),
             closed: Vec::new(work.alloc),
             states: Vec::new(work.alloc),
+            before: Vec::new(work.alloc),
             log: Vec::new(work.alloc),
             slot: 0,
             work,
@@ -164,22 +168,30 @@ impl Sweep {
 
     // An operation is in its last slot: each state that has not served it does so, in each way.
     fn fall_due(&mut self, one: &Patch) {
-        let mut is_changed = false;
-        for place in 0..self.states.len() {
-            let state = match self.states.get(place) {
-                Some(state) if !state.has_served(one) => *state,
-                _ => continue,
-            };
-            self.branch(&state, one);
-            is_changed = true;
+        let mut is_served = true;
+        for state in &self.states {
+            is_served &= state.has_served(one);
         }
-        if is_changed {
-            self.prune(one);
+        if !is_served {
+            self.branch_all(one);
+            self.prune();
         }
         if let Some(open) = self.open.get_mut(one.column) {
             open.request = NEVER;
         }
         self.work.keep(&mut self.closed, one.column);
+    }
+
+    fn branch_all(&mut self, one: &Patch) {
+        mem::swap(&mut self.states, &mut self.before);
+        self.states.clear();
+        for place in 0..self.before.len() {
+            match self.before.get(place).copied() {
+                Some(state) if state.has_served(one) => self.work.keep(&mut self.states, state),
+                Some(state) => self.branch(&state, one),
+                None => {}
+            }
+        }
     }
 
     // Adds what a state becomes by serving what is due; a READ with an open change to its value, or to an unknown one.
@@ -216,30 +228,25 @@ impl Sweep {
         self.work.keep(&mut self.states, state);
     }
 
-    // Drops each state that has not served what is due, or for which another one can stand.
-    fn prune(&mut self, one: &Patch) {
-        self.work.spend(self.states.len().saturating_mul(16));
-        self.states
+    // Drops each state for which another one can stand.
+    fn prune(&mut self) {
+        mem::swap(&mut self.states, &mut self.before);
+        self.states.clear();
+        self.work.spend(self.before.len().saturating_mul(16));
+        self.before
             .sort_unstable_by_key(|state| (state.value, NEVER - state.last, state.debt));
-        let mut kept = 0usize;
-        for place in 0..self.states.len() {
-            let state = match self.states.get(place) {
-                Some(state) if state.has_served(one) => *state,
-                _ => continue,
-            };
-            if !self.is_dominated(kept, &state) {
-                if let Some(free) = self.states.get_mut(kept) {
-                    *free = state;
+        for place in 0..self.before.len() {
+            if let Some(state) = self.before.get(place).copied() {
+                if !self.is_dominated(&state) {
+                    self.work.keep(&mut self.states, state);
                 }
-                kept = kept.saturating_add(1);
             }
         }
-        self.states.truncate(kept);
     }
 
-    // Whether one of the first states with its value has no more against it, and can hide what this one has served besides.
-    fn is_dominated(&mut self, kept: usize, state: &State) -> bool {
-        for other in self.states.get(..kept).unwrap_or(&[]).iter().rev() {
+    // Whether one of the states with its value has no more against it, and can hide what this one has served besides.
+    fn is_dominated(&mut self, state: &State) -> bool {
+        for other in self.states.iter().rev() {
             self.work.spend(1);
             if other.value != state.value {
                 break;
@@ -269,6 +276,7 @@ impl Sweep {
             }
             place = *before;
         }
+        list.reverse();
         list.sort_unstable();
         let mut requests = Vec::new(self.work.alloc);
         for (_, _, request) in &list {
