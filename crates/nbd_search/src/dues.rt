@@ -3,10 +3,7 @@
 use crate::scene::NEVER;
 use crate::work::Work;
 
-/// More steps than a way through a tree has.
-const WAY: usize = 256;
-
-/// A tree over the numbers of all requests: an answer costs the logarithm of how many there are.
+/// A tree over the numbers of all requests: an answer costs the logarithm of how many there are, and 256 steps at most.
 #[derive(Drop)]
 pub struct Dues {
     // The place of number 0: a power of two, and at least how many numbers there are.
@@ -51,19 +48,18 @@ impl Dues {
     /// The greatest number before `end` whose last slot is before this one; 0 where there is none.
     pub fn newest(&self, end: usize, slot: usize) -> usize {
         let mut place = self.leaves.saturating_add(end).saturating_sub(1);
-        for _ in 0..WAY {
-            if self.node(place).0 < slot {
-                if place >= self.leaves {
-                    break;
-                }
-                place = place.saturating_mul(2) | 1;
-            } else {
+        for _ in 0..256 {
+            if self.node(place).0 >= slot {
                 // The node on the left.
                 place >>= place.trailing_zeros().min(63);
                 if place <= 1 {
                     return 0;
                 }
                 place -= 1;
+            } else if place >= self.leaves {
+                break;
+            } else {
+                place = place.saturating_mul(2) | 1;
             }
         }
         place.saturating_sub(self.leaves)
@@ -75,19 +71,18 @@ impl Dues {
             return None;
         }
         let mut place = self.leaves.saturating_add(first);
-        for _ in 0..WAY {
-            if self.node(place).1 > slot {
-                if place >= self.leaves {
-                    break;
-                }
-                place = place.saturating_mul(2);
-            } else {
+        for _ in 0..256 {
+            if self.node(place).1 <= slot {
                 // The node on the right.
                 place >>= place.trailing_ones().min(63);
                 if place == 0 {
                     return None;
                 }
                 place |= 1;
+            } else if place >= self.leaves {
+                break;
+            } else {
+                place = place.saturating_mul(2);
             }
         }
         let number = place.saturating_sub(self.leaves);

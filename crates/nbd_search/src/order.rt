@@ -10,8 +10,15 @@ const PASSES: usize = 16;
 /// The slot in which a request is served whole, or `NEVER` where it is not, and its place in that slot.
 pub type Moment = (usize, usize);
 
-/// A request that is served in a register, or 0 where one begins; and the register's range.
-pub type Served = (usize, u64, u64);
+/// What is served in a register, in its order.
+#[derive(Drop)]
+pub struct Served {
+    /// The register's range, to before `hi`.
+    pub lo: u64,
+    pub hi: u64,
+    /// The requests' numbers.
+    pub requests: Vec<usize>,
+}
 
 // What is served atomically: its moment, the request, and the range from its first offset to the one behind it.
 type Piece = (Moment, usize, u64, u64);
@@ -27,8 +34,7 @@ pub fn arrive(requests: &mut [Patch]) {
 /// Puts requests off as far as the registers want it; whether that changed any, ends, and makes none late.
 pub fn arrange(served: &[Served], requests: &mut [Patch], work: &mut Work) -> bool {
     for pass in 0..PASSES {
-        work.spend(served.len().saturating_mul(2));
-        match put_off(served, requests) {
+        match put_off(served, requests, work) {
             Some(true) if !work.is_over() => {}
             Some(false) => return pass > 0,
             _ => return false,
@@ -38,22 +44,22 @@ pub fn arrange(served: &[Served], requests: &mut [Patch], work: &mut Work) -> bo
 }
 
 // Puts each request of a register off behind the one before it: whether that changed any; None where one would be late.
-fn put_off(served: &[Served], requests: &mut [Patch]) -> Option<bool> {
-    let (mut is_changed, mut first) = (false, (0, 0));
-    for (request, _, _) in served {
-        let one = requests.get_mut(*request)?;
-        if *request == 0 {
-            first = (0, 0);
-            continue;
+fn put_off(served: &[Served], requests: &mut [Patch], work: &mut Work) -> Option<bool> {
+    let mut is_changed = false;
+    for register in served {
+        let mut first = (0, 0);
+        work.spend(register.requests.len().saturating_mul(2).saturating_add(8));
+        for request in &register.requests {
+            let one = requests.get_mut(*request)?;
+            let is_out = one.moment.0 == NEVER;
+            first = first.max(if is_out { (*request, 0) } else { one.moment });
+            is_changed |= first != one.moment;
+            one.moment = first;
+            if one.due < first.0 {
+                return None;
+            }
+            first.1 = first.1.saturating_add(1);
         }
-        let is_out = one.moment.0 == NEVER;
-        first = first.max(if is_out { (*request, 0) } else { one.moment });
-        is_changed |= first != one.moment;
-        one.moment = first;
-        if one.due < first.0 {
-            return None;
-        }
-        first.1 = first.1.saturating_add(1);
     }
     Some(is_changed)
 }
@@ -66,7 +72,9 @@ pub fn entries_of(requests: &[Patch], served: &[Served], work: &mut Work) -> Vec
     for one in requests {
         work.keep(&mut ends, (one.lo, 0));
     }
-    add_registers(&mut pieces, &mut ends, requests, served, work);
+    for register in served {
+        add_register(&mut pieces, &mut ends, requests, register, work);
+    }
     for request in 1..ends.len().min(requests.len()) {
         let (one, (end, _)) = (&requests[request], ends[request]);
         if end < one.hi || one.lo == one.hi {
@@ -77,30 +85,29 @@ pub fn entries_of(requests: &[Patch], served: &[Served], work: &mut Work) -> Vec
     joined(requests, &pieces, work)
 }
 
-// Adds what is served in the registers, and what of the same requests lies before that.
-fn add_registers(
+// Adds what is served in a register, and what of the same requests lies before that.
+fn add_register(
     pieces: &mut Vec<Piece>,
     ends: &mut [(u64, usize)],
     requests: &[Patch],
-    served: &[Served],
+    register: &Served,
     work: &mut Work,
 ) {
-    let mut first = (0, 0);
-    for (request, lo, hi) in served {
-        if *request == 0 || *request >= ends.len().min(requests.len()) {
-            first = (0, 0);
-            continue;
+    let (mut first, lo, hi) = ((0, 0), register.lo, register.hi);
+    for request in &register.requests {
+        if *request >= ends.len().min(requests.len()) {
+            break;
         }
         first = first.max((*request, 0));
-        let (piece, (end, behind)) = ((first, *request, *lo, *hi), ends[*request]);
+        let (piece, (end, behind)) = ((first, *request, lo, hi), ends[*request]);
         if !goes_on(pieces, behind, piece) {
-            if end < *lo {
-                work.keep(pieces, (requests[*request].moment, *request, end, *lo));
+            if end < lo {
+                work.keep(pieces, (requests[*request].moment, *request, end, lo));
             }
             work.keep(pieces, piece);
             ends[*request].1 = pieces.len();
         }
-        ends[*request].0 = *hi;
+        ends[*request].0 = hi;
         first.1 = first.1.saturating_add(1);
     }
 }

@@ -29,9 +29,9 @@ pub struct Patch {
     /// Its range, to before `hi`.
     pub lo: u64,
     pub hi: u64,
-    // Where its bytes begin, and of a READ the piece that has them.
+    // Where its bytes begin, and their place in the scene.
     from: u64,
-    piece: usize,
+    bytes: usize,
     /// What stands for its bytes in the range that is searched; None where they are unknown.
     pub value: Option<u64>,
     /// Its column while it is open in a search.
@@ -48,14 +48,14 @@ impl Patch {
 /// The requests of a session.
 #[derive(Drop)]
 pub struct Scene<'a> {
-    transcript: &'a Transcript,
-    start: &'a Start,
     /// The export's size in bytes.
     pub size: u64,
     /// By their numbers, each whole; number 0 is the start. A range is empty where no bytes are left or read.
     pub requests: Vec<Patch>,
     /// What they leave or read; of a READ at least one for each piece with bytes.
     pub patches: Vec<Patch>,
+    // The bytes of patches; none where they are zeroes that no message has, and None where they are unknown.
+    bytes: Vec<Option<&'a [u8]>>,
 }
 
 impl<'a> Scene<'a> {
@@ -65,16 +65,21 @@ impl<'a> Scene<'a> {
         start: &'a Start,
         work: &mut Work,
     ) -> Scene<'a> {
+        let (size, _) = transcript.export().unwrap_or((0, 0));
         let mut scene = Scene {
-            transcript,
-            start,
-            size: transcript.export().unwrap_or((0, 0)).0,
+            size,
             requests: Vec::new(work.alloc),
             patches: Vec::new(work.alloc),
+            bytes: Vec::new(work.alloc),
         };
-        let whole = scene.patch(0, 0, None, (0, scene.size));
+        let bytes: Option<&[u8]> = match start {
+            Start::Image(image) => Some(image.as_slice()),
+            Start::Zeroes => Some(&[]),
+            Start::Unknown => None,
+        };
+        let whole = scene.patch(0, false, (0, size), bytes, work);
         work.keep(&mut scene.requests, whole);
-        scene.keep(whole, work);
+        work.keep(&mut scene.patches, whole);
         for number in 1..=transcript.count() {
             if let Some(one) = transcript.asked(number) {
                 scene.add(profile, one, work);
@@ -83,50 +88,63 @@ impl<'a> Scene<'a> {
         scene
     }
 
-    fn add(&mut self, profile: Profile, one: &Asked, work: &mut Work) {
-        let (request, due) = (self.requests.len(), due_of(profile, one, 0));
+    fn add(&mut self, profile: Profile, one: &'a Asked, work: &mut Work) {
         let (is_change, command) = (one.touches(one.offset), one.command);
         let is_read = one.succeeded() && matches!(command, commands::READ | commands::BLOCK_STATUS);
         let length = if is_change || is_read { one.length } else { 0 };
-        let whole = self.patch(request, due, None, (one.offset, length));
-        work.keep(&mut self.requests, whole);
+        let bytes = match one.payload.as_slice() {
+            bytes if one.succeeded() && command != commands::TRIM => Some(bytes),
+            _ => None,
+        };
+        let whole = self.patch(
+            due_of(profile, one, 0),
+            false,
+            (one.offset, length),
+            bytes,
+            work,
+        );
         if is_change {
-            self.keep(whole, work);
+            work.keep(&mut self.patches, whole);
         }
         let count = if is_read { one.pieces.len() } else { 0 };
         for i in 0..count {
             let (span, due) = (Span::of(&one.pieces[i]), due_of(profile, one, i));
-            let patch = self.patch(request, due, Some(i), (span.offset, span.size));
-            self.keep(patch, work);
+            let bytes = bytes_of(&one.pieces[i]);
+            let patch = self.patch(due, true, (span.offset, span.size), Some(bytes), work);
+            work.keep(&mut self.patches, patch);
         }
+        work.keep(&mut self.requests, whole);
     }
 
-    // What a request does from an offset on in so many bytes; of a READ the piece with these.
-    fn patch(&self, request: usize, due: usize, piece: Option<usize>, range: (u64, u64)) -> Patch {
-        let slot = match piece {
-            Some(_) => request,
-            None if due == NEVER => 0,
-            None => due,
+    // What the request that comes next does from an offset on in so many bytes.
+    fn patch(
+        &mut self,
+        due: usize,
+        is_read: bool,
+        range: (u64, u64),
+        bytes: Option<&'a [u8]>,
+        work: &mut Work,
+    ) -> Patch {
+        let (request, place) = (self.requests.len(), self.bytes.len());
+        work.keep(&mut self.bytes, bytes);
+        let slot = match is_read {
+            true => request,
+            false if due == NEVER => 0,
+            false => due,
         };
         Patch {
             request,
             due,
             slot,
-            is_read: piece.is_some(),
+            is_read,
             lo: range.0.min(self.size),
             hi: range.0.saturating_add(range.1).min(self.size),
             from: range.0,
-            piece: piece.unwrap_or(0),
+            bytes: place,
             moment: (0, 0),
             is_wrong: false,
             value: None,
             column: 0,
-        }
-    }
-
-    fn keep(&mut self, patch: Patch, work: &mut Work) {
-        if patch.lo < patch.hi {
-            work.keep(&mut self.patches, patch);
         }
     }
 
@@ -140,49 +158,26 @@ impl<'a> Scene<'a> {
                 let (mut right, mut wrong) = (*rest, *rest);
                 (right.hi, wrong.lo, wrong.hi, rest.lo) = (*lo, *lo, *hi, *hi);
                 (wrong.slot, wrong.is_wrong) = (wrong.due, true);
-                self.keep(right, work);
-                self.keep(wrong, work);
+                work.keep(&mut self.patches, right);
+                work.keep(&mut self.patches, wrong);
             }
-        }
-    }
-
-    /// Takes nothing as it was on arrival, where READs are served when they come and what has no reply is not.
-    pub fn unpin(&mut self) {
-        for patch in self.patches.iter_mut() {
-            patch.slot = patch.due;
         }
     }
 
     /// Numbers the bytes of patches from `lo` to before `hi`: the same have the same number, unknown ones none.
     pub fn number(&self, patches: &mut [Patch], lo: u64, hi: u64, work: &mut Work) {
         for patch in patches.iter_mut() {
-            work.spend((hi.saturating_sub(lo) as usize / 8).saturating_add(4));
+            work.spend((hi.saturating_sub(lo) as usize / 16).saturating_add(4));
             patch.value = self.bytes(patch, lo, hi).map(mixed);
         }
     }
 
     /// The patch's bytes from `lo` to before `hi`, if they are known; none where they are zeroes that no message has.
     pub fn bytes(&self, patch: &Patch, lo: u64, hi: u64) -> Option<&'a [u8]> {
+        let bytes = self.bytes.get(patch.bytes).copied().flatten()?;
         let first = lo.saturating_sub(patch.from) as usize;
         let behind = hi.saturating_sub(patch.from) as usize;
-        Some(self.all_bytes(patch)?.get(first..behind).unwrap_or(&[]))
-    }
-
-    fn all_bytes(&self, patch: &Patch) -> Option<&'a [u8]> {
-        let Some(one) = self.transcript.asked(patch.request as u64) else {
-            return match self.start {
-                Start::Image(image) => Some(image.as_slice()),
-                Start::Zeroes => Some(&[]),
-                Start::Unknown => None,
-            };
-        };
-        match one.pieces.get(patch.piece) {
-            Some(Piece::Bytes { bytes, .. }) => Some(bytes.as_slice()),
-            Some(Piece::Hole { .. }) => Some(&[]),
-            // A change has no pieces.
-            None if !one.succeeded() || one.command == commands::TRIM => None,
-            None => Some(one.payload.as_slice()),
-        }
+        Some(bytes.get(first..behind).unwrap_or(&[]))
     }
 
     /// The first offset from `lo` to before `hi` at which a READ did not get what a change left, or `hi`.
@@ -202,6 +197,14 @@ impl<'a> Scene<'a> {
     }
 }
 
+// The bytes of a piece; none where they are zeroes that no message has.
+fn bytes_of(piece: &Piece) -> &[u8] {
+    match piece {
+        Piece::Bytes { bytes, .. } => bytes.as_slice(),
+        Piece::Hole { .. } => &[],
+    }
+}
+
 // The last slot of a request; by chunk that of a piece of a READ, of which none has an earlier one than the first.
 fn due_of(profile: Profile, one: &Asked, piece: usize) -> usize {
     let due = match one.shown.get(piece) {
@@ -212,17 +215,23 @@ fn due_of(profile: Profile, one: &Asked, piece: usize) -> usize {
     due.unwrap_or(u64::MAX) as usize
 }
 
-/// An odd number with bits in no order.
-const MIXER: u64 = 0x9e37_79b9_7f4a_7c15;
-
 // A number for these bytes: 0 for zeroes, and hardly ever the same one for others.
 fn mixed(bytes: &[u8]) -> u64 {
-    let mut number = 0u64;
-    for byte in bytes {
-        number = (number ^ u64::from(*byte)).wrapping_mul(MIXER);
-        number ^= number >> 32;
+    let (words, rest) = bytes.as_chunks::<8>();
+    let mut number = 0;
+    for word in words {
+        number = mixed_with(number, u64::from_le_bytes(*word));
+    }
+    for byte in rest {
+        number = mixed_with(number, u64::from(*byte));
     }
     number
+}
+
+// (an odd number with bits in no order)
+fn mixed_with(number: u64, more: u64) -> u64 {
+    let product = (number ^ more).wrapping_mul(0x9e37_79b9_7f4a_7c15);
+    product ^ (product >> 32)
 }
 
 // Where there is no byte it is zero.

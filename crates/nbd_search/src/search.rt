@@ -7,7 +7,7 @@ use crate::proposal::{Place, Proposal, Reason};
 use crate::replay::wrong_ranges;
 use crate::scene::{NEVER, Patch, Scene};
 use crate::sweep::{Outcome, Sweep};
-use crate::walk::{Register, Walk, events_of};
+use crate::walk::{Walk, events_of};
 use crate::work::{Limits, Work};
 use nbd_export::Start;
 use nbd_session::Transcript;
@@ -113,7 +113,9 @@ impl Search {
     // Goes along the order of arrival once more, with nothing taken as it was there, if a register has no order so.
     fn go_again(&mut self, scene: &mut Scene) {
         if self.is_stuck && self.refuting.is_empty() {
-            scene.unpin();
+            for patch in scene.patches.iter_mut() {
+                patch.slot = patch.due;
+            }
             self.served.clear();
             (self.is_stuck, self.is_exact) = (false, true);
             self.go_along(scene);
@@ -124,7 +126,7 @@ impl Search {
     // Goes along the export, and looks at the registers that are closed on the way.
     fn go_along(&mut self, scene: &Scene) {
         let events = events_of(scene, &mut self.sweep.work);
-        let mut walk = Walk::new(scene, &mut self.sweep.work);
+        let mut walk = Walk::new(scene.requests.len(), &mut self.sweep.work);
         for (offset, begins, place) in &events {
             if let (Some(patch), false) = (scene.patches.get(*place), self.sweep.work.is_over()) {
                 walk.go_to(*offset, &mut self.sweep.work);
@@ -137,25 +139,25 @@ impl Search {
     // Looks at the registers that are closed since a patch begins or ends.
     fn close(&mut self, scene: &Scene, walk: &mut Walk, patch: &Patch) {
         for _ in 0..scene.requests.len() {
-            let Some(mut register) = walk.close(patch, &mut self.sweep.work) else {
+            if !walk.close(patch, &mut self.sweep.work) {
                 break;
-            };
-            self.look_at(scene, walk, &mut register);
+            }
+            self.look_at(scene, walk);
         }
     }
 
-    // Looks for an order of all bytes of a register as one value, else of shorter ranges, each for itself.
-    fn look_at(&mut self, scene: &Scene, walk: &Walk, register: &mut Register) {
-        let (mut lo, mut hi) = (register.lo, register.hi);
+    // Looks for an order of all bytes of the register as one value, else of shorter ranges, each for itself.
+    fn look_at(&mut self, scene: &Scene, walk: &mut Walk) {
+        let (mut lo, mut hi) = (walk.since, walk.at);
         for _ in lo..u64::MAX {
-            let is_whole = (lo, hi) == (register.lo, register.hi);
-            match self.search(scene, register, lo, hi) {
-                Outcome::Order => (lo, hi) = (hi, register.hi),
-                _ if is_whole && self.ask(scene, walk, register) => return,
+            let is_whole = (lo, hi) == (walk.since, walk.at);
+            match self.search(scene, walk, lo, hi) {
+                Outcome::Order => (lo, hi) = (hi, walk.at),
+                _ if is_whole && self.ask(scene, walk) => return,
                 Outcome::NoOrder(_) if hi.saturating_sub(lo) > 1 => {
                     hi = lo.saturating_add(hi.saturating_sub(lo) / 2);
                 }
-                outcome => return self.stick(register, outcome),
+                outcome => return self.stick(walk, outcome),
             }
             if lo >= hi {
                 return;
@@ -163,40 +165,46 @@ impl Search {
         }
     }
 
-    // Looks for an order of the bytes of a register from `lo` to before `hi` as one value, while all others had one.
-    fn search(&mut self, scene: &Scene, register: &mut Register, lo: u64, hi: u64) -> Outcome {
+    // Looks for an order of the bytes of the register from `lo` to before `hi` as one value, while all others had one.
+    fn search(&mut self, scene: &Scene, walk: &mut Walk, lo: u64, hi: u64) -> Outcome {
         if self.is_stuck {
             return Outcome::BrokenOff;
         }
-        self.sweep.work.place = place_of(register.read, lo);
-        scene.number(&mut register.operations, lo, hi, &mut self.sweep.work);
-        let outcome = self.sweep.run(&mut register.operations);
+        self.sweep.work.place = place_of(walk.read, lo);
+        scene.number(&mut walk.operations, lo, hi, &mut self.sweep.work);
+        let outcome = self.sweep.run(&mut walk.operations);
         if let Outcome::Order = outcome {
-            self.sweep.trace(lo, hi, &mut self.served);
+            let served = self.sweep.trace(lo, hi);
+            self.sweep.work.keep(&mut self.served, served);
         }
         outcome
     }
 
     // Asks whether a READ is refuted alone that is less than those found; whether any was, or a register is stuck.
-    fn ask(&mut self, scene: &Scene, walk: &Walk, register: &mut Register) -> bool {
-        let work = &mut self.sweep.work;
-        if let Some((read, offset)) = walk.refuted(scene, register, self.alone, work) {
+    fn ask(&mut self, scene: &Scene, walk: &mut Walk) -> bool {
+        let (work, mut found) = (&mut self.sweep.work, None);
+        for read in &walk.operations {
+            if read.is_wrong && read.request < self.alone && found.is_none() {
+                found = walk.unseen(scene, read, work);
+            }
+        }
+        if let Some((read, offset)) = found {
             let (behind, mut reads) = (offset.saturating_add(1), [read]);
             scene.number(&mut reads, offset, behind, work);
-            scene.number(&mut register.operations, offset, behind, work);
+            scene.number(&mut walk.operations, offset, behind, work);
             (self.alone, self.is_stuck) = (read.request, true);
             work.place = place_of(read.request, offset);
-            self.refuting = few_of(&register.operations, &reads, work);
+            self.refuting = few_of(&walk.operations, &reads, work);
         }
         self.is_stuck
     }
 
-    // A byte of a register has no order, or too many states.
-    fn stick(&mut self, register: &Register, outcome: Outcome) {
+    // A byte of the register has no order, or too many states.
+    fn stick(&mut self, walk: &Walk, outcome: Outcome) {
         self.is_stuck = true;
         match outcome {
             Outcome::NoOrder(slot) if self.is_exact => {
-                self.refuting = shrink(&register.operations, slot, &mut self.sweep);
+                self.refuting = shrink(&walk.operations, slot, &mut self.sweep);
             }
             _ if self.is_exact => {
                 self.sweep.work.end.get_or_insert(Reason::States);

@@ -45,10 +45,10 @@ impl State {
         self.debt[one.column / 64 % WORDS] ^= 1 << (one.column % 64);
     }
 
-    // Serves an operation, before its last switch or behind it. What is served first is what was left before.
+    // Serves an operation, before its last switch or behind it.
     fn serve(&mut self, one: &Patch, behind: usize, log: &mut Vec<Logged>, work: &mut Work) {
-        let request = if self.log == 0 { 0 } else { one.request };
-        work.keep(log, (request, self.turn.saturating_add(behind), self.log));
+        let turn = self.turn.saturating_add(behind);
+        work.keep(log, (one.request, turn, self.log));
         self.log = log.len();
         self.flip(one);
     }
@@ -75,8 +75,8 @@ impl State {
     }
 }
 
-// A request that was served, or 0 for what was left before; its turn: what one state has served is in order by turns and
-// then by places in the log; and the place behind that of what the state served before it, or 0.
+// A request that was served; its turn: what one state has served is in order by turns and then by places in the log; and
+// the place behind that of what the state served before it, or 0.
 type Logged = (usize, usize, usize);
 
 #[derive(Drop)]
@@ -86,6 +86,8 @@ pub struct Sweep {
     open: Vec<Patch>,
     closed: Vec<usize>,
     states: Vec<State>,
+    // What they come from.
+    before: Vec<State>,
     log: Vec<Logged>,
     slot: usize,
 }
@@ -96,6 +98,7 @@ impl Sweep {
             open: Vec::new(work.alloc),
             closed: Vec::new(work.alloc),
             states: Vec::new(work.alloc),
+            before: Vec::new(work.alloc),
             log: Vec::new(work.alloc),
             slot: 0,
             work,
@@ -104,14 +107,34 @@ impl Sweep {
 
     /// Serves these operations, which stand by their numbers.
     pub fn run(&mut self, operations: &mut [Patch]) -> Outcome {
-        self.begin();
-        for (slot, is_due, place) in &moves_of(operations, &mut self.work) {
-            if let Some(one) = operations.get_mut(*place) {
-                if *is_due {
-                    self.slot = *slot;
-                    self.fall_due(one);
-                } else {
+        self.work.progress.searches = self.work.progress.searches.saturating_add(1);
+        self.open.clear();
+        self.closed.clear();
+        self.log.clear();
+        self.states.clear();
+        self.work.keep(&mut self.states, State::default());
+        let dues = dues_of(operations, &mut self.work);
+        self.serve(operations, &dues)
+    }
+
+    // Serves them; with the slots in which they are due, and their places.
+    fn serve(&mut self, operations: &mut [Patch], dues: &[(usize, usize)]) -> Outcome {
+        let (mut come, mut gone) = (0usize, 0usize);
+        for _ in 0..operations.len().saturating_add(dues.len()) {
+            let Some((slot, place)) = dues.get(gone) else {
+                break;
+            };
+            match operations.get_mut(come) {
+                Some(one) if one.request <= *slot => {
                     self.arrive(one);
+                    come = come.saturating_add(1);
+                }
+                _ => {
+                    self.slot = *slot;
+                    if let Some(one) = operations.get(*place) {
+                        self.fall_due(one);
+                    }
+                    gone = gone.saturating_add(1);
                 }
             }
             let is_wide = self.states.len() as u64 > self.work.limits.states;
@@ -123,15 +146,6 @@ impl Sweep {
             }
         }
         Outcome::Order
-    }
-
-    fn begin(&mut self) {
-        self.work.progress.searches = self.work.progress.searches.saturating_add(1);
-        self.open.clear();
-        self.closed.clear();
-        self.log.clear();
-        self.states.clear();
-        self.work.keep(&mut self.states, State::default());
     }
 
     // An operation arrives: no state has served it, but a READ is served where it matches.
@@ -154,19 +168,29 @@ impl Sweep {
 
     // An operation is in its last slot: each state that has not served it does so, in each way.
     fn fall_due(&mut self, one: &Patch) {
-        for state in &mem::replace(&mut self.states, Vec::new(self.work.alloc)) {
-            if state.has_served(one) {
-                self.work.keep(&mut self.states, *state);
-            } else {
-                self.branch(state, one);
-            }
+        let mut is_served = true;
+        for state in &self.states {
+            is_served &= state.has_served(one);
+        }
+        if !is_served {
+            self.branch_all(one);
+            self.prune();
         }
         if let Some(open) = self.open.get_mut(one.column) {
             open.request = NEVER;
         }
         self.work.keep(&mut self.closed, one.column);
-        if self.states.len() > 1 {
-            self.prune();
+    }
+
+    fn branch_all(&mut self, one: &Patch) {
+        mem::swap(&mut self.states, &mut self.before);
+        self.states.clear();
+        for place in 0..self.before.len() {
+            match self.before.get(place).copied() {
+                Some(state) if state.has_served(one) => self.work.keep(&mut self.states, state),
+                Some(state) => self.branch(&state, one),
+                None => {}
+            }
         }
     }
 
@@ -187,7 +211,7 @@ impl Sweep {
     fn put(&mut self, state: &State, one: &Patch, value: Option<u64>, is_switch: bool) {
         self.work.spend((self.open.len() / 2).saturating_add(8));
         let slot = if is_switch { self.slot } else { state.last };
-        let Some(change) = self.change(state, one, value, slot) else {
+        let Some(change) = change_of(&self.open, state, one, value, slot) else {
             return;
         };
         let (mut state, behind) = (*state, usize::from(is_switch));
@@ -195,7 +219,7 @@ impl Sweep {
             (state.value, state.last) = (value, slot);
             state.turn = state.turn.saturating_add(2);
         }
-        state.serve(&change, behind, &mut self.log, &mut self.work);
+        state.serve(change, behind, &mut self.log, &mut self.work);
         for open in &self.open {
             if open.reads(value) && open.request <= slot && !state.has_served(open) {
                 state.serve(open, behind, &mut self.log, &mut self.work);
@@ -204,33 +228,18 @@ impl Sweep {
         self.work.keep(&mut self.states, state);
     }
 
-    // The change with which what is due is served in a slot, if there is one: itself, or of the open changes to this value
-    // that the state has not served the one with the earliest last slot.
-    fn change(&self, state: &State, one: &Patch, value: Option<u64>, slot: usize) -> Option<Patch> {
-        if one.request > slot {
-            return None;
-        }
-        if !one.is_read {
-            return Some(*one);
-        }
-        let (mut found, mut due) = (None, NEVER);
-        for open in &self.open {
-            let is_such = !open.is_read && open.value == value && open.request <= slot;
-            if is_such && open.due <= due && !state.has_served(open) {
-                (found, due) = (Some(*open), open.due);
-            }
-        }
-        found
-    }
-
     // Drops each state for which another one can stand.
     fn prune(&mut self) {
-        let mut states = mem::replace(&mut self.states, Vec::new(self.work.alloc));
-        self.work.spend(states.len().saturating_mul(16));
-        states.sort_unstable_by_key(|state| (state.value, NEVER - state.last, state.debt));
-        for state in &states {
-            if !self.is_dominated(state) {
-                self.work.keep(&mut self.states, *state);
+        mem::swap(&mut self.states, &mut self.before);
+        self.states.clear();
+        self.work.spend(self.before.len().saturating_mul(16));
+        self.before
+            .sort_unstable_by_key(|state| (state.value, NEVER - state.last, state.debt));
+        for place in 0..self.before.len() {
+            if let Some(state) = self.before.get(place).copied() {
+                if !self.is_dominated(&state) {
+                    self.work.keep(&mut self.states, state);
+                }
             }
         }
     }
@@ -252,8 +261,8 @@ impl Sweep {
         false
     }
 
-    /// Adds what was served in this range to a list; first request 0, which stands for what was left before.
-    pub fn trace(&mut self, lo: u64, hi: u64, served: &mut Vec<Served>) {
+    /// What was served in this range, behind what was left before.
+    pub fn trace(&mut self, lo: u64, hi: u64) -> Served {
         let (mut list, mut place) = (Vec::new(self.work.alloc), 0);
         if let Some(state) = self.states.first() {
             place = state.log;
@@ -262,26 +271,54 @@ impl Sweep {
             let Some((request, turn, before)) = self.log.get(place.wrapping_sub(1)) else {
                 break;
             };
-            self.work.keep(&mut list, (*turn, place, *request));
+            if *before > 0 {
+                self.work.keep(&mut list, (*turn, place, *request));
+            }
             place = *before;
         }
+        list.reverse();
         list.sort_unstable();
+        let mut requests = Vec::new(self.work.alloc);
         for (_, _, request) in &list {
-            self.work.keep(served, (*request, lo, hi));
+            self.work.keep(&mut requests, *request);
         }
+        Served { lo, hi, requests }
     }
 }
 
-// In which slots operations arrive, and then are due; with their places.
-fn moves_of(operations: &[Patch], work: &mut Work) -> Vec<(usize, bool, usize)> {
-    let mut moves = Vec::new(work.alloc);
-    for place in 0..operations.len() {
-        let (request, due) = (operations[place].request, operations[place].due);
-        work.keep(&mut moves, (request, false, place));
-        if due < NEVER {
-            work.keep(&mut moves, (due, true, place));
+// The change with which what is due is served in a slot, if there is one: itself, or of the open changes to this value
+// that the state has not served the one with the earliest last slot.
+fn change_of<'a>(
+    open: &'a [Patch],
+    state: &State,
+    one: &'a Patch,
+    value: Option<u64>,
+    slot: usize,
+) -> Option<&'a Patch> {
+    if one.request > slot {
+        return None;
+    }
+    if !one.is_read {
+        return Some(one);
+    }
+    let (mut found, mut due) = (None, NEVER);
+    for change in open {
+        let is_such = !change.is_read && change.value == value && change.request <= slot;
+        if is_such && change.due <= due && !state.has_served(change) {
+            (found, due) = (Some(change), change.due);
         }
     }
-    moves.sort_unstable();
-    moves
+    found
+}
+
+// The slots in which operations are due, with their places.
+fn dues_of(operations: &[Patch], work: &mut Work) -> Vec<(usize, usize)> {
+    let mut dues = Vec::new(work.alloc);
+    for place in 0..operations.len() {
+        if operations[place].due < NEVER {
+            work.keep(&mut dues, (operations[place].due, place));
+        }
+    }
+    dues.sort_unstable();
+    dues
 }

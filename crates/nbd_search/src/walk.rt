@@ -1,7 +1,7 @@
 //! The way along the export: what READs got wrong is looked at in ranges in which the same requests matter to it.
 
 use crate::dues::Dues;
-use crate::scene::{Patch, Scene};
+use crate::scene::{NEVER, Patch, Scene};
 use crate::work::Work;
 use std::collections::BTreeMap;
 use std::mem;
@@ -23,49 +23,42 @@ pub fn events_of(scene: &Scene, work: &mut Work) -> Vec<Event> {
     events
 }
 
-/// A range whose bytes are taken as one value, with a period: the requests from one number to another, such that all
-/// others are due before or came later, and the newest change before them is surely the last that is served before.
-#[derive(Drop)]
-pub struct Register {
-    /// The range, to before `hi`.
-    pub lo: u64,
-    pub hi: u64,
-    /// A READ that is wrong.
-    pub read: usize,
-    // The first number of the period, and the newest change before it.
-    first: usize,
-    newest: usize,
-    /// First that change, then what the requests of the period do, by their numbers.
-    pub operations: Vec<Patch>,
-}
+// A period, which is the requests from one number to another, such that all others are due before or came later, and the
+// newest change before them is surely the last that is served before: since which offset it is open, a READ that is wrong
+// in it, its first number, and that change.
+type Period = (u64, usize, usize, usize);
 
-/// What holds the present offset.
+/// What holds the present offset, and the register that was closed last: a range whose bytes are taken as one value.
 #[derive(Drop)]
 pub struct Walk {
-    at: u64,
-    // By their numbers the patches that hold it, or were the last to do so.
-    now: Vec<Patch>,
+    /// The present offset, where the register ends; where that begins; and a READ that is wrong there.
+    pub at: u64,
+    pub since: u64,
+    pub read: usize,
+    /// First the newest change before the register's period, then what the requests of that do, by their numbers.
+    pub operations: Vec<Patch>,
+    // By their numbers the patches that hold the offset and are not left out.
+    now: BTreeMap<usize, Patch>,
     // Their slots; those of the changes that are not left out.
     every: Dues,
     changes: Dues,
     // What is looked at where READs are wrong, by the last numbers of the periods.
-    open: BTreeMap<usize, Register>,
+    open: BTreeMap<usize, Period>,
     // READs that may be wrong from here on and have no open period.
     news: Vec<usize>,
 }
 
 impl Walk {
-    /// Nothing holds the offset.
-    pub fn new(scene: &Scene, work: &mut Work) -> Walk {
-        let mut now = Vec::new(work.alloc);
-        for one in &scene.requests {
-            work.keep(&mut now, *one);
-        }
+    /// Nothing of so many requests holds the offset.
+    pub fn new(count: usize, work: &mut Work) -> Walk {
         Walk {
             at: 0,
-            every: Dues::new(now.len(), work),
-            changes: Dues::new(now.len(), work),
-            now,
+            since: 0,
+            read: 0,
+            operations: Vec::new(work.alloc),
+            now: BTreeMap::new(work.alloc),
+            every: Dues::new(count, work),
+            changes: Dues::new(count, work),
             open: BTreeMap::new(work.alloc),
             news: Vec::new(work.alloc),
         }
@@ -86,25 +79,17 @@ impl Walk {
 
     // Whether a READ is wrong, and its period is not open.
     fn is_new(&self, read: usize) -> bool {
-        match (self.now.get(read), self.open.range(read..).next()) {
-            (Some(one), _) if !one.is_wrong || one.hi <= self.at => false,
-            (_, Some((_, register))) => register.first > read,
-            _ => true,
+        match self.open.range(read..).next() {
+            Some((_, (_, _, first, _))) if *first <= read => false,
+            _ => matches!(self.now.get(&read), Some(one) if one.is_wrong),
         }
     }
 
     fn open(&mut self, read: usize, work: &mut Work) {
         let first = self.first(read, work);
-        let mut register = Register {
-            lo: self.at,
-            hi: self.at,
-            read,
-            first,
-            newest: self.changes.newest(first, first),
-            operations: Vec::new(work.alloc),
-        };
-        let last = self.fill(&mut register, work);
-        work.is_lost |= self.open.insert(last, register).is_err();
+        let (newest, last) = (self.changes.newest(first, first), self.last(first, work));
+        let period = (self.at, read, first, newest);
+        work.is_lost |= self.open.insert(last, period).is_err();
     }
 
     // Where the period of a READ begins: what came before is due there, and before the newest change of that came.
@@ -122,105 +107,96 @@ impl Walk {
         first
     }
 
-    // Takes in one request of a period after the other, and answers the last number: where all that came is due, and all
-    // changes before the newest one were due before that one.
-    fn fill(&self, register: &mut Register, work: &mut Work) -> usize {
-        let (first, end) = (register.first, self.now.len());
+    // The last number of a period: behind it all that came is due, and all changes before the newest one were due before
+    // that one.
+    fn last(&self, first: usize, work: &mut Work) -> usize {
         // The slots behind the last ones of all, of the newest change, and of those before that.
-        let (mut all, mut last, mut older) = (0, 0, 0);
-        let (mut number, mut change) = (register.newest, register.newest);
-        for _ in 0..end {
-            let Some(one) = self.now.get(number) else {
-                break;
-            };
-            if number > first && all <= number && older <= change {
-                break;
+        let (mut all, mut last, mut older, mut change) = (0, 0, 0, first);
+        for (number, one) in self.now.range(first..) {
+            if *number > first && all <= *number && older <= change {
+                return number.saturating_sub(1);
             }
-            work.keep(&mut register.operations, *one);
+            work.spend(4);
             all = one.slot.saturating_add(1).max(all);
             if !one.is_read {
-                (older, last, change) = (older.max(last), one.slot.saturating_add(1), number);
-            }
-            let next = first.max(number.saturating_add(1));
-            number = self.every.late(next, end, 1).unwrap_or(end);
-        }
-        // Until its period ends a READ may be served, also one that is taken as served when it came.
-        let last = number.saturating_sub(1);
-        for one in register.operations.iter_mut() {
-            if one.is_read {
-                one.due = one.due.min(last);
+                (older, last, change) = (older.max(last), one.slot.saturating_add(1), *number);
             }
         }
-        last
+        NEVER
     }
 
-    /// Closes a period to which it matters that a patch begins or ends here, if there is one.
-    pub fn close(&mut self, patch: &Patch, work: &mut Work) -> Option<Register> {
+    /// Closes a period to which it matters that a patch begins or ends here, if there is one: it is a register. A change
+    /// matters up to one that is surely later.
+    pub fn close(&mut self, patch: &Patch, work: &mut Work) -> bool {
         work.spend(16);
-        let last = self.touched(patch)?;
-        let mut register = self.open.remove(&last)?;
-        register.hi = self.at;
-        for one in &register.operations {
+        let Some((last, (_, _, first, newest))) = self.open.range(patch.request..).next() else {
+            return false;
+        };
+        let (last, from, end) = match patch.is_read {
+            true => (*last, *first, patch.slot),
+            false => (*last, *newest, patch.due),
+        };
+        if from > end {
+            return false;
+        }
+        if let Some((since, read, first, newest)) = self.open.remove(&last) {
+            (self.since, self.read) = (since, read);
+            self.operations.clear();
+            if let Some(one) = self.now.get(&newest) {
+                work.keep(&mut self.operations, *one);
+            }
+            self.take_in(first, last, work);
+        }
+        true
+    }
+
+    // Takes in the requests of a period. Until it ends a READ may be served, also one that is taken as served when it came.
+    fn take_in(&mut self, first: usize, last: usize, work: &mut Work) {
+        for (number, one) in self.now.range(first..) {
+            if *number > last {
+                break;
+            }
+            let mut one = *one;
             if one.is_wrong && one.hi > self.at {
                 work.keep(&mut self.news, one.request);
             }
-        }
-        Some(register)
-    }
-
-    // The last number of an open period to which a patch matters: a change does up to one that is surely later.
-    fn touched(&self, patch: &Patch) -> Option<usize> {
-        let (last, register) = self.open.range(patch.request..).next()?;
-        match patch.is_read {
-            true if register.first > patch.slot => None,
-            false if register.newest > patch.due => None,
-            _ => Some(*last),
+            if one.is_read {
+                one.due = one.due.min(last);
+            }
+            work.keep(&mut self.operations, one);
         }
     }
 
     /// Lets a patch begin or end here, when the periods to which it matters are closed.
     pub fn pass(&mut self, patch: &Patch, begins: bool, work: &mut Work) {
         work.spend(16);
-        if let (Some(now), true) = (self.now.get_mut(patch.request), begins) {
-            *now = *patch;
-            if patch.is_wrong {
-                work.keep(&mut self.news, patch.request);
-            }
-        }
         self.every.set(patch.request, patch.slot, begins);
-        if !patch.is_read && patch.slot >= patch.request {
+        if patch.slot < patch.request {
+            return;
+        }
+        if !patch.is_read {
             self.changes.set(patch.request, patch.slot, begins);
         }
-    }
-
-    /// The first READ of a register that is refuted alone, if it is less than one, and the first such offset.
-    pub fn refuted(
-        &self,
-        scene: &Scene,
-        register: &Register,
-        end: usize,
-        work: &mut Work,
-    ) -> Option<(Patch, u64)> {
-        for read in &register.operations {
-            if read.is_wrong && read.request < end {
-                if let Some(offset) = self.unseen(scene, read, register.lo, work) {
-                    return Some((*read, offset));
-                }
-            }
+        if begins {
+            work.is_lost |= self.now.insert(patch.request, *patch).is_err();
+        } else {
+            self.now.remove(&patch.request);
         }
-        None
+        if begins && patch.is_wrong {
+            work.keep(&mut self.news, patch.request);
+        }
     }
 
-    // The first offset from one up to here at which no change left a READ's byte that it can see: the newest that is
-    // surely before it, and those that may be served behind that one and before the READ.
-    fn unseen(&self, scene: &Scene, read: &Patch, lo: u64, work: &mut Work) -> Option<u64> {
+    /// A READ, and the first offset from one up to here at which no change left its byte that it can see: the newest that
+    /// is surely before it, and those that may be served behind that one and before the READ.
+    pub fn unseen(&self, scene: &Scene, read: &Patch, work: &mut Work) -> Option<(Patch, u64)> {
         let newest = self.changes.newest(read.request, read.request);
         let end = read.due.saturating_add(1);
         // What was left out may have left it.
         if self.every.newest(end, 1) > 0 {
             return None;
         }
-        let (mut offset, mut begun, mut number) = (lo, lo, 0);
+        let (mut offset, mut begun, mut number) = (self.since, self.since, 0);
         for _ in 0..u64::MAX {
             work.spend(4);
             if offset >= self.at || work.is_over() {
@@ -229,13 +205,13 @@ impl Walk {
             match self.changes.late(number, end, newest) {
                 Some(found) => {
                     number = found.saturating_add(1);
-                    if let Some(change) = self.now.get(found) {
+                    if let Some(change) = self.now.get(&found) {
                         offset = scene.differs(change, read, offset, self.at, work);
                     }
                 }
                 // All were asked: once more, if that was of use.
                 None if offset > begun => (begun, number) = (offset, 0),
-                None => return Some(offset),
+                None => return Some((*read, offset)),
             }
         }
         None
