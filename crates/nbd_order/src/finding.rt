@@ -22,7 +22,7 @@ use nbd_wire::{Entry, Profile};
 use std::alloc::{AllocError, Global};
 
 /// Which orders are looked for.
-#[derive(Clone, Copy, Drop)]
+#[derive(Clone, Copy, PartialEq, Eq, Drop)]
 pub enum Wanted {
     /// Also those that serve requests in parts.
     Any,

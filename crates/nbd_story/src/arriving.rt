@@ -26,7 +26,7 @@ impl Story {
     pub fn is_answered_early(&self, fault: WireFault) -> bool {
         let reply = self.begun(Side::Server);
         let arriving = self.arriving(self.recording.count_up_to(Side::Client, reply.first));
-        fault == WireFault::UnknownCookie
+        matches!(fault, WireFault::UnknownCookie)
             && reply.is_there()
             && arriving.has_cookie()
             && arriving.cookie == reply.cookie

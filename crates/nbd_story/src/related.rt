@@ -21,7 +21,7 @@ impl Text {
         let request = story.answered(told.cookie);
         if !told.has_cookie() {
             self.negotiation_reason(fault, told, story)
-        } else if fault == WireFault::UnknownCookie {
+        } else if matches!(fault, WireFault::UnknownCookie) {
             self.answered_before(told.cookie, story)
                 .outstanding(story)
                 .arriving(told, story)

@@ -103,7 +103,7 @@ impl Text {
     fn headless(self, side: Side, taken: u64, fault: WireFault, story: &Story) -> Text {
         let before = story.count(side);
         let last = before.saturating_add(taken).saturating_sub(1);
-        let is_bad = fault == WireFault::BadMagic;
+        let is_bad = matches!(fault, WireFault::BadMagic);
         self.number("message: {byte} of the ", taken)
             .say_either(side == Side::Client, "client, ", "server, ")
             .say_either(
