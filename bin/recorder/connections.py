@@ -153,10 +153,17 @@ class Connection:
         """This end takes more, or more has come from it."""
         if self.is_closed:
             return
+        try:
+            self.serve(which, mask)
+        except Refused as reason:
+            self.fail(str(reason))
+
+    def serve(self, which, mask):
+        """The same, where TLS may fail."""
         if not self.flows:
             self.connected()
             return
-        if self.upgrade is not None and self.upgrade.is_under_way():
+        if self.is_upgrading():
             self.go_on()
             return
         ours, other = (CLIENT, SERVER) if which is self.client else (SERVER, CLIENT)
@@ -168,19 +175,18 @@ class Connection:
             return
         if all(flow.is_ended for flow in self.flows.values()):
             self.close()
-        elif self.upgrade is not None and self.upgrade.is_under_way():
+        elif self.is_upgrading():
             self.go_on()
         else:
             self.watch_both()
 
+    def is_upgrading(self):
+        """Whether TLS is negotiated: the client's flags have been handed on."""
+        return self.upgrade is not None and self.upgrade.is_under_way() and not self.flows[CLIENT].held
+
     def go_on(self):
         """Goes on with the negotiation of TLS, while nothing passes; then the server is spoken to by it."""
-        try:
-            is_there = self.upgrade.turn()
-        except Refused as reason:
-            self.fail(str(reason))
-            return
-        if not is_there:
+        if not self.upgrade.turn():
             self.watch(self.client, 0)
             self.watch(self.server, READ | (WRITE if self.upgrade.is_sending() else 0))
             return
@@ -224,17 +230,9 @@ class Connection:
                 return 0
             self.forward(flow)
             if self.upgrade is not None:
-                self.note_upgrade(flow, piece)
+                self.upgrade.passed(flow.side, piece)
+                self.limit_flows()
         return len(piece)
-
-    def note_upgrade(self, flow, piece):
-        """What passes in front of TLS is looked at."""
-        try:
-            self.upgrade.passed(flow.side, piece)
-        except Refused as reason:
-            self.fail(str(reason))
-            return
-        self.limit_flows()
 
     def ended(self, flow, is_reset):
         """A direction has ended."""
