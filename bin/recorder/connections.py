@@ -81,9 +81,9 @@ def send_at_once(target):
 class Connection:
     """A client's connection, and the one to the server that it is relayed to."""
 
-    def __init__(self, lane, recorded, client):
-        self.lane, self.recorded, self.client, self.server = lane, recorded, client, None
-        self.places = list(lane.plan.places)
+    def __init__(self, worker, recorded, client):
+        self.worker, self.recorded, self.client, self.server = worker, recorded, client, None
+        self.places = list(worker.plan.places)
         self.capture, self.flows = None, {}
         # The way to TLS, up to its end.
         self.upgrade = None
@@ -101,16 +101,16 @@ class Connection:
                 self.server.setblocking(False)
                 error = self.server.connect_ex(where)
             except OSError as failure:
-                return self.fail(f"cannot connect to {self.lane.plan.target}: {reason_of(failure)}")
+                return self.fail(f"cannot connect to {self.worker.plan.target}: {reason_of(failure)}")
             if error == 0:
                 return self.begin()
             if error == errno.EINPROGRESS:
                 return self.watch(self.server, WRITE)
             self.server.close()
             if error == errno.EAGAIN:
-                return self.lane.waiting.append(self)
+                return self.worker.waiting.append(self)
             self.places.pop(0)
-        return self.fail(f"cannot connect to {self.lane.plan.target}: {os.strerror(error)}")
+        return self.fail(f"cannot connect to {self.worker.plan.target}: {os.strerror(error)}")
 
     def connected(self):
         """The server's address has answered."""
@@ -122,11 +122,11 @@ class Connection:
         self.places.pop(0)
         if self.places:
             return self.connect()
-        return self.fail(f"cannot connect to {self.lane.plan.target}: {os.strerror(error)}")
+        return self.fail(f"cannot connect to {self.worker.plan.target}: {os.strerror(error)}")
 
     def begin(self):
         """Both ends are there."""
-        path = self.lane.plan.path_of(self.recorded.number)
+        path = self.worker.plan.path_of(self.recorded.number)
         try:
             self.capture = Capture(path)
         except OSError as error:
@@ -136,8 +136,8 @@ class Connection:
             if each.family != socket.AF_UNIX:
                 send_at_once(each)
         self.begin_flows()
-        if self.lane.plan.tls is not None:
-            self.upgrade = Upgrade(self.server, self.lane.plan.tls)
+        if self.worker.plan.tls is not None:
+            self.upgrade = Upgrade(self.server, self.worker.plan.tls)
             self.limit_flows()
         return self.watch_both()
 
@@ -153,10 +153,17 @@ class Connection:
         """This end takes more, or more has come from it."""
         if self.is_closed:
             return
+        try:
+            self.serve(which, mask)
+        except Refused as reason:
+            self.fail(str(reason))
+
+    def serve(self, which, mask):
+        """The same, where TLS may fail."""
         if not self.flows:
             self.connected()
             return
-        if self.upgrade is not None and self.upgrade.is_under_way():
+        if self.is_upgrading():
             self.go_on()
             return
         ours, other = (CLIENT, SERVER) if which is self.client else (SERVER, CLIENT)
@@ -168,19 +175,18 @@ class Connection:
             return
         if all(flow.is_ended for flow in self.flows.values()):
             self.close()
-        elif self.upgrade is not None and self.upgrade.is_under_way():
+        elif self.is_upgrading():
             self.go_on()
         else:
             self.watch_both()
 
+    def is_upgrading(self):
+        """Whether TLS is negotiated: the client's flags have been handed on."""
+        return self.upgrade is not None and self.upgrade.is_under_way() and not self.flows[CLIENT].held
+
     def go_on(self):
         """Goes on with the negotiation of TLS, while nothing passes; then the server is spoken to by it."""
-        try:
-            is_there = self.upgrade.turn()
-        except Refused as reason:
-            self.fail(str(reason))
-            return
-        if not is_there:
+        if not self.upgrade.turn():
             self.watch(self.client, 0)
             self.watch(self.server, READ | (WRITE if self.upgrade.is_sending() else 0))
             return
@@ -198,7 +204,7 @@ class Connection:
             self.tell_gone(other, error)
 
     def tell_gone(self, side, error):
-        self.lane.tell(f"connection {self.recorded.number}: the {NAMES[side]}: {reason_of(error)}")
+        self.worker.tell(f"connection {self.recorded.number}: the {NAMES[side]}: {reason_of(error)}")
 
     def take_some(self, flow):
         """Takes what has come, as long as whole pieces come and are forwarded at once."""
@@ -220,21 +226,13 @@ class Connection:
             self.ended(flow, False)
         elif self.write_down(flow.side, piece):
             flow.held = piece
-            if flow.side == CLIENT and self.lane.plan.refused and not self.refuse(flow, piece):
+            if flow.side == CLIENT and self.worker.plan.refused and not self.refuse(flow, piece):
                 return 0
             self.forward(flow)
             if self.upgrade is not None:
-                self.note_upgrade(flow, piece)
+                self.upgrade.passed(flow.side, piece)
+                self.limit_flows()
         return len(piece)
-
-    def note_upgrade(self, flow, piece):
-        """What passes in front of TLS is looked at."""
-        try:
-            self.upgrade.passed(flow.side, piece)
-        except Refused as reason:
-            self.fail(str(reason))
-            return
-        self.limit_flows()
 
     def ended(self, flow, is_reset):
         """A direction has ended."""
@@ -250,7 +248,7 @@ class Connection:
         except OSError as error:
             self.fail(f"cannot write {self.capture.path}: {reason_of(error)}")
             return False
-        self.lane.note(self.recorded, side, piece)
+        self.worker.note(self.recorded, side, piece)
         return True
 
     def refuse(self, flow, piece):
@@ -288,16 +286,16 @@ class Connection:
             return
         self.watched[which] = mask
         if before == 0:
-            self.lane.selector.register(which, mask, self.ready)
+            self.worker.selector.register(which, mask, self.ready)
         elif mask == 0:
-            self.lane.selector.unregister(which)
+            self.worker.selector.unregister(which)
         else:
-            self.lane.selector.modify(which, mask, self.ready)
+            self.worker.selector.modify(which, mask, self.ready)
 
     def fail(self, reason):
         """Ends the connection, whose recording is not whole."""
         self.recorded.fault = reason
-        self.lane.tell(f"connection {self.recorded.number}: {reason}")
+        self.worker.tell(f"connection {self.recorded.number}: {reason}")
         self.close()
 
     def close(self):
@@ -313,5 +311,5 @@ class Connection:
                 self.capture.close()
             except OSError as error:
                 self.recorded.fault = self.recorded.fault or f"cannot write {self.capture.path}: {reason_of(error)}"
-                self.lane.tell(f"connection {self.recorded.number}: {self.recorded.fault}")
-        self.lane.ended(self)
+                self.worker.tell(f"connection {self.recorded.number}: {self.recorded.fault}")
+        self.worker.ended(self)

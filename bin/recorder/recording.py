@@ -6,13 +6,13 @@ import sys
 import time
 
 from .addresses import Address, listen
-from .lanes import Plan
 from .output import begin_line, shared
 from .progress import Progress
 from .relay import Relay
 from .room import Signals, Stopped, reason_of, remove, tell
 from .tls import tls_of
 from .words import names
+from .workers import Plan
 
 # Seconds without a byte after which connections are ended that are still open behind the client's end.
 QUIET = 3

@@ -1,16 +1,16 @@
-"""The relay: it listens, and hands the connections that it takes to lanes."""
+"""The relay: it listens, and hands the connections that it takes to workers."""
 
 import errno
 import os
 import selectors
 import time
 
-from .lanes import ENDED, NO_MEMORY, Handle
 from .recorded import Recorded
 from .room import reason_of
+from .workers import ENDED, NO_MEMORY, Handle
 
 # How many processes relay connections, and how many connections are taken before others have their turn.
-LANES, AT_ONCE = 4, 16
+WORKERS, AT_ONCE = 4, 16
 # What `accept` says of a client that has gone already.
 GONE = (errno.ECONNABORTED, errno.EPROTO)
 
@@ -20,12 +20,12 @@ class Relay:
 
     def __init__(self, plan, tell):
         self.plan, self.tell = plan, tell
-        self.lanes = []
-        for _ in range(LANES):
-            self.lanes.append(Handle(plan, self.lanes))
+        self.workers = []
+        for _ in range(WORKERS):
+            self.workers.append(Handle(plan, self.workers))
         self.selector = selectors.DefaultSelector()
-        for lane in self.lanes:
-            self.selector.register(lane.pipe, selectors.EVENT_READ, self.hear)
+        for worker in self.workers:
+            self.selector.register(worker.pipe, selectors.EVENT_READ, self.hear)
         self.listener = None
         # What was recorded of each connection, and which of them are open, by their numbers.
         self.connections, self.open = [], set()
@@ -61,12 +61,12 @@ class Relay:
         return True
 
     def give(self, client):
-        """Hands a connection to the lane that has the fewest."""
+        """Hands a connection to the worker that has the fewest."""
         recorded = Recorded(len(self.connections) + 1, self.plan.refused)
         self.connections.append(recorded)
         self.open.add(recorded.number)
         self.came = time.monotonic()
-        min(self.lanes, key=lambda lane: len(lane.open)).give(recorded.number, client)
+        min(self.workers, key=lambda worker: len(worker.open)).give(recorded.number, client)
 
     def cannot_accept(self, error):
         """Listens again when a connection has ended, or where there is none, not at all."""
@@ -78,17 +78,17 @@ class Relay:
             self.stop()
 
     def hear(self, pipe, *_):
-        """What a lane says; whether it goes on."""
-        lane = next(lane for lane in self.lanes if lane.pipe is pipe)
-        said = lane.said()
+        """What a worker says; whether it goes on."""
+        worker = next(worker for worker in self.workers if worker.pipe is pipe)
+        said = worker.said()
         if said is None:
-            self.lost(lane)
+            self.lost(worker)
             return False
         what, found = said
         if what == NO_MEMORY:
             raise MemoryError
         if what == ENDED:
-            lane.open.discard(found.number)
+            worker.open.discard(found.number)
             self.ended(found)
         else:
             self.tell(found)
@@ -101,19 +101,19 @@ class Relay:
         if self.listener is not None and self.listener not in self.selector.get_map():
             self.selector.register(self.listener, selectors.EVENT_READ, self.accept)
 
-    def lost(self, lane):
-        """A lane has ended; where that was not asked for, its connections are not recorded as a whole."""
-        self.selector.unregister(lane.pipe)
-        self.lanes.remove(lane)
-        lane.end()
-        status = lane.wait()
-        for number in lane.open:
+    def lost(self, worker):
+        """A worker has ended; where that was not asked for, its connections are not recorded as a whole."""
+        self.selector.unregister(worker.pipe)
+        self.workers.remove(worker)
+        worker.end()
+        status = worker.wait()
+        for number in worker.open:
             recorded, path = self.connections[number - 1], self.plan.path_of(number)
             recorded.path = path if os.path.exists(path) else None
             recorded.fault = f"the process that recorded it ended with status {status}"
             self.tell(f"connection {number}: {recorded.fault}")
             self.ended(recorded)
-        if not self.lanes and self.listener is not None:
+        if not self.workers and self.listener is not None:
             self.fault = "no process is left that relays"
             self.tell(self.fault)
             self.stop()
@@ -137,18 +137,18 @@ class Relay:
     def close(self):
         """Ends what is still open."""
         self.stop()
-        for lane in self.lanes:
-            lane.end()
-        for lane in list(self.lanes):
-            while self.hear(lane.pipe):
+        for worker in self.workers:
+            worker.end()
+        for worker in list(self.workers):
+            while self.hear(worker.pipe):
                 pass
 
     def moved(self):
         """When the last byte or the last connection came."""
-        return max([self.came, *(lane.counts()[-1] for lane in self.lanes)])
+        return max([self.came, *(worker.counts()[-1] for worker in self.workers)])
 
     def counts(self):
         """How many connections there were, their requests or None where these are not known, and the bytes of each side."""
-        found = [lane.counts() for lane in self.lanes]
+        found = [worker.counts() for worker in self.workers]
         requests, client, server = (sum(counts[at] for counts in found) for at in range(3))
         return len(self.connections), requests if all(counts[3] for counts in found) else None, client, server

@@ -145,7 +145,7 @@ class SecureEnd:
     def send(self, data):
         """Takes all of it; where it cannot be sent yet the caller tries again with the same bytes."""
         if not self.pending:
-            self.pending = self.tls.write(data)
+            self.pending = self._done(self.tls.write, data)
         self.flush()
         count, self.pending = self.pending, 0
         return count
@@ -155,7 +155,7 @@ class SecureEnd:
         parts, left = [], count
         while left:
             try:
-                part = self.tls.read(left)
+                part = self._done(self.tls.read, left)
             except ssl.SSLWantReadError:
                 if parts:
                     break
@@ -168,6 +168,16 @@ class SecureEnd:
             parts.append(part)
             left -= len(part)
         return b"".join(parts)
+
+    @staticmethod
+    def _done(act, word):
+        """What this gives; where TLS fails, nothing more can be known of the session."""
+        try:
+            return act(word)
+        except (ssl.SSLWantReadError, ssl.SSLZeroReturnError, ssl.SSLEOFError):
+            raise
+        except ssl.SSLError as error:
+            raise Refused(f"TLS with the server failed: {said_of(error)}") from None
 
     def shutdown(self, how):
         """Says that no more comes; what the other side says to that is not waited for."""

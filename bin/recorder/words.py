@@ -23,9 +23,9 @@ ADDRESS is a port of this machine, HOST:PORT, or the path of a unix socket, whic
 nbdcheck-record chooses a free port of 127.0.0.1, or where the server has a unix socket, one of its own.
 
 Of a connection nbdcheck looks for an order of service that explains it; with --arrival it is the order in which the
-requests came, with --order the one of a file. Contents are compared where no other connection may have changed the
-export; else only the protocol is judged, and the line says so. Captures without a yes are kept, and their paths told on
-standard error.
+requests came, with --order the one of a file. Contents are compared where no other connection of the recording changed
+what this one touched; else only the protocol is judged, and the line says so, and which two requests meet. Captures
+without a yes are kept, and their paths told on standard error.
 
 Without CLIENT it records until it is interrupted, to OUT.1.cap, OUT.2.cap and so on, and answers where --start,
 --arrival or --order asks for it.

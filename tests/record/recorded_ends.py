@@ -72,7 +72,7 @@ class Tool:
     def all(self):
         """Its processes: the one that was run is the last."""
         pid = self.process.pid
-        return [int(lane) for lane in Path(f"/proc/{pid}/task/{pid}/children").read_text().split()] + [pid]
+        return [int(worker) for worker in Path(f"/proc/{pid}/task/{pid}/children").read_text().split()] + [pid]
 
     def signal(self, number):
         """Sends a signal to all of its processes."""

@@ -171,7 +171,7 @@ def reports(tally, folder):
     meeting = {"request": 2, "connection": 2, "other_request": 1, "offset": 3}
     tally.want("JSON", found, [["not compared", False, False, meeting, [line], [line]], ["compared", True, True, None, [], []]])
     code, out, _ = played(folder, "junit", (FIRST, second), "--strict", "--format", "junit")
-    tally.holds("JUnit", f'<failure message="strict: {line}"' in out and "compared alone</system-out>" in out, out)
+    tally.holds("JUnit", f'<failure message="strict: {line}"' in out and "improper 0, compared alone\n" in out, out)
 
 
 def of_many(tally, folder):

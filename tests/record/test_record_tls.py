@@ -194,7 +194,9 @@ def failures(tally, folder):
     tally.want("flags that do not say fixed", found[1].splitlines()[0], "no answer: the client's flags do not say fixed newstyle")
     with SecureServer(GOOD, f"{folder}/tls", wants_client=True) as server:
         found = ended("--to", server.address, "--tls-certificates", alone, "--", *player(folder, GOOD))
-    tally.holds("a client's certificate is missing", found[0] in (1, 3, 10) and "connection 1: the server: " in found[2], found)
+    # The server may reset the connection before what it says of it is read.
+    told = ("connection 1: TLS with the server failed: TLSV13 ALERT CERTIFICATE REQUIRED", "connection 1: the server: ")
+    tally.holds("a client's certificate is missing", found[0] in (1, 3, 10) and any(line in found[2] for line in told), found)
 
 
 def mistakes(tally, folder):

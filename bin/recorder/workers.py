@@ -19,18 +19,20 @@ from .room import INTERRUPTS
 
 # Seconds until a unix socket whose queue was full is tried again.
 AGAIN = 0.05
-# What a lane shows of its connections while they last: requests, bytes of the client and of the server, whether the requests
+# How many bytes the number of a connection has, which goes with its socket.
+NUMBER_SIZE = 8
+# What a worker shows of its connections while they last: requests, bytes of the client and of the server, whether the requests
 # are known, and when the last byte came.
 SHOWN = struct.Struct("QQQ?d")
 
 # What each connection is relayed by: the server's name and its addresses, the numbers of the options that are refused in its place,
 # what TLS to it needs, or None, and the path of a connection's capture by its number.
 Plan = namedtuple("Plan", "target places refused tls path_of")
-# What a lane says: a line that is to be told, a connection that has ended, or that memory was refused.
+# What a worker says: a line that is to be told, a connection that has ended, or that memory was refused.
 TELLS, ENDED, NO_MEMORY = "tells", "ended", "no memory"
 
 
-class Lane:
+class Worker:
     """The connections of one process."""
 
     def __init__(self, plan, clients, pipe, shown):
@@ -42,8 +44,8 @@ class Lane:
         self.requests, self.bytes, self.is_known = 0, {CLIENT: 0, SERVER: 0}, True
 
     def accept(self, *_):
-        """Takes a connection, whose number comes with it; the end of these is the end of the lane."""
-        number, sockets, _, _ = socket.recv_fds(self.clients, 8, 1)
+        """Takes a connection, whose number comes with it; the end of these is the end of the worker."""
+        number, sockets, _, _ = socket.recv_fds(self.clients, NUMBER_SIZE, 1)
         if not number:
             self.selector.unregister(self.clients)
             self.is_over = True
@@ -93,12 +95,12 @@ class Lane:
         self.pipe.send((ENDED, connection.recorded))
 
 
-def run_lane(plan, clients, pipe, shown):
-    """The life of a process that is a lane; its exit status."""
+def run_worker(plan, clients, pipe, shown):
+    """The life of a process that is a worker; its exit status."""
     for number in INTERRUPTS:
         signal.signal(number, signal.SIG_IGN)
     try:
-        Lane(plan, clients, pipe, shown).run()
+        Worker(plan, clients, pipe, shown).run()
     except MemoryError:
         pipe.send((NO_MEMORY, None))
     except BrokenPipeError:
@@ -111,10 +113,10 @@ def run_lane(plan, clients, pipe, shown):
 
 
 class Handle:
-    """A lane, seen from the process that hands it connections."""
+    """A worker, seen from the process that hands it connections."""
 
     def __init__(self, plan, others):
-        self.clients, clients = socket.socketpair(socket.AF_UNIX, socket.SOCK_SEQPACKET)
+        self.clients, clients = socket.socketpair()
         self.pipe, pipe = Pipe()
         self.shown = mmap.mmap(-1, SHOWN.size)
         SHOWN.pack_into(self.shown, 0, 0, 0, 0, True, 0.0)
@@ -127,7 +129,7 @@ class Handle:
                 for each in (self, *others):
                     each.clients.close()
                     each.pipe.close()
-                status = run_lane(plan, clients, pipe, self.shown)
+                status = run_worker(plan, clients, pipe, self.shown)
             finally:
                 os._exit(status)
         clients.close()
@@ -137,13 +139,13 @@ class Handle:
         """Hands a client's connection on."""
         self.open.add(number)
         try:
-            socket.send_fds(self.clients, [number.to_bytes(8, "big")], [client.fileno()])
+            socket.send_fds(self.clients, [number.to_bytes(NUMBER_SIZE, "big")], [client.fileno()])
         except BrokenPipeError:
             # The process has gone, which is heard next.
             pass
 
     def said(self):
-        """What the lane says next, or None at its end."""
+        """What the worker says next, or None at its end."""
         try:
             return self.pipe.recv()
         except (EOFError, ConnectionResetError):
