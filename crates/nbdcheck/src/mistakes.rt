@@ -83,23 +83,34 @@ fn message_mistake(line: &[u8]) -> Mistake {
 
 // What is wrong with what stands behind the words of a message and a space: with its first bad field, or else with its payload.
 fn fields_mistake(form: Form, text: &[u8]) -> Mistake {
-    let mut rest = text.split(|byte| *byte == b' ');
+    let mut rest = Some(text);
     let mut place = form.words().len() + 2;
     for field in form.fields() {
-        let word = rest.next().unwrap_or(b"");
+        let (word, behind) = parted(rest.unwrap_or(b""));
         if let Some(words) = field_mistake(field, word) {
             return (words, Some(place));
         }
         place = place.saturating_add(word.len()).saturating_add(1);
+        rest = behind;
     }
     if form.has_payload() {
-        if let Some(words) = payload_mistake(rest.next().unwrap_or(b"")) {
+        let (word, behind) = parted(rest.unwrap_or(b""));
+        if let Some(words) = payload_mistake(word) {
             return (words, Some(place));
         }
+        rest = behind;
     }
-    match rest.next() {
+    match rest {
         Some(_) => ("behind the last field stands nothing", None),
         None => ("no message has these numbers and this payload", None),
+    }
+}
+
+// The word before the first space, and what stands behind that, where there is one.
+fn parted(text: &[u8]) -> (&[u8], Option<&[u8]>) {
+    match text.iter().position(|byte| *byte == b' ') {
+        Some(place) => (&text[..place], Some(&text[place + 1..])),
+        None => (text, None),
     }
 }
 
