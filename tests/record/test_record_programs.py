@@ -200,11 +200,20 @@ def strictly(tally, name, address, start, words, count):
     return out
 
 
+def sparse(path):
+    """A file that gives each of nbdcopy's four threads its part, of 128 MiB, with some bytes in each."""
+    with open(path, "wb") as file:
+        for part in range(4):
+            file.seek(part * 128 * MIB + 300_000)
+            file.write(random.Random(part).randbytes(200_000))
+        file.truncate(512 * MIB)
+    return path
+
+
 def by_four(tally, folder):
     """nbdcopy's four connections to a server and from it, and fio's four jobs: each connection is compared."""
-    source = Path(folder, "source")
-    source.write_bytes(random.Random(4).randbytes(64 * MIB))
-    for name, begin in (("nbdkit", lambda: nbdkit(folder, size="64M")), ("qemu-nbd", lambda: qemu_nbd(folder, "-e", "8", size=64 * MIB))):
+    source = sparse(Path(folder, "source"))
+    for name, begin in (("nbdkit", lambda: nbdkit(folder, size="512M")), ("qemu-nbd", lambda: qemu_nbd(folder, "-e", "8", size=512 * MIB))):
         if not is_there(name):
             continue
         if is_there("nbdcopy"):
