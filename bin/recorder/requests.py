@@ -40,10 +40,6 @@ class Requests:
         """Whether there is surely no request."""
         return self.is_sure and self.count == 0 and not self.has_change
 
-    def may_change(self):
-        """Whether a request may have changed the export."""
-        return self.has_change or not self.is_sure
-
     def all(self):
         """The flags, type, cookie, offset and length of each request but DISC that began."""
         return FORMS[self._size].iter_unpack(self.heads) if self.heads else ()

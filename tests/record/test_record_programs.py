@@ -12,7 +12,7 @@ import tempfile
 import time
 from pathlib import Path
 
-from built import PROGRAM
+from built import PROGRAM, TOP
 from record.recorded_ends import MIB, NONE, RECORD, SECONDS, Tool, run_parts
 from record.test_record_tls import certificates
 
@@ -77,10 +77,10 @@ def answers_there(address):
 
 
 @contextlib.contextmanager
-def running(words, address):
+def running(words, address, stderr=subprocess.DEVNULL):
     """A server, until the end of a test."""
-    with open(os.devnull, "wb") as none:
-        child = subprocess.Popen(words, stdin=none, stdout=none, stderr=none, env={**os.environ, "PATH": PATH})
+    none = subprocess.DEVNULL
+    child = subprocess.Popen(words, stdin=none, stdout=none, stderr=stderr, env={**os.environ, "PATH": PATH})
     try:
         until = time.monotonic() + SECONDS
         while not answers_there(address):
@@ -96,9 +96,9 @@ def running(words, address):
 
 
 @contextlib.contextmanager
-def nbdkit(folder, *words, size="1M"):
+def nbdkit(folder, *words, size="1M", more=()):
     path = f"{folder}/nbdkit.sock"
-    with running(["nbdkit", "-f", "-U", path, *words, "memory", size], path) as address:
+    with running(["nbdkit", "-f", "-U", path, *words, "memory", size, *more], path) as address:
         yield address
 
 
@@ -110,10 +110,10 @@ def qemu_nbd(folder, *words, size=MIB):
 
 
 @contextlib.contextmanager
-def nbd_server(folder):
+def nbd_server(folder, more=""):
     """nbd-server leaves its process for another one, whose number it writes."""
     port, config, number = free_port(), Path(folder, "config"), Path(folder, "number")
-    config.write_text(f"[generic]\nlistenaddr = 127.0.0.1\nport = {port}\n[disk]\nexportname = {image_of(folder)}\n")
+    config.write_text(f"[generic]\nlistenaddr = 127.0.0.1\nport = {port}\n[disk]\nexportname = {image_of(folder)}\n{more}")
     try:
         with running(["nbd-server", "-C", str(config), "-p", str(number)], str(port)) as address:
             yield address
@@ -200,11 +200,20 @@ def strictly(tally, name, address, start, words, count):
     return out
 
 
+def sparse(path):
+    """A file that gives each of nbdcopy's four threads its part, of 128 MiB, with some bytes in each."""
+    with open(path, "wb") as file:
+        for part in range(4):
+            file.seek(part * 128 * MIB + 300_000)
+            file.write(random.Random(part).randbytes(200_000))
+        file.truncate(512 * MIB)
+    return path
+
+
 def by_four(tally, folder):
     """nbdcopy's four connections to a server and from it, and fio's four jobs: each connection is compared."""
-    source = Path(folder, "source")
-    source.write_bytes(random.Random(4).randbytes(64 * MIB))
-    for name, begin in (("nbdkit", lambda: nbdkit(folder, size="64M")), ("qemu-nbd", lambda: qemu_nbd(folder, "-e", "8", size=64 * MIB))):
+    source = sparse(Path(folder, "source"))
+    for name, begin in (("nbdkit", lambda: nbdkit(folder, size="512M")), ("qemu-nbd", lambda: qemu_nbd(folder, "-e", "8", size=512 * MIB))):
         if not is_there(name):
             continue
         if is_there("nbdcopy"):
@@ -236,7 +245,52 @@ def by_tls(tally, folder):
                 tally.holds(f"{client} by TLS", is_right and "TLSv1.3 to the server, and none to the client" in lines, (status, out, err))
 
 
-PARTS = (pairs, run_by_nbdkit, by_four, by_tls)
+def converted(folder, head):
+    """Runs the lines of docs/RECORDING.md that make an order of a log, behind this beginning of a paragraph; the order."""
+    page = (TOP / "docs/RECORDING.md").read_text()
+    Path(folder, "nbdkit-log.awk").write_text(page.split("```awk\n")[1].split("```")[0])
+    block = page.split(head)[1].split("```\n")[1]
+    lines = [line for line in block.split("\n") if not line.startswith(("nbdkit ", "qemu-nbd "))]
+    for name, target in (("bin", TOP / "bin"), ("nbdcheck", PROGRAM)):
+        if not Path(folder, name).exists():
+            os.symlink(target, f"{folder}/{name}")
+    env = {**os.environ, "PATH": f"{PATH}:{folder}", "NBDCHECK": PROGRAM}
+    subprocess.run(["sh", "-c", "\n".join(lines)], cwd=folder, env=env, check=True, timeout=SECONDS)
+    return Path(folder, "x.ord").read_text()
+
+
+@contextlib.contextmanager
+def traced(folder):
+    """qemu-nbd with its trace events in q.log."""
+    path = f"{folder}/traced.sock"
+    with open(f"{folder}/q.log", "wb") as log:
+        with running(["qemu-nbd", "-t", "-f", "raw", "-k", path, "--trace", "nbd_co_*", image_of(folder)], path, log) as address:
+            yield address
+
+
+LOGS = {
+    "nbdkit": ("**nbdkit.**", lambda folder: nbdkit(folder, "--filter=noparallel", "--filter=log",
+                                                    more=[f"logfile={folder}/n.log", "serialize=requests"])),
+    "qemu-nbd": ("**qemu-nbd**", traced),
+    "nbd-server": ("**nbd-server**", lambda folder: nbd_server(folder, f"transactionlog = {folder}/t.log\n")),
+}
+
+
+def logs(tally, folder):
+    """The orders that docs/RECORDING.md makes of servers' logs: with one request in flight those in which the requests came."""
+    for server, (head, begin) in LOGS.items():
+        if not (is_there(server) and is_there("nbdsh")):
+            continue
+        with tempfile.TemporaryDirectory(prefix="nbdcheck-") as own:
+            words, _, _ = words_of(server, "nbdsh")
+            with begin(own) as address:
+                with Tool("--to", address, "--start", "zero", "--keep", own, "--", *words, env_more={"PATH": PATH}) as tool:
+                    status = tool.end()[0]
+            os.rename(f"{own}/session.1.cap", f"{own}/x.cap")
+            tally.want(f"the log of {server}", (status, converted(own, head)), (0, "1\n2\n3\n4\n5\n"))
+
+
+PARTS = (pairs, run_by_nbdkit, by_four, by_tls, logs)
 
 
 def run(tally):

@@ -8,7 +8,6 @@ import sys
 import xml.etree.ElementTree as xml
 from pathlib import Path
 
-from built import PROGRAM
 from messages import CLIENT, STARTTLS, ack, begun, client_flags, export, go_data, greeting, option, read, simple, write
 from record.recorded_ends import GOOD, MEET, NONE, Ends, Server, Tool, ended, player, run_parts
 

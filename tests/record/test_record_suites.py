@@ -37,7 +37,7 @@ BREACHES = {
     "WRITE_ZEROES that is not offered": (begun(flags=1) + [request(WRITE_ZEROES, 1, 0, 4), simple(1, error=ERROR)], "SEND_WRITE_ZEROES"),
     "FLUSH that is not offered": (begun(flags=1) + [request(FLUSH, 1, 0, 0), simple(1, error=ERROR)], "SEND_FLUSH"),
     "a flag that is not offered": (begun(flags=1) + [request(WRITE, 1, 0, 1, b"a", flags=1), simple(1, error=ERROR)], "FUA"),
-    "a status without a context": (begun() + [request(BLOCK_STATUS, 1, 0, 4), simple(1, error=ERROR)], "BLOCK_STATUS"),
+    "a status without a context": (begun() + [request(BLOCK_STATUS, 1, 0, 4), simple(1, error=ERROR)], "no metadata context"),
     "an offset outside of the sizes": (sized(read(1, 1, 2), simple(1, bytes(2))), "its offset is no multiple of 2"),
     "a length above the largest size": (sized(request(READ, 1, 0, 6), simple(1, bytes(6))), "its length is more than 4"),
 }

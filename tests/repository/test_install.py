@@ -168,7 +168,7 @@ def converters(tally, prefix, folder):
     for name in CONVERTERS:
         found = ended(prefix / "bin" / name, "--help", cwd=folder)
         tally.want(f"{name} --help", found, ended(TOP / "bin" / name, "--help"))
-        options = set(re.findall(r"^  (?:-h, )?(--\w+)", found[1].split("options:\n")[1].split("\n\n")[0], re.MULTILINE))
+        options = set(re.findall(r"^  (?:-h, )?(--[\w-]+)", found[1].split("options:\n")[1].split("\n\n")[0], re.MULTILINE))
         page = (prefix / f"share/man/man1/{name}.1").read_text().replace("\\-", "-")
         tally.want(f"options of the page of {name}", set(re.findall(r"^\.B[I]? (--\w+)", page, re.MULTILINE)), options)
         tally.want(f"options of {name}", completed(prefix, folder, "-", command=name), options)
@@ -194,7 +194,7 @@ def recorder(tally, prefix, folder):
                (3, "", "nbdcheck-record: no connection came: nothing was recorded\n"))
     tally.want("no file beside its modules", sorted(path.name for path in (prefix / "share/nbdcheck").iterdir()),
                ["conversion", "picture", "recorder"])
-    options = set(re.findall(r"^  (?:-h, )?(--\w+)", found[1].split("options:\n")[1].split("\n\n")[0], re.MULTILINE))
+    options = set(re.findall(r"^  (?:-h, )?(--[\w-]+)", found[1].split("options:\n")[1].split("\n\n")[0], re.MULTILINE))
     page = (prefix / "share/man/man1/nbdcheck-record.1").read_text().replace("\\-", "-")
     tally.want("options of the manual page", {option for option in options if f"{option}" in page}, options)
     complete = {"command": "nbdcheck-record"}
