@@ -289,7 +289,7 @@ def words(tally, room):
 def recorded(tally):
     """The commands of docs/RECORDING.md that have cookies, with what they print."""
     page = (TOP / "docs/RECORDING.md").read_text()
-    [block] = [part for part in re.findall(r"(?ms)^```\w*\n(.*?)^```$", page) if NAME in part]
+    [block] = [part for part in re.findall(r"(?ms)^```\w*\n(.*?)^```$", page) if f"$ bin/{NAME}" in part]
     commands = re.findall(r"(?m)^\$ (.*)\n((?:(?!\$ ).*\n)*)", block)
     with tempfile.TemporaryDirectory(prefix="nbdcheck-") as folder:
         for name in ("bin", "examples"):
