@@ -36,7 +36,11 @@ impl Write for Stumbling {
 }
 
 /// What is written, in pieces.
-const PIECES: [&[u8]; 3] = [b"C 00000003\n", b"S 0003e889045565a9", b"000000070000000100000000\n"];
+const PIECES: [&[u8]; 3] = [
+    b"C 00000003\n",
+    b"S 0003e889045565a9",
+    b"000000070000000100000000\n",
+];
 
 /// All of it.
 const WHOLE: &[u8] = b"C 00000003\nS 0003e889045565a9000000070000000100000000\n";
