@@ -17,15 +17,10 @@ impl Dues {
     pub fn new(count: usize, work: &mut Work) -> Dues {
         let leaves = count.checked_next_power_of_two().unwrap_or(1);
         let mut nodes = Vec::new(work.alloc);
-        work.spend(leaves.saturating_mul(4));
-        for _ in 0..leaves.saturating_mul(2) {
-            work.keep(&mut nodes, (NEVER, 0));
-        }
+        let count = leaves.saturating_mul(2);
+        work.spend(count.saturating_mul(8));
+        work.is_lost |= nodes.resize(count, (NEVER, 0)).is_err();
         Dues { leaves, nodes }
-    }
-
-    fn node(&self, place: usize) -> (usize, usize) {
-        self.nodes.get(place).copied().unwrap_or((NEVER, 0))
     }
 
     /// Gives a number its last slot, or takes the number away.
@@ -39,7 +34,7 @@ impl Dues {
             if let Some(node) = self.nodes.get_mut(place) {
                 *node = (least, behind);
             }
-            let beside = self.node(place ^ 1);
+            let beside = self.nodes.get(place ^ 1).copied().unwrap_or((NEVER, 0));
             (least, behind) = (least.min(beside.0), behind.max(beside.1));
             place /= 2;
         }
@@ -47,45 +42,39 @@ impl Dues {
 
     /// The greatest number before `end` whose last slot is before this one; 0 where there is none.
     pub fn newest(&self, end: usize, slot: usize) -> usize {
-        let mut place = self.leaves.saturating_add(end).saturating_sub(1);
-        for _ in 0..256 {
-            if self.node(place).0 >= slot {
-                // The node on the left.
-                place >>= place.trailing_zeros().min(63);
-                if place <= 1 {
-                    return 0;
-                }
-                place -= 1;
-            } else if place >= self.leaves {
-                break;
-            } else {
-                place = place.saturating_mul(2) | 1;
-            }
-        }
-        place.saturating_sub(self.leaves)
+        let place = self.leaves.saturating_add(end).saturating_sub(1);
+        self.find(place, slot, true).unwrap_or(0)
     }
 
     /// The least number from `first` to before `end` whose last slot is this one or a later one.
     pub fn late(&self, first: usize, end: usize, slot: usize) -> Option<usize> {
-        if first >= end.min(self.leaves) {
-            return None;
+        match self.find(self.leaves.saturating_add(first), slot, false) {
+            Some(number) if first < self.leaves && number < end => Some(number),
+            _ => None,
         }
-        let mut place = self.leaves.saturating_add(first);
+    }
+
+    // From a place to the left the next number whose last slot is before this one, or to the right one that is not.
+    fn find(&self, mut place: usize, slot: usize, is_left: bool) -> Option<usize> {
         for _ in 0..256 {
-            if self.node(place).1 <= slot {
-                // The node on the right.
-                place >>= place.trailing_ones().min(63);
-                if place == 0 {
+            let (least, behind) = self.nodes.get(place).copied().unwrap_or((NEVER, 0));
+            let (has_one, up) = match is_left {
+                true => (least < slot, place.trailing_zeros()),
+                false => (behind > slot, place.trailing_ones()),
+            };
+            if !has_one {
+                // The node beside it.
+                place >>= up.min(63);
+                if place <= 1 {
                     return None;
                 }
-                place |= 1;
-            } else if place >= self.leaves {
-                break;
+                place ^= 1;
+            } else if place < self.leaves {
+                place = place.saturating_mul(2) | usize::from(is_left);
             } else {
-                place = place.saturating_mul(2);
+                return Some(place.saturating_sub(self.leaves));
             }
         }
-        let number = place.saturating_sub(self.leaves);
-        if number < end { Some(number) } else { None }
+        None
     }
 }

@@ -11,11 +11,16 @@ const MOST: usize = 64;
 /// Few of the requests of a byte that has no order, as came out in a slot: of the READs that are due there the last 1,
 /// 2, 4 .. that have none, but for those that the others do not need.
 pub fn shrink(operations: &[Patch], slot: usize, sweep: &mut Sweep) -> Vec<Patch> {
-    let mut reads = reads_by(operations, slot, &mut sweep.work);
-    let mut size = 1usize;
+    let (mut reads, mut size) = (Vec::new(sweep.work.alloc), 1usize);
+    for one in operations {
+        if one.is_read && one.due <= slot {
+            sweep.work.keep(&mut reads, *one);
+        }
+    }
+    reads.reverse();
     for _ in 0..64 {
         let last = reads.get(..size).unwrap_or(&reads);
-        if last.len() == reads.len() || has_none(operations, last, sweep) {
+        if size >= reads.len() || has_none(operations, last, sweep) {
             break;
         }
         size = size.saturating_mul(2);
@@ -29,32 +34,25 @@ pub fn shrink(operations: &[Patch], slot: usize, sweep: &mut Sweep) -> Vec<Patch
     few_of(operations, &reads, &mut sweep.work)
 }
 
-// The READs that are due up to a slot, the last first.
-fn reads_by(operations: &[Patch], slot: usize, work: &mut Work) -> Vec<Patch> {
-    let mut reads = Vec::new(work.alloc);
-    for one in operations {
-        if one.is_read && one.due <= slot {
-            work.keep(&mut reads, *one);
-        }
-    }
-    reads.reverse();
-    reads
-}
-
+// Whether these READs have no order, or the search is over.
 fn has_none(operations: &[Patch], reads: &[Patch], sweep: &mut Sweep) -> bool {
     let mut few = few_of(operations, reads, &mut sweep.work);
-    matches!(sweep.run(&mut few), Outcome::NoOrder(_))
+    matches!(sweep.run(&mut few), Outcome::NoOrder(_)) || sweep.work.is_over()
 }
 
 /// These READs, and what may help one: the newest change surely before it, and those that it sees with its bytes.
 pub fn few_of(operations: &[Patch], reads: &[Patch], work: &mut Work) -> Vec<Patch> {
     let (mut helped, mut few) = (Vec::new(work.alloc), Vec::new(work.alloc));
+    work.spend(operations.len().saturating_mul(reads.len()));
+    if work.is_over() {
+        return few;
+    }
     for read in reads {
-        work.spend(operations.len());
-        work.keep(&mut helped, (*read, newest_before(operations, read)));
+        let mut before = operations.iter().rev();
+        let newest = before.find(|one| !one.is_read && one.due < read.request);
+        work.keep(&mut helped, (*read, newest.unwrap_or(read).request));
     }
     for one in operations {
-        work.spend(reads.len());
         if is_help(one, &helped) {
             work.keep(&mut few, *one);
         }
@@ -62,17 +60,7 @@ pub fn few_of(operations: &[Patch], reads: &[Patch], work: &mut Work) -> Vec<Pat
     few
 }
 
-fn newest_before(operations: &[Patch], read: &Patch) -> usize {
-    let mut newest = 0;
-    for one in operations {
-        if !one.is_read && one.due < read.request {
-            newest = one.request;
-        }
-    }
-    newest
-}
-
-// Whether it is one of these READs, or may be a help to one, each with the newest change before it.
+// Whether it is one of these READs, or may be a help to one, each with the newest change before it, or itself.
 fn is_help(one: &Patch, helped: &[(Patch, usize)]) -> bool {
     for (read, newest) in helped {
         let is_seen = !one.is_read && one.request <= read.due && one.due >= *newest;

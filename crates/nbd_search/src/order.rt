@@ -137,17 +137,12 @@ fn joined(requests: &[Patch], pieces: &[Piece], work: &mut Work) -> Vec<Entry> {
             from = *lo;
         }
         (last, to) = (*request, *hi);
-        work.keep(&mut entries, entry_of(requests, last, from, to));
+        let (request, offset, length) = (last as u64, from, to.saturating_sub(from));
+        let part = match requests.get(last) {
+            Some(one) if (one.lo, one.hi) == (from, to) => None,
+            _ => Some(Part { offset, length }),
+        };
+        work.keep(&mut entries, Entry { request, part });
     }
     entries
-}
-
-// The entry that serves what of a request lies from `lo` to before `hi`.
-fn entry_of(requests: &[Patch], number: usize, lo: u64, hi: u64) -> Entry {
-    let (request, length) = (number as u64, hi.saturating_sub(lo));
-    let part = match requests.get(number) {
-        Some(one) if (one.lo, one.hi) == (lo, hi) => None,
-        _ => Some(Part { offset: lo, length }),
-    };
-    Entry { request, part }
 }

@@ -4,24 +4,20 @@ use crate::order::Moment;
 use crate::scene::{NEVER, Patch, Scene};
 use crate::work::Work;
 use nbd_export::{Contents, Extents, Start};
-use std::alloc::AllocError;
-use std::mem;
 
 /// Where a READ is wrong is told in aligned blocks of so many bytes.
 const BLOCK: u64 = 64;
 
-/// The first offset of a range, the one behind it, and the place of a patch.
-pub type Range = (u64, u64, usize);
-
-// What is known of the export, and where READs were wrong.
+// What is known of the export, and where READs were wrong: ranges to before an offset, and the places of their patches.
 #[derive(Drop)]
 struct Replay {
     contents: Extents,
-    wrong: Vec<Range>,
+    wrong: Vec<(u64, u64, usize)>,
 }
 
-/// Where READs are wrong if each request that has a moment is served whole at it.
-pub fn wrong_ranges(scene: &Scene, work: &mut Work) -> Vec<Range> {
+/// Where READs are wrong if each request that has a moment is served whole at it: the first offset of a range, the one
+/// behind it, and the place of a patch.
+pub fn wrong_ranges(scene: &Scene, work: &mut Work) -> Vec<(u64, u64, usize)> {
     let wrong = Vec::new(work.alloc);
     let Ok(contents) = Extents::new(work.alloc, scene.size, Start::Unknown) else {
         work.is_lost = true;
@@ -29,11 +25,11 @@ pub fn wrong_ranges(scene: &Scene, work: &mut Work) -> Vec<Range> {
     };
     let mut replay = Replay { contents, wrong };
     for (_, place) in &order_of(scene, work) {
-        if !work.is_over() {
-            replay.serve(scene, *place, work);
+        if let (Some(patch), false) = (scene.patches.get(*place), work.is_over()) {
+            replay.serve(scene, patch, *place, work);
         }
     }
-    mem::replace(&mut replay.wrong, Vec::new(work.alloc))
+    replay.wrong
 }
 
 // The places of the patches that are served, behind their moments.
@@ -50,30 +46,22 @@ fn order_of(scene: &Scene, work: &mut Work) -> Vec<(Moment, usize)> {
 }
 
 impl Replay {
-    // Serves the patch at a place: leaves its bytes, or compares them.
-    fn serve(&mut self, scene: &Scene, place: usize, work: &mut Work) {
-        let Some(patch) = scene.patches.get(place) else {
-            return;
-        };
+    // Serves the patch at a place: leaves its bytes, if they are known, or compares them.
+    fn serve(&mut self, scene: &Scene, patch: &Patch, place: usize, work: &mut Work) {
         let bytes = scene.bytes(patch, patch.lo, patch.hi);
         work.spend((bytes.unwrap_or(&[]).len() / 8).saturating_add(32));
         if patch.is_read {
-            self.compare(scene, patch, place, work);
-        } else {
-            work.is_lost |= self.leave(patch, bytes).is_err();
+            return self.compare(scene, patch, place, work);
         }
-    }
-
-    // Leaves the bytes of a patch, if they are known.
-    fn leave(&mut self, patch: &Patch, bytes: Option<&[u8]>) -> Result<(), AllocError> {
         let size = self.contents.size();
         let lo = patch.lo.min(size);
         let length = patch.hi.min(size).saturating_sub(lo);
-        match bytes {
+        let left = match bytes {
             None => self.contents.forget(lo, length),
             Some(bytes) if bytes.len() as u64 == length => self.contents.put(lo, bytes),
             Some(_) => self.contents.zero(lo, length),
-        }
+        };
+        work.is_lost |= left.is_err();
     }
 
     // Notes where a READ, whose patch is at a place, got other bytes: in aligned blocks, of zeroes in more and more of them.
@@ -88,17 +76,13 @@ impl Replay {
             };
             let (start, lo) = (offset.saturating_sub(offset % BLOCK), at);
             at = start.saturating_add(size).min(read.hi);
-            self.note((start.max(lo), at, place), work);
+            match self.wrong.last_mut() {
+                Some(last) if last.2 == place && last.1 == start.max(lo) => last.1 = at,
+                _ => work.keep(&mut self.wrong, (start.max(lo), at, place)),
+            }
             if bytes.is_empty() {
                 size = size.saturating_mul(2);
             }
-        }
-    }
-
-    fn note(&mut self, range: Range, work: &mut Work) {
-        match self.wrong.last_mut() {
-            Some(last) if last.2 == range.2 && last.1 == range.0 => last.1 = range.1,
-            _ => work.keep(&mut self.wrong, range),
         }
     }
 

@@ -1,7 +1,6 @@
 //! The requests of a session as what they leave or read in ranges. A BLOCK_STATUS is a READ of zeroes here.
 
 use crate::order::Moment;
-use crate::replay::Range;
 use crate::work::Work;
 use nbd_export::Start;
 use nbd_session::{Asked, Transcript};
@@ -77,7 +76,8 @@ impl<'a> Scene<'a> {
             Start::Zeroes => Some(&[]),
             Start::Unknown => None,
         };
-        let whole = scene.patch(0, false, (0, size), bytes, work);
+        let whole = scene.patch(0, false, (0, size));
+        work.keep(&mut scene.bytes, bytes);
         work.keep(&mut scene.requests, whole);
         work.keep(&mut scene.patches, whole);
         for number in 1..=transcript.count() {
@@ -92,41 +92,30 @@ impl<'a> Scene<'a> {
         let (is_change, command) = (one.touches(one.offset), one.command);
         let is_read = one.succeeded() && matches!(command, commands::READ | commands::BLOCK_STATUS);
         let length = if is_change || is_read { one.length } else { 0 };
-        let bytes = match one.payload.as_slice() {
-            bytes if one.succeeded() && command != commands::TRIM => Some(bytes),
-            _ => None,
-        };
-        let whole = self.patch(
-            due_of(profile, one, 0),
-            false,
-            (one.offset, length),
-            bytes,
-            work,
-        );
+        let is_known = one.succeeded() && command != commands::TRIM;
+        let bytes = is_known.then_some(one.payload.as_slice());
+        let whole = self.patch(due_of(profile, one, 0), false, (one.offset, length));
+        work.keep(&mut self.bytes, bytes);
         if is_change {
             work.keep(&mut self.patches, whole);
         }
         let count = if is_read { one.pieces.len() } else { 0 };
         for i in 0..count {
             let (span, due) = (Span::of(&one.pieces[i]), due_of(profile, one, i));
-            let bytes = bytes_of(&one.pieces[i]);
-            let patch = self.patch(due, true, (span.offset, span.size), Some(bytes), work);
+            let bytes: &[u8] = match &one.pieces[i] {
+                Piece::Bytes { bytes, .. } => bytes.as_slice(),
+                Piece::Hole { .. } => &[],
+            };
+            let patch = self.patch(due, true, (span.offset, span.size));
+            work.keep(&mut self.bytes, Some(bytes));
             work.keep(&mut self.patches, patch);
         }
         work.keep(&mut self.requests, whole);
     }
 
-    // What the request that comes next does from an offset on in so many bytes.
-    fn patch(
-        &mut self,
-        due: usize,
-        is_read: bool,
-        range: (u64, u64),
-        bytes: Option<&'a [u8]>,
-        work: &mut Work,
-    ) -> Patch {
-        let (request, place) = (self.requests.len(), self.bytes.len());
-        work.keep(&mut self.bytes, bytes);
+    // What the request that comes next does with the next bytes: from an offset on, so many.
+    fn patch(&self, due: usize, is_read: bool, range: (u64, u64)) -> Patch {
+        let request = self.requests.len();
         let slot = match is_read {
             true => request,
             false if due == NEVER => 0,
@@ -140,7 +129,7 @@ impl<'a> Scene<'a> {
             lo: range.0.min(self.size),
             hi: range.0.saturating_add(range.1).min(self.size),
             from: range.0,
-            bytes: place,
+            bytes: self.bytes.len(),
             moment: (0, 0),
             is_wrong: false,
             value: None,
@@ -149,7 +138,7 @@ impl<'a> Scene<'a> {
     }
 
     /// Parts the patches of READs where these are wrong: there they may be served until they are due.
-    pub fn mark(&mut self, wrong: &[Range], work: &mut Work) {
+    pub fn mark(&mut self, wrong: &[(u64, u64, usize)], work: &mut Work) {
         for patch in self.patches.iter_mut() {
             patch.is_wrong = false;
         }
@@ -189,19 +178,11 @@ impl<'a> Scene<'a> {
         let count = left.len().max(got.len());
         work.spend((count / 8).saturating_add(4));
         for place in 0..count {
-            if byte_at(left, place) != byte_at(got, place) {
+            if left.get(place).unwrap_or(&0) != got.get(place).unwrap_or(&0) {
                 return lo.saturating_add(place as u64);
             }
         }
         hi
-    }
-}
-
-// The bytes of a piece; none where they are zeroes that no message has.
-fn bytes_of(piece: &Piece) -> &[u8] {
-    match piece {
-        Piece::Bytes { bytes, .. } => bytes.as_slice(),
-        Piece::Hole { .. } => &[],
     }
 }
 
@@ -232,9 +213,4 @@ fn mixed(bytes: &[u8]) -> u64 {
 fn mixed_with(number: u64, more: u64) -> u64 {
     let product = (number ^ more).wrapping_mul(0x9e37_79b9_7f4a_7c15);
     product ^ (product >> 32)
-}
-
-// Where there is no byte it is zero.
-fn byte_at(bytes: &[u8], place: usize) -> u8 {
-    bytes.get(place).copied().unwrap_or(0)
 }

@@ -71,9 +71,7 @@ struct Search {
 impl Search {
     fn run(&mut self, scene: &mut Scene) -> Proposal {
         arrive(&mut scene.requests);
-        if !self.refine(scene) {
-            arrive(&mut scene.requests);
-        }
+        self.refine(scene);
         let work = &mut self.sweep.work;
         if let Some(reason) = work.end {
             Proposal::GaveUp(work.place, reason)
@@ -86,14 +84,14 @@ impl Search {
 
     // The present order is replayed, first that of arrival; what it gets wrong is searched and binds the next one,
     // until nothing is wrong. Else an order in parts needs no registers but those of the order of arrival.
-    fn refine(&mut self, scene: &mut Scene) -> bool {
+    fn refine(&mut self, scene: &mut Scene) {
         let mut count = 0;
         for round in 1..=ROUNDS {
             self.sweep.work.progress.rounds = round;
             let wrong = wrong_ranges(scene, &mut self.sweep.work);
             if wrong.is_empty() {
                 self.served.clear();
-                return true;
+                return;
             }
             scene.mark(&wrong, &mut self.sweep.work);
             self.go_along(scene);
@@ -107,7 +105,7 @@ impl Search {
             }
         }
         self.served.truncate(count);
-        false
+        arrive(&mut scene.requests);
     }
 
     // Goes along the order of arrival once more, with nothing taken as it was there, if a register has no order so.
@@ -128,21 +126,17 @@ impl Search {
         let events = events_of(scene, &mut self.sweep.work);
         let mut walk = Walk::new(scene.requests.len(), &mut self.sweep.work);
         for (offset, begins, place) in &events {
-            if let (Some(patch), false) = (scene.patches.get(*place), self.sweep.work.is_over()) {
-                walk.go_to(*offset, &mut self.sweep.work);
-                self.close(scene, &mut walk, patch);
-                walk.pass(patch, *begins, &mut self.sweep.work);
-            }
-        }
-    }
-
-    // Looks at the registers that are closed since a patch begins or ends.
-    fn close(&mut self, scene: &Scene, walk: &mut Walk, patch: &Patch) {
-        for _ in 0..scene.requests.len() {
-            if !walk.close(patch, &mut self.sweep.work) {
+            let (Some(patch), false) = (scene.patches.get(*place), self.sweep.work.is_over()) else {
                 break;
+            };
+            walk.go_to(*offset, &mut self.sweep.work);
+            for _ in 0..scene.requests.len() {
+                if !walk.close(patch, &mut self.sweep.work) {
+                    break;
+                }
+                self.look_at(scene, &mut walk);
             }
-            self.look_at(scene, walk);
+            walk.pass(patch, *begins, &mut self.sweep.work);
         }
     }
 
@@ -170,11 +164,13 @@ impl Search {
         if self.is_stuck {
             return Outcome::BrokenOff;
         }
-        self.sweep.work.place = place_of(walk.read, lo);
+        let (request, offset) = (walk.read as u64, lo);
+        self.sweep.work.place = Place { request, offset };
         scene.number(&mut walk.operations, lo, hi, &mut self.sweep.work);
         let outcome = self.sweep.run(&mut walk.operations);
         if let Outcome::Order = outcome {
-            let served = self.sweep.trace(lo, hi);
+            let requests = self.sweep.trace();
+            let served = Served { lo, hi, requests };
             self.sweep.work.keep(&mut self.served, served);
         }
         outcome
@@ -189,11 +185,12 @@ impl Search {
             }
         }
         if let Some((read, offset)) = found {
-            let (behind, mut reads) = (offset.saturating_add(1), [read]);
+            let (behind, request) = (offset.saturating_add(1), read.request as u64);
+            let mut reads = [read];
             scene.number(&mut reads, offset, behind, work);
             scene.number(&mut walk.operations, offset, behind, work);
             (self.alone, self.is_stuck) = (read.request, true);
-            work.place = place_of(read.request, offset);
+            work.place = Place { request, offset };
             self.refuting = few_of(&walk.operations, &reads, work);
         }
         self.is_stuck
@@ -201,20 +198,12 @@ impl Search {
 
     // A byte of the register has no order, or too many states.
     fn stick(&mut self, walk: &Walk, outcome: Outcome) {
+        let sweep = &mut self.sweep;
         self.is_stuck = true;
         match outcome {
-            Outcome::NoOrder(slot) if self.is_exact => {
-                self.refuting = shrink(&walk.operations, slot, &mut self.sweep);
-            }
-            _ if self.is_exact => {
-                self.sweep.work.end.get_or_insert(Reason::States);
-            }
-            _ => {}
+            _ if !self.is_exact => {}
+            Outcome::NoOrder(slot) => self.refuting = shrink(&walk.operations, slot, sweep),
+            _ => sweep.work.end = sweep.work.end.or(Some(Reason::States)),
         }
     }
-}
-
-fn place_of(read: usize, offset: u64) -> Place {
-    let request = read as u64;
-    Place { request, offset }
 }

@@ -2,7 +2,6 @@
 //! value matches; a change in its last slot, by a switch to its value or hidden directly before the last switch; a READ in
 //! its last slot with an open change of its value.
 
-use crate::order::Served;
 use crate::scene::{NEVER, Patch};
 use crate::work::Work;
 use std::mem;
@@ -62,17 +61,6 @@ impl State {
         }
         true
     }
-
-    // Whether it can still hide what another one has changed besides: that had arrived at its last switch.
-    fn can_hide(&self, other: &State, open: &[Patch]) -> bool {
-        for one in open {
-            let is_late = !one.is_read && one.request > self.last;
-            if is_late && other.has_served(one) && !self.has_served(one) {
-                return false;
-            }
-        }
-        true
-    }
 }
 
 // A request that was served; its turn: what one state has served is in order by turns and then by places in the log; and
@@ -113,7 +101,13 @@ impl Sweep {
         self.log.clear();
         self.states.clear();
         self.work.keep(&mut self.states, State::default());
-        let dues = dues_of(operations, &mut self.work);
+        let mut dues = Vec::new(self.work.alloc);
+        for place in 0..operations.len() {
+            if operations[place].due < NEVER {
+                self.work.keep(&mut dues, (operations[place].due, place));
+            }
+        }
+        dues.sort_unstable();
         self.serve(operations, &dues)
     }
 
@@ -168,11 +162,7 @@ impl Sweep {
 
     // An operation is in its last slot: each state that has not served it does so, in each way.
     fn fall_due(&mut self, one: &Patch) {
-        let mut is_served = true;
-        for state in &self.states {
-            is_served &= state.has_served(one);
-        }
-        if !is_served {
+        if !self.states.iter().all(|state| state.has_served(one)) {
             self.branch_all(one);
             self.prune();
         }
@@ -198,7 +188,7 @@ impl Sweep {
     fn branch(&mut self, state: &State, one: &Patch) {
         for value in [one.value, None] {
             self.put(state, one, value, true);
-            if state.turn > 0 {
+            if state.turn > 0 && one.request <= state.last {
                 self.put(state, one, value, false);
             }
             if !one.is_read {
@@ -211,7 +201,7 @@ impl Sweep {
     fn put(&mut self, state: &State, one: &Patch, value: Option<u64>, is_switch: bool) {
         self.work.spend((self.open.len() / 2).saturating_add(8));
         let slot = if is_switch { self.slot } else { state.last };
-        let Some(change) = change_of(&self.open, state, one, value, slot) else {
+        let Some(change) = self.change(state, one, value, slot) else {
             return;
         };
         let (mut state, behind) = (*state, usize::from(is_switch));
@@ -219,7 +209,7 @@ impl Sweep {
             (state.value, state.last) = (value, slot);
             state.turn = state.turn.saturating_add(2);
         }
-        state.serve(change, behind, &mut self.log, &mut self.work);
+        state.serve(&change, behind, &mut self.log, &mut self.work);
         for open in &self.open {
             if open.reads(value) && open.request <= slot && !state.has_served(open) {
                 state.serve(open, behind, &mut self.log, &mut self.work);
@@ -228,7 +218,24 @@ impl Sweep {
         self.work.keep(&mut self.states, state);
     }
 
-    // Drops each state for which another one can stand.
+    // The change with which what is due is served in a slot, if there is one: itself, or of the open changes to this value
+    // that the state has not served the one with the earliest last slot.
+    fn change(&self, state: &State, one: &Patch, value: Option<u64>, slot: usize) -> Option<Patch> {
+        if !one.is_read {
+            return Some(*one);
+        }
+        let (mut found, mut due) = (None, NEVER);
+        for change in &self.open {
+            let is_such = !change.is_read && change.value == value && change.request <= slot;
+            if is_such && change.due <= due && !state.has_served(change) {
+                (found, due) = (Some(*change), change.due);
+            }
+        }
+        found
+    }
+
+    // Drops each state for which another one can stand: one with its value, no earlier last switch and no more against it.
+    // That can still hide what this one has changed besides, as it had arrived at its last switch.
     fn prune(&mut self) {
         mem::swap(&mut self.states, &mut self.before);
         self.states.clear();
@@ -244,7 +251,6 @@ impl Sweep {
         }
     }
 
-    // Whether one of the states with its value has no more against it, and can hide what this one has served besides.
     fn is_dominated(&mut self, state: &State) -> bool {
         for other in self.states.iter().rev() {
             self.work.spend(1);
@@ -252,21 +258,16 @@ impl Sweep {
                 break;
             }
             if other.owes_no_more(state) {
-                self.work.spend(self.open.len());
-                if other.can_hide(state, &self.open) {
-                    return true;
-                }
+                return true;
             }
         }
         false
     }
 
-    /// What was served in this range, behind what was left before.
-    pub fn trace(&mut self, lo: u64, hi: u64) -> Served {
-        let (mut list, mut place) = (Vec::new(self.work.alloc), 0);
-        if let Some(state) = self.states.first() {
-            place = state.log;
-        }
+    /// The requests in the order in which they were served, behind what was left before.
+    pub fn trace(&mut self) -> Vec<usize> {
+        let mut place = self.states.first().map_or(0, |state| state.log);
+        let mut list = Vec::new(self.work.alloc);
         for _ in 0..self.log.len() {
             let Some((request, turn, before)) = self.log.get(place.wrapping_sub(1)) else {
                 break;
@@ -276,49 +277,11 @@ impl Sweep {
             }
             place = *before;
         }
-        list.reverse();
         list.sort_unstable();
         let mut requests = Vec::new(self.work.alloc);
         for (_, _, request) in &list {
             self.work.keep(&mut requests, *request);
         }
-        Served { lo, hi, requests }
+        requests
     }
-}
-
-// The change with which what is due is served in a slot, if there is one: itself, or of the open changes to this value
-// that the state has not served the one with the earliest last slot.
-fn change_of<'a>(
-    open: &'a [Patch],
-    state: &State,
-    one: &'a Patch,
-    value: Option<u64>,
-    slot: usize,
-) -> Option<&'a Patch> {
-    if one.request > slot {
-        return None;
-    }
-    if !one.is_read {
-        return Some(one);
-    }
-    let (mut found, mut due) = (None, NEVER);
-    for change in open {
-        let is_such = !change.is_read && change.value == value && change.request <= slot;
-        if is_such && change.due <= due && !state.has_served(change) {
-            (found, due) = (Some(change), change.due);
-        }
-    }
-    found
-}
-
-// The slots in which operations are due, with their places.
-fn dues_of(operations: &[Patch], work: &mut Work) -> Vec<(usize, usize)> {
-    let mut dues = Vec::new(work.alloc);
-    for place in 0..operations.len() {
-        if operations[place].due < NEVER {
-            work.keep(&mut dues, (operations[place].due, place));
-        }
-    }
-    dues.sort_unstable();
-    dues
 }

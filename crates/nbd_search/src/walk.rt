@@ -6,17 +6,14 @@ use crate::work::Work;
 use std::collections::BTreeMap;
 use std::mem;
 
-/// Where something happens, whether a patch begins there or ends, and the place of the patch.
-pub type Event = (u64, bool, usize);
-
-/// All that happens as one comes along; at an offset patches end before others begin.
-pub fn events_of(scene: &Scene, work: &mut Work) -> Vec<Event> {
+/// All offsets as one comes along at which a patch begins or ends, whether it begins, and its place; at an offset patches
+/// end before others begin.
+pub fn events_of(scene: &Scene, work: &mut Work) -> Vec<(u64, bool, usize)> {
     let mut events = Vec::new(work.alloc);
-    for place in 0..scene.patches.len() {
-        let (lo, hi) = (scene.patches[place].lo, scene.patches[place].hi);
-        if lo < hi {
-            work.keep(&mut events, (lo, true, place));
-            work.keep(&mut events, (hi, false, place));
+    for (place, patch) in scene.patches.iter().enumerate() {
+        if patch.lo < patch.hi {
+            work.keep(&mut events, (patch.lo, true, place));
+            work.keep(&mut events, (patch.hi, false, place));
         }
     }
     events.sort_unstable();
@@ -67,25 +64,20 @@ impl Walk {
     /// Goes on to an offset, if that is another one: READs that are wrong from here on have an open period.
     pub fn go_to(&mut self, offset: u64, work: &mut Work) {
         if offset > self.at {
-            let news = mem::replace(&mut self.news, Vec::new(work.alloc));
-            for read in &news {
-                if self.is_new(*read) {
-                    self.open(*read, work);
-                }
+            for read in &mem::replace(&mut self.news, Vec::new(work.alloc)) {
+                self.open(*read, work);
             }
             self.at = offset;
         }
     }
 
-    // Whether a READ is wrong, and its period is not open.
-    fn is_new(&self, read: usize) -> bool {
-        match self.open.range(read..).next() {
-            Some((_, (_, _, first, _))) if *first <= read => false,
-            _ => matches!(self.now.get(&read), Some(one) if one.is_wrong),
-        }
-    }
-
+    // Opens the period of a READ, if it is wrong and the period is not open.
     fn open(&mut self, read: usize, work: &mut Work) {
+        match (self.open.range(read..).next(), self.now.get(&read)) {
+            (Some((_, (_, _, first, _))), _) if *first <= read => return,
+            (_, Some(one)) if one.is_wrong => {}
+            _ => return,
+        }
         let first = self.first(read, work);
         let (newest, last) = (self.changes.newest(first, first), self.last(first, work));
         let period = (self.at, read, first, newest);
@@ -129,40 +121,32 @@ impl Walk {
     /// matters up to one that is surely later.
     pub fn close(&mut self, patch: &Patch, work: &mut Work) -> bool {
         work.spend(16);
-        let Some((last, (_, _, first, newest))) = self.open.range(patch.request..).next() else {
+        let Some((last, period)) = self.open.range(patch.request..).next() else {
             return false;
         };
-        let (last, from, end) = match patch.is_read {
-            true => (*last, *first, patch.slot),
-            false => (*last, *newest, patch.due),
-        };
-        if from > end {
-            return false;
-        }
-        if let Some((since, read, first, newest)) = self.open.remove(&last) {
+        let (last, (since, read, first, newest)) = (*last, *period);
+        let from = if patch.is_read { first } else { newest };
+        let end = if patch.is_read { patch.slot } else { patch.due };
+        if from <= end {
+            self.open.remove(&last);
             (self.since, self.read) = (since, read);
-            self.operations.clear();
-            if let Some(one) = self.now.get(&newest) {
-                work.keep(&mut self.operations, *one);
-            }
-            self.take_in(first, last, work);
+            self.take_in(first, last, newest, work);
         }
-        true
+        from <= end
     }
 
-    // Takes in the requests of a period. Until it ends a READ may be served, also one that is taken as served when it came.
-    fn take_in(&mut self, first: usize, last: usize, work: &mut Work) {
-        for (number, one) in self.now.range(first..) {
-            if *number > last {
-                break;
-            }
+    // Until a period ends a READ may be served, also one that is taken as served when it came.
+    fn take_in(&mut self, first: usize, last: usize, newest: usize, work: &mut Work) {
+        self.operations.clear();
+        if let Some(one) = self.now.get(&newest) {
+            work.keep(&mut self.operations, *one);
+        }
+        for (_, one) in self.now.range(first..=last.max(first)) {
             let mut one = *one;
-            if one.is_wrong && one.hi > self.at {
+            if one.is_wrong {
                 work.keep(&mut self.news, one.request);
             }
-            if one.is_read {
-                one.due = one.due.min(last);
-            }
+            one.due = one.due.min(last);
             work.keep(&mut self.operations, one);
         }
     }
@@ -177,12 +161,12 @@ impl Walk {
         if !patch.is_read {
             self.changes.set(patch.request, patch.slot, begins);
         }
-        if begins {
-            work.is_lost |= self.now.insert(patch.request, *patch).is_err();
-        } else {
+        if !begins {
             self.now.remove(&patch.request);
+            return;
         }
-        if begins && patch.is_wrong {
+        work.is_lost |= self.now.insert(patch.request, *patch).is_err();
+        if patch.is_wrong {
             work.keep(&mut self.news, patch.request);
         }
     }

@@ -37,12 +37,11 @@ impl Work {
     /// Takes so many steps; the search is over where fewer are left.
     pub fn spend(&mut self, steps: usize) {
         let left = self.limits.steps;
-        let Some(rest) = left.checked_sub(steps as u64) else {
-            self.end = Some(Reason::Steps);
-            return;
-        };
-        self.limits.steps = rest;
-        if rest / PAUSE < left / PAUSE {
+        match left.checked_sub(steps as u64) {
+            Some(rest) => self.limits.steps = rest,
+            None => self.end = Some(Reason::Steps),
+        }
+        if self.limits.steps / PAUSE < left / PAUSE {
             self.progress.show();
         }
     }
