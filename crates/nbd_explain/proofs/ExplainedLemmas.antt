@@ -15,14 +15,14 @@ use Rattle.nbd_session.specs.Sessions.{IsReported, SessionView, fault_at_end, fa
 use Rattle.nbd_session.proofs.judge.RefusalLemmas.{no_run_of}
 use Rattle.nbd_judge.specs.Captures.{IsFaultOf}
 use Rattle.nbd_judge.specs.internal.Captures.{HasReport}
-use Rattle.nbd_lines.specs.declared.fault.RunFault.{RunFault}
-use Rattle.nbd_lines.specs.declared.fault.RunFault.TheVariants.{CaptureLine, CaptureRead, ImageRead, Memory, OrderLine, OrderRead, ScriptLine, ScriptRead, Write}
+use Rattle.nbd_files.specs.declared.fault.RunFault.{RunFault}
+use Rattle.nbd_files.specs.declared.fault.RunFault.TheVariants.{CaptureLine, CaptureRead, ImageRead, Memory, OrderLine, OrderRead, ScriptLine, ScriptRead, Write}
 use Rattle.nbd_tool.specs.Ends.{IsOverText}
-use Rattle.nbd_lines.specs.declared.start.StartFrom.{StartFrom}
+use Rattle.nbd_files.specs.declared.start.StartFrom.{StartFrom}
 use Rattle.nbd_tool.specs.declared.beginning.Beginning.{Beginning}
 use Rattle.nbd_tool.specs.Beginnings.{IsBeginningOf, room_in}
 use Rattle.nbd_tool.specs.Runs.{IsCapture, IsCause, IsOrder, flat_of}
-use Rattle.nbd_lines.specs.Starts.{HasImage}
+use Rattle.nbd_files.specs.Starts.{HasImage}
 use Rattle.nbd_explain.specs.Ordering.{IsOrderingCause, LeavesOrdered}
 use Rattle.nbd_tool.proofs.JudgedLemmas.{verdict_on}
 use Rattle.nbd_tool.proofs.OverLemmas.{checked_over, fault_over, report_over}

@@ -1,6 +1,8 @@
 pub mod ExplainedLemmas
 pub mod FateLemmas
-pub mod OutcomeLemmas
+pub mod LastLineLemmas
+pub mod NamedLemmas
 pub mod OrderingLemmas
 pub mod OrderlessLemmas
-pub mod NamedLemmas
+pub mod OutcomeLemmas
+pub mod OutputLemmas

@@ -35,7 +35,7 @@ use Rattle.nbd_tool.specs.declared.beginning.Beginning.{Beginning}
 use Rattle.nbd_tool.specs.Beginnings.{IsBeginningOf, room_in}
 use Rattle.nbd_explain.specs.internal.Outcomes.{IsToldFrom, IsToldOf}
 use Rattle.nbd_explain.specs.internal.Outcomes.IsToldOf.{of_refusal, of_report}
-use Rattle.nbd_lines.specs.declared.fault.RunFault.{RunFault}
+use Rattle.nbd_files.specs.declared.fault.RunFault.{RunFault}
 use Rattle.nbd_explain.specs.declared.ordering.Ordered.{Ordered}
 use Rattle.nbd_tool.specs.Runs.{flat_of}
 use Rattle.nbd_tool.specs.Verdicts.{line, words}

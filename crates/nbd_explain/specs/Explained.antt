@@ -3,11 +3,11 @@ use Rattle.std.specs.Prelude.{ℕ, List, Option, Some, None}
 use Rattle.nbd_wire.specs.declared.profile.Profile.{Profile}
 use Rattle.nbd_wire.specs.protocol.Explains.{Start}
 use Rattle.nbd_judge.specs.declared.verdict.Verdict.{Verdict}
-use Rattle.nbd_lines.specs.declared.fault.RunFault.{RunFault}
-use Rattle.nbd_lines.specs.declared.start.StartFrom.{StartFrom}
+use Rattle.nbd_files.specs.declared.fault.RunFault.{RunFault}
+use Rattle.nbd_files.specs.declared.start.StartFrom.{StartFrom}
 use Rattle.nbd_explain.specs.Ordering.{IsOrderingCause}
 use Rattle.nbd_tool.specs.Runs.{IsCause, IsVerdictOn}
-use Rattle.nbd_lines.specs.Starts.{IsWithinLimit}
+use Rattle.nbd_files.specs.Starts.{IsWithinLimit}
 use Rattle.nbd_tool.specs.Verdicts.{line}
 use Rattle.nbd_explain.specs.declared.answer.Answer.{Answer}
 use Rattle.nbd_explain.specs.Answering.{IsAnswerTo}

@@ -4,4 +4,6 @@ pub mod Explained
 pub mod Named
 pub mod Ordering
 pub mod Orderless
+pub mod Outputs
+pub mod Shown
 pub mod internal

@@ -14,10 +14,10 @@ use Rattle.nbd_wire.specs.protocol.Rules.{IsRunBut, ends_at, filter_in, written}
 use Rattle.nbd_wire.specs.protocol.States.{has_contexts, start_of}
 use Rattle.nbd_capture.specs.Capture.{Chunk, IsCaptureText}
 use Rattle.nbd_capture.specs.Lines.{line_feed}
-use Rattle.nbd_lines.specs.declared.fault.RunFault.{RunFault}
-use Rattle.nbd_lines.specs.declared.fault.RunFault.TheVariants.{Write, Memory}
+use Rattle.nbd_files.specs.declared.fault.RunFault.{RunFault}
+use Rattle.nbd_files.specs.declared.fault.RunFault.TheVariants.{Write, Memory}
 use Rattle.nbd_tool.specs.Runs.{flat_of}
-use Rattle.nbd_tool.specs.Shown.{IsShown}
+use Rattle.nbd_explain.specs.Shown.{IsShown}
 
 -- a request with a number: each but DISC
 abbrev pub is_numbered : Message → Bool

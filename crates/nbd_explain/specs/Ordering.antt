@@ -29,14 +29,14 @@ use Rattle.nbd_order.specs.declared.finding.Found.{Found}
 use Rattle.nbd_order.specs.declared.finding.Found.TheVariants as found
 use Rattle.nbd_order.specs.declared.finding.Wanted.{Wanted}
 use Rattle.nbd_order.specs.declared.finding.Wanted.TheVariants.{Whole}
-use Rattle.nbd_lines.specs.declared.fault.RunFault.{RunFault}
-use Rattle.nbd_lines.specs.declared.fault.RunFault.TheVariants.{ImageRead, Write}
+use Rattle.nbd_files.specs.declared.fault.RunFault.{RunFault}
+use Rattle.nbd_files.specs.declared.fault.RunFault.TheVariants.{ImageRead, Write}
 use Rattle.nbd_explain.specs.declared.ordering.Ordered.{Ordered}
 use Rattle.nbd_explain.specs.declared.ordering.Ordered.TheVariants.{Found as IsFound, Open, Refuted}
-use Rattle.nbd_lines.specs.declared.start.StartFrom.{StartFrom}
-use Rattle.nbd_lines.specs.RunFaults.{status}
+use Rattle.nbd_files.specs.declared.start.StartFrom.{StartFrom}
+use Rattle.nbd_files.specs.RunFaults.{status}
 use Rattle.nbd_tool.specs.Runs.{IsCapture, IsCaptureCause, flat_of}
-use Rattle.nbd_lines.specs.Starts.{HasImage}
+use Rattle.nbd_files.specs.Starts.{HasImage}
 use Rattle.nbd_tool.specs.Verdicts.{line, words}
 
 -- the lines of an order, an entry on each

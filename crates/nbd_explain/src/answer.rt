@@ -3,8 +3,8 @@
 ghost use Rattle.std.specs.Prelude.{◌≡◌};
 ghost use Rattle.nbd_explain.specs.Answering.{IsAnswerTo, answer_to, status_of};
 
+use nbd_files::RunFault;
 use nbd_judge::Verdict;
-use nbd_lines::RunFault;
 use nbd_order::Found;
 use nbd_tool::is_yes;
 

@@ -3,14 +3,14 @@
 ghost use Rattle.std.specs.Prelude.{◌≡◌, ◌⊎◌, IfErr, IfOk, OnOk};
 ghost use Rattle.std.specs.Io.KnownBytes.{Appends};
 ghost use Rattle.nbd_wire.specs.declared.profile.Profile.TheVariants.{Base};
-ghost use Rattle.nbd_lines.specs.declared.fault.RunFault.TheVariants.{Memory, Write};
+ghost use Rattle.nbd_files.specs.declared.fault.RunFault.TheVariants.{Memory, Write};
 ghost use Rattle.nbd_explain.specs.Ordering.{LeavesOrdered};
-ghost use Rattle.nbd_tool.specs.Shown.{IsShowCause};
-ghost use Rattle.nbd_lines.specs.Starts.{IsWithinLimit};
+ghost use Rattle.nbd_explain.specs.Shown.{IsShowCause};
+ghost use Rattle.nbd_files.specs.Starts.{IsWithinLimit};
 ghost use Rattle.nbd_explain.specs.Arrival.{Arrives, number_lines};
 
 use nbd_capture::write_whole;
-use nbd_lines::RunFault;
+use nbd_files::RunFault;
 use nbd_session::SessionFault;
 use nbd_tool::{Unseen, session_over};
 use nbd_wire::Profile;

@@ -1,4 +1,4 @@
-//! What is said of a session for people: why it was refused, its messages in words, an order that explains it, and that of arrival.
+//! What is said of a session: its messages as lines and in words, why it was refused, an order that explains it, and that of arrival.
 #![tactic(auto)]
 
 pub mod answer;
@@ -6,10 +6,12 @@ mod arrival;
 mod explain;
 mod fates;
 mod found;
+pub mod laws;
 mod listing;
 pub mod ordering;
 mod reading;
 mod searching;
+pub mod show;
 mod writing;
 
 pub use answer::{Answer, explain_status};
@@ -17,3 +19,4 @@ pub use arrival::{run_arrival, run_arrival_of};
 pub use explain::{run_explain, run_explain_of};
 pub use listing::{run_names, run_names_of};
 pub use ordering::{Ordered, order_status, run_order, run_order_of};
+pub use show::{run_show, run_show_of};

@@ -17,13 +17,13 @@ ghost use Rattle.nbd_order.specs.declared.finding.Wanted.{Wanted};
 ghost use Rattle.nbd_tool.specs.Beginnings.{IsReadAs};
 ghost use Rattle.nbd_tool.specs.declared.beginning.Beginning.{Beginning};
 ghost use Rattle.nbd_explain.specs.Ordering.{IsOrderingCause, LeavesOrdered, Orders, entry_lines, found_text, gave_up_line, ordered_of, reason_words, spaced_numbers, status_of, unexplained_line};
-ghost use Rattle.nbd_lines.specs.Starts.{HasImage, IsStartWithinLimit, IsWithinLimit, initial_from};
-ghost use Rattle.nbd_lines.specs.declared.fault.RunFault.TheVariants as faults;
+ghost use Rattle.nbd_files.specs.Starts.{HasImage, IsStartWithinLimit, IsWithinLimit, initial_from};
+ghost use Rattle.nbd_files.specs.declared.fault.RunFault.TheVariants as faults;
 ghost use Rattle.nbd_explain.specs.internal.Outcomes.{IsToldFrom, IsToldOf};
 
 use nbd_capture::write_whole;
+use nbd_files::{Measured, RunFault, StartFrom};
 use nbd_judge::{Verdict, wrong_of};
-use nbd_lines::{Measured, RunFault, StartFrom};
 use nbd_order::{Found, Scope, find};
 use nbd_search::{Progress, Reason};
 use nbd_session::{SessionFault, Transcript};

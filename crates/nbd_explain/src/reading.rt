@@ -2,10 +2,10 @@
 
 ghost use Rattle.std.specs.Prelude.{IfErr, IfOk, OnOk};
 ghost use Rattle.nbd_tool.specs.Runs.{IsCaptureCause};
-ghost use Rattle.nbd_lines.specs.Starts.{IsWithinLimit};
+ghost use Rattle.nbd_files.specs.Starts.{IsWithinLimit};
 ghost use Rattle.nbd_explain.specs.internal.Lines.{IsFinishOf};
 
-use nbd_lines::RunFault;
+use nbd_files::RunFault;
 use nbd_session::{SessionFault, Transcript};
 use nbd_story::Story;
 use nbd_tool::{Witness, session_over};

@@ -1,11 +1,11 @@
 //! The command `explain` without an order.
 
 ghost use Rattle.std.specs.Prelude.{◌≡◌, ◌⊎◌, Err, IfErr, IfOk, IsOk, OnOk};
-ghost use Rattle.nbd_lines.specs.declared.fault.RunFault.TheVariants.{ImageRead, Memory};
+ghost use Rattle.nbd_files.specs.declared.fault.RunFault.TheVariants.{ImageRead, Memory};
 ghost use Rattle.nbd_tool.specs.declared.beginning.Beginning.{Beginning};
 ghost use Rattle.nbd_wire.specs.declared.profile.Profile.{Profile};
 ghost use Rattle.nbd_tool.specs.Beginnings.{IsBeginningOf, room_in};
-ghost use Rattle.nbd_lines.specs.Starts.{HasImage, IsStartWithinLimit, initial_from};
+ghost use Rattle.nbd_files.specs.Starts.{HasImage, IsStartWithinLimit, initial_from};
 ghost use Rattle.nbd_explain.specs.Answering.{answer_to};
 ghost use Rattle.nbd_explain.specs.internal.Lines.{Begins, BeginsWithLineOf, IsLineOf, IsToldBySearch, IsToldOfFound};
 
@@ -13,8 +13,8 @@ use crate::answer::{Answer, found_answer};
 use crate::found::found_explanation;
 use crate::ordering::{find_order, found_text_of};
 use crate::writing::{copy_of, kept_of, told_verdict};
+use nbd_files::{Measured, RunFault, StartFrom};
 use nbd_judge::Verdict;
-use nbd_lines::{Measured, RunFault, StartFrom};
 use nbd_order::{Found, Scope, Wanted};
 use nbd_search::{Limits, Progress};
 use nbd_session::{SessionFault, Transcript};

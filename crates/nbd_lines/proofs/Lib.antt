@@ -1,8 +1,6 @@
 pub mod DecimalLemmas
 pub mod DecisionLemmas
 pub mod EndLemmas
-pub mod FaultLemmas
-pub mod InputLemmas
 pub mod MadeLineLemmas
 pub mod MakeLemmas
 pub mod MessageLineLemmas

@@ -1,11 +1,7 @@
-pub mod CommandLine
+pub mod Causes
 pub mod Faults
 pub mod Line
 pub mod MakeCommand
-pub mod Opening
-pub mod RunFaults
 pub mod Script
-pub mod Starts
 pub mod Table
-pub mod Texts
 pub mod internal

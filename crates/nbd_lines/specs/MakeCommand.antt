@@ -4,8 +4,8 @@ use Rattle.std.specs.Io.KnownBytes.{Keeps}
 use Rattle.nbd_wire.specs.declared.message.Message.{Message}
 use Rattle.nbd_lines.specs.Faults.{Makes, MakesPrefix}
 use Rattle.nbd_lines.specs.Script.{IsScript, IsFirstBadScriptLine}
-use Rattle.nbd_lines.specs.declared.fault.RunFault.{RunFault}
-use Rattle.nbd_lines.specs.declared.fault.RunFault.TheVariants.{ScriptLine, ScriptRead, Write, Memory}
+use Rattle.nbd_files.specs.declared.fault.RunFault.{RunFault}
+use Rattle.nbd_files.specs.declared.fault.RunFault.TheVariants.{ScriptLine, ScriptRead, Write, Memory}
 
 -- known bytes are a script
 abbrev pub IsKnownScript : Option (List ℕ) → Type 0

@@ -1,4 +1,3 @@
-pub mod FaultWords
 pub mod Printing
 pub mod Reading
 pub mod Steps

@@ -1,13 +1,12 @@
 //! What holds of message lines and of scripts, as contracts of functions that do nothing.
 
-ghost use Rattle.std.specs.Prelude.{◌≡◌, ◌⊎◌, ◌++◌, ◌^◌, ℕ, List, codes, map};
+ghost use Rattle.std.specs.Prelude.{◌≡◌, ◌⊎◌, ◌++◌, ℕ, List, codes, map};
 ghost use Rattle.std.specs.List.{AllByRecursion};
 ghost use Rattle.nbd_wire.specs.declared.message.Message.{Message};
 ghost use Rattle.nbd_wire.specs.codec.Fits.{FitsItsHead};
 ghost use Rattle.nbd_wire.specs.protocol.Sendable.{IsSendable};
 ghost use Rattle.nbd_capture.specs.Capture.{IsCaptureText};
 ghost use Rattle.nbd_lines.specs.Line.{IsMessageLine, message_line};
-ghost use Rattle.nbd_lines.specs.declared.input.TheConstants.{READ_LIMIT};
 ghost use Rattle.nbd_lines.specs.Script.{IsFirstBadScriptLine, IsScript, chunk_lines, made_chunk, message_lines};
 
 use nbd_capture::laws::written_chunks_are_read;
@@ -64,9 +63,3 @@ pub fn made_lines_are_a_capture()
 {
     written_chunks_are_read();
 }
-
-/// The limit of an input is 2^40 bytes, neither more nor less: `limited` of each command says that no longer one is read as
-/// whole, and the readers compare with this constant.
-pub fn limit_is_literal()
-    ensures { READ_LIMIT ≡ 2 ^ 40 }
-{}

@@ -1,12 +1,11 @@
 //! The command `make`, over any reader and writer.
 ghost use Rattle.std.specs.Prelude.{◌≡◌, ◌⊎◌, IfErr, IfOk, IfSome, OnOk};
-ghost use Rattle.nbd_lines.specs.declared.fault.RunFault.TheVariants.{Memory, ScriptRead};
+ghost use Rattle.nbd_files.specs.declared.fault.RunFault.TheVariants.{Memory, ScriptRead};
 ghost use Rattle.nbd_lines.specs.MakeCommand.{IsScriptCause, LeavesLines, MakesAll};
-ghost use Rattle.nbd_lines.specs.Starts.{IsWithinLimit};
+ghost use Rattle.nbd_files.specs.Starts.{IsWithinLimit};
 
-use crate::fault::RunFault;
-use crate::input::{ReadFault, read_whole};
 use crate::making::make;
+use nbd_files::{ReadFault, RunFault, read_whole};
 use std::alloc::Global;
 use std::io::{BufRead, Write};
 

@@ -1,10 +1,12 @@
 //! A script as a capture.
 
 ghost use Rattle.std.specs.Prelude.{◌≡◌, IfErr, OnOk};
+ghost use Rattle.nbd_lines.specs.Causes.{of_make};
 ghost use Rattle.nbd_lines.specs.Faults.{IsMakeCause, LeavesMade, Makes, of_output, of_script};
 
 use crate::output::{OutputFault, write_chunks};
 use crate::script::{ScriptFault, parse_script};
+use nbd_files::RunFault;
 use std::alloc::Global;
 use std::{fmt, io};
 use thiserror::Error;
@@ -65,4 +67,16 @@ pub fn make<W: io::Write>(alloc: Global, script: &[u8], out: &mut W) -> Result<(
     let messages = parse_script(alloc, script)?;
     write_chunks(alloc, messages.as_slice(), out)?;
     Ok(())
+}
+
+impl From<MakeFault> for RunFault {
+    ghost from_gives = { λ fault run. run ≡ of_make fault };
+
+    fn from(fault: MakeFault) -> RunFault {
+        match fault {
+            MakeFault::Line(number) => RunFault::ScriptLine(number),
+            MakeFault::Write => RunFault::Write,
+            MakeFault::Memory => RunFault::Memory,
+        }
+    }
 }

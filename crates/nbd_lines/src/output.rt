@@ -6,10 +6,12 @@ ghost use Rattle.std.specs.List.{AllByRecursion};
 ghost use Rattle.nbd_wire.specs.codec.Fits.{FitsItsHead};
 ghost use Rattle.nbd_capture.specs.Writing.{AppendsPrefix};
 ghost use Rattle.nbd_lines.specs.Script.{chunk_lines, message_lines};
+ghost use Rattle.nbd_lines.specs.Causes.{of_output};
 ghost use Rattle.nbd_lines.specs.declared.output.OutputFault.TheVariants.{Memory, Write};
 
 use crate::printing::append_line;
 use nbd_capture::{WriteFault, write_chunk, write_whole};
+use nbd_files::RunFault;
 use nbd_wire::{Message, append, side_of};
 use std::alloc::{AllocError, Global};
 use std::{fmt, io};
@@ -96,4 +98,15 @@ pub fn write_chunks<W: io::Write>(
         write_chunk(out, side_of(message), bytes.as_slice())?;
     }
     Ok(())
+}
+
+impl From<OutputFault> for RunFault {
+    ghost from_gives = { λ fault run. run ≡ of_output fault };
+
+    fn from(fault: OutputFault) -> RunFault {
+        match fault {
+            OutputFault::Write => RunFault::Write,
+            OutputFault::Memory => RunFault::Memory,
+        }
+    }
 }

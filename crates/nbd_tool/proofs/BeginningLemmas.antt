@@ -3,9 +3,9 @@ use Rattle.std.proofs.Common.{ℕ, List, None, Some, IfSome, refl, sym, replicat
 use Rattle.std.proofs.lemmas.List.{length-replicate}
 use Rattle.std.specs.Prelude.{Option}
 use Rattle.nbd_wire.specs.protocol.Explains.{Image}
-use Rattle.nbd_lines.specs.Starts.{image_of}
-use Rattle.nbd_lines.specs.Texts.{IsText}
-use Rattle.nbd_lines.specs.declared.input.Text.TheVariants.{Longer}
+use Rattle.nbd_files.specs.Starts.{image_of}
+use Rattle.nbd_files.specs.Texts.{IsText}
+use Rattle.nbd_files.specs.declared.input.Text.TheVariants.{Longer}
 use Rattle.nbd_tool.specs.Beginnings.{IsBeginningOf}
 use Rattle.nbd_tool.specs.declared.beginning.Beginning.TheVariants as Beginning
 

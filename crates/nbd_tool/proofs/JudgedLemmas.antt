@@ -16,8 +16,8 @@ use Rattle.nbd_judge.specs.Captures.{IsChecked}
 use Rattle.nbd_tool.specs.Ends.{IsOverText}
 use Rattle.nbd_tool.specs.internal.Outcomes.{IsConcluded}
 use Rattle.nbd_tool.proofs.OverLemmas.{checked_over}
-use Rattle.nbd_lines.specs.declared.fault.RunFault.{RunFault}
-use Rattle.nbd_lines.specs.declared.fault.RunFault.TheVariants.{Write, Memory}
+use Rattle.nbd_files.specs.declared.fault.RunFault.{RunFault}
+use Rattle.nbd_files.specs.declared.fault.RunFault.TheVariants.{Write, Memory}
 use Rattle.nbd_tool.specs.Runs.{IsVerdictOn, LeavesWritten, Tells, flat_of}
 use Rattle.nbd_tool.specs.Verdicts.{IsYes, line}
 

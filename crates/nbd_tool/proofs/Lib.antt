@@ -1,6 +1,5 @@
 pub mod BeginningLemmas
 pub mod JudgedLemmas
-pub mod LastLineLemmas
 pub mod OverLemmas
 pub mod SayLemmas
 pub mod SizeLemmas

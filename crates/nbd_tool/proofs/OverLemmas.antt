@@ -25,9 +25,9 @@ use Rattle.nbd_judge.specs.Conclusions.{Answers, IsConclusion, IsReportOf}
 use Rattle.nbd_judge.specs.declared.verdict.Verdict.{Verdict}
 use Rattle.nbd_judge.specs.internal.Captures.{HasReport}
 use Rattle.nbd_judge.proofs.verdicts.ChunkLemmas.{checked, told_of}
-use Rattle.nbd_lines.specs.RunFaults.{of_capture}
-use Rattle.nbd_tool.specs.Runs.{IsCaptureCause, flat_of}
-use Rattle.nbd_tool.specs.Ends.{IsOver, IsWireAt}
+use Rattle.nbd_files.specs.RunFaults.{of_capture}
+use Rattle.nbd_tool.specs.Runs.{IsCapture, IsCaptureCause, flat_of}
+use Rattle.nbd_tool.specs.Ends.{IsOver, IsOverText, IsWireAt}
 
 -- one more chunk
 flat-snoc : (chunks : List Chunk) (c : Chunk) → flat_of (chunks ++ c ∷ []) ≡ flat_of chunks ++ side_pairs c.side c.bytes
@@ -176,3 +176,8 @@ both_on (Err fault) b second e holds = absurd (cc)
 pub first_on : {A B E P : Type 0} (o : Result A E) (b : B) (fault : E) → Err fault ≡ result_and o (Ok b) → OnErr o P → P
 first_on (Ok a) b fault e holds = absurd (cc)
 first_on (Err other) b fault e holds = holds
+
+-- a capture that a session is over is a capture text
+pub capture_over : {profile : Profile} (known : Option (List ℕ)) (r : SessionView) → IsOverText profile known r → IsCapture known
+capture_over None r session = tt
+capture_over (Some text) r session = (session.chunks, session.is_text)

@@ -13,8 +13,8 @@ use Rattle.nbd_judge.specs.declared.verdict.Verdict.TheVariants.{Yes, Wire, Imag
 use Rattle.nbd_judge.specs.Captures as judge
 use Rattle.nbd_judge.proofs.verdicts.RefusalLemmas.{answers_exactly}
 use Rattle.nbd_tool.specs.Runs.{AnswersExactly, IsVerdictOn, SaysYes, Tells, flat_of}
-use Rattle.nbd_lines.specs.declared.fault.RunFault.{RunFault}
-use Rattle.nbd_lines.specs.declared.fault.RunFault.TheVariants.{Memory, Write}
+use Rattle.nbd_files.specs.declared.fault.RunFault.{RunFault}
+use Rattle.nbd_files.specs.declared.fault.RunFault.TheVariants.{Memory, Write}
 use Rattle.nbd_tool.specs.Verdicts.{IsYes, line}
 
 abbrev IsExplainedOn : Profile → (text order_text : List ℕ) → Start → Type 0

@@ -1,24 +1,16 @@
--- Each run has one line, or one output, to write.
-use Rattle.std.proofs.Common.{◌≡◌, List, [], ◌∷◌, length, refl, sym, ◌∙◌, ap, subst}
+-- Each run of `check` has one line to write.
+use Rattle.std.proofs.Common.{◌≡◌, List, subst}
 use Rattle.nbd_wire.specs.declared.profile.Profile.{Profile}
 use Rattle.nbd_wire.specs.declared.entry.Entry.{Entry}
-use Rattle.nbd_wire.specs.declared.message.Message.{Message}
-use Rattle.nbd_wire.specs.protocol.Captures.{Pair}
-use Rattle.nbd_wire.specs.protocol.Marks.{Item, Byte, Starts, Completes, Serves, completed_messages, without_service}
 use Rattle.nbd_capture.specs.Capture.{Chunk, IsCaptureLine}
 use Rattle.nbd_capture.specs.Order.{IsOrderLine}
 use Rattle.nbd_capture.proofs.FormLemmas.{one_saying}
 use Rattle.nbd_capture.proofs.OrderLineLemmas.{one_entry}
 use Rattle.nbd_capture.proofs.ReadingLemmas.{one_reading}
-use Rattle.nbd_laws.proofs.service.ServiceLemmas.{same_marks}
-use Rattle.nbd_session.specs.Sessions.{HasRunOf}
 use Rattle.nbd_judge.specs.Captures.{IsChecked}
-use Rattle.nbd_judge.specs.declared.verdict.Verdict.TheVariants.{Wire}
-use Rattle.nbd_judge.proofs.verdicts.UniqueLemmas.{one_answer, one_wire_fault}
+use Rattle.nbd_judge.proofs.verdicts.UniqueLemmas.{one_answer}
 use Rattle.nbd_tool.specs.Runs.{flat_of}
-use Rattle.nbd_tool.specs.Shown.IsShown.{accepted, refused}
-use Rattle.nbd_tool.specs.Uniqueness.{OneLine, OneOutput}
-use Rattle.nbd_tool.specs.Verdicts.{line}
+use Rattle.nbd_tool.specs.Uniqueness.{OneLine}
 
 pub one_line : OneLine
 one_line profile text order_text initial v w a b =
@@ -26,28 +18,3 @@ one_line profile text order_text initial v w a b =
     let entries : a.1 ≡ b.1 = one_reading IsOrderLine one_entry order_text a.1 b.1 a.3 b.3 in
     one_answer profile (flat_of b.0) b.1 initial v w
     (subst (λ (o : List Entry). IsChecked profile (flat_of b.0) o initial v) entries (subst (λ (c : List Chunk). IsChecked profile (flat_of c) a.1 initial v) chunks a.4)) b.4
-
--- the moments of service aside, the same messages complete
-completed_alike : (items : List Item) → completed_messages (without_service items) ≡ completed_messages items
-completed_alike [] = refl
-completed_alike (Byte s b ∷ items) = completed_alike items
-completed_alike (Starts s m ∷ items) = completed_alike items
-completed_alike (Completes s m ∷ items) = ap (λ ms. m ∷ ms) (completed_alike items)
-completed_alike (Serves k ∷ items) = completed_alike items
-
--- two runs with the same bytes complete the same messages
-one_run : (profile : Profile) (capture : List Pair) (messages more : List Message) → HasRunOf profile capture messages [] [] → HasRunOf profile capture more [] [] → messages ≡ more
-one_run profile capture messages more a b =
-    sym a.has_messages
-    ∙ sym (completed_alike a.items)
-    ∙ ap completed_messages (same_marks profile a.items b.items a.is_run b.is_run (a.has_pairs ∙ sym b.has_pairs))
-    ∙ completed_alike b.items
-    ∙ b.has_messages
-
-pub one_output : OneOutput
-one_output profile capture _ _ _ _ _ _ (accepted messages run) (accepted more other) = (refl, one_run profile capture messages more run other, refl)
-one_output profile capture _ _ _ _ _ _ (accepted messages run) (refused prefix more fault leads is none) = absurd (none run.items run.is_run run.has_pairs)
-one_output profile capture _ _ _ _ _ _ (refused prefix more fault leads is none) (accepted messages run) = absurd (none run.items run.is_run run.has_pairs)
-one_output profile capture _ _ _ _ _ _ (refused prefix messages fault leads is none) (refused other more again leads' is' none') =
-    let one = one_wire_fault profile capture messages more (length prefix) (length other) fault again is is' in
-    (refl, one.2, ap (λ n. line (Wire n fault)) one.0 ∙ ap (λ f. line (Wire (length other) f)) one.1)

@@ -10,8 +10,8 @@ use Rattle.nbd_session.specs.declared.fault.SessionFault.TheVariants as session
 use Rattle.nbd_session.specs.Refusals.{Refuses}
 use Rattle.nbd_session.specs.Sessions.{SessionView, pairs_of, bytes_taken}
 use Rattle.nbd_judge.specs.declared.verdict.Verdict.TheVariants.{Wire}
-use Rattle.nbd_lines.specs.declared.fault.RunFault.{RunFault}
-use Rattle.nbd_lines.specs.declared.fault.RunFault.TheVariants.{Write, Memory}
+use Rattle.nbd_files.specs.declared.fault.RunFault.{RunFault}
+use Rattle.nbd_files.specs.declared.fault.RunFault.TheVariants.{Write, Memory}
 use Rattle.nbd_tool.specs.Runs.{flat_of}
 use Rattle.nbd_tool.specs.Verdicts.{line}
 

@@ -1,7 +1,6 @@
 pub mod Beginnings
 pub mod Ends
 pub mod Runs
-pub mod Shown
 pub mod Uniqueness
 pub mod Verdicts
 pub mod internal

@@ -7,13 +7,13 @@ use Rattle.nbd_wire.specs.protocol.Captures.{Pair, flat}
 use Rattle.std.specs.Io.KnownBytes.{Appends, Keeps}
 use Rattle.nbd_capture.specs.Capture.{Chunk, IsCaptureText, IsFirstBadCaptureLine}
 use Rattle.nbd_capture.specs.Order.{IsOrderText, IsFirstBadOrderLine}
-use Rattle.nbd_lines.specs.declared.fault.RunFault.{RunFault}
-use Rattle.nbd_lines.specs.declared.fault.RunFault.TheVariants.{CaptureLine, CaptureRead, OrderLine, OrderRead, ImageRead, Write, Memory}
+use Rattle.nbd_files.specs.declared.fault.RunFault.{RunFault}
+use Rattle.nbd_files.specs.declared.fault.RunFault.TheVariants.{CaptureLine, CaptureRead, OrderLine, OrderRead, ImageRead, Write, Memory}
 use Rattle.nbd_judge.specs.declared.verdict.Verdict.{Verdict}
 use Rattle.nbd_judge.specs.Captures.{IsChecked}
 use Rattle.nbd_capture.specs.Writing.{AppendsPrefix}
-use Rattle.nbd_lines.specs.declared.start.StartFrom.{StartFrom}
-use Rattle.nbd_lines.specs.Starts.{HasImage}
+use Rattle.nbd_files.specs.declared.start.StartFrom.{StartFrom}
+use Rattle.nbd_files.specs.Starts.{HasImage}
 use Rattle.nbd_tool.specs.Verdicts.{IsYes, line}
 
 -- known bytes are a capture text

@@ -1,14 +1,14 @@
 //! What is kept of what the export held when the session began.
 
 ghost use Rattle.std.specs.Prelude.{◌≡◌, ◌⊎◌, ◌<◌, ℕ, IfErr, IfOk, IfSome, Ok, OnOk, length};
-ghost use Rattle.nbd_lines.specs.declared.fault.RunFault.TheVariants.{ImageRead, Memory};
-ghost use Rattle.nbd_lines.specs.declared.input.Text.TheVariants.{Longer};
+ghost use Rattle.nbd_files.specs.declared.fault.RunFault.TheVariants.{ImageRead, Memory};
+ghost use Rattle.nbd_files.specs.declared.input.Text.TheVariants.{Longer};
 ghost use Rattle.nbd_tool.specs.Beginnings.{IsBeginningOf, room_in};
-ghost use Rattle.nbd_lines.specs.Starts.{HasImage, IsStartWithinLimit, IsWithinLimit, initial_from};
-ghost use Rattle.nbd_lines.specs.Texts.{IsText};
+ghost use Rattle.nbd_files.specs.Starts.{HasImage, IsStartWithinLimit, IsWithinLimit, initial_from};
+ghost use Rattle.nbd_files.specs.Texts.{IsText};
 
 use nbd_export::Start;
-use nbd_lines::{Measured, READ_LIMIT, ReadFault, RunFault, StartFrom, Text, read_within};
+use nbd_files::{Measured, READ_LIMIT, ReadFault, RunFault, StartFrom, Text, read_within};
 use nbd_session::{SessionFault, Transcript};
 use std::alloc::Global;
 

@@ -4,14 +4,14 @@ ghost use Rattle.std.specs.Prelude.{◌≡◌, ◌+◌, ◌<◌, ◌^◌, ◌++�
 ghost use Rattle.nbd_wire.specs.declared.profile.Profile.{Profile};
 ghost use Rattle.nbd_wire.specs.protocol.Captures.{Pair, side_pairs};
 ghost use Rattle.nbd_capture.specs.Reading.{at_start};
-ghost use Rattle.nbd_lines.specs.declared.input.TheConstants.{READ_LIMIT};
+ghost use Rattle.nbd_files.specs.declared.input.TheConstants.{READ_LIMIT};
 ghost use Rattle.nbd_session.specs.Sessions.{bytes_taken, empty_session_of};
 ghost use Rattle.nbd_tool.specs.Runs.{IsCaptureCause};
-ghost use Rattle.nbd_lines.specs.Starts.{IsWithinLimit};
+ghost use Rattle.nbd_files.specs.Starts.{IsWithinLimit};
 ghost use Rattle.nbd_tool.specs.Ends.{IsOver, IsOverText};
 
 use nbd_capture::CaptureReader;
-use nbd_lines::{READ_LIMIT, RunFault};
+use nbd_files::{READ_LIMIT, RunFault};
 use nbd_session::{Session, SessionFault};
 use nbd_wire::{Profile, Side};
 use std::alloc::{AllocError, Global};

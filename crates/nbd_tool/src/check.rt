@@ -4,19 +4,19 @@ ghost use Rattle.nbd_capture.specs.Order.{IsOrderText};
 ghost use Rattle.nbd_wire.specs.declared.entry.Entry.{Entry};
 ghost use Rattle.nbd_wire.specs.declared.profile.Profile.TheVariants.{Base};
 ghost use Rattle.nbd_tool.specs.Runs.{AnswersExactly, IsCapture, IsOrder, IsCause, IsOrderCause, LeavesWritten, SaysYes, Tells};
-ghost use Rattle.nbd_lines.specs.declared.fault.RunFault.TheVariants.{ImageRead, Memory, Write};
+ghost use Rattle.nbd_files.specs.declared.fault.RunFault.TheVariants.{ImageRead, Memory, Write};
 ghost use Rattle.nbd_tool.specs.internal.Outcomes.{IsConcluded};
-ghost use Rattle.nbd_lines.specs.Starts.{HasImage, IsStartWithinLimit, IsWithinLimit, initial_from};
+ghost use Rattle.nbd_files.specs.Starts.{HasImage, IsStartWithinLimit, IsWithinLimit, initial_from};
 
 use crate::beginning::{read_start, room_of};
 use crate::capture::{Unseen, session_over};
 use crate::concluding::conclude_from;
 use crate::verdict::write_verdict;
 use nbd_capture::parse_order;
-use nbd_judge::Verdict;
-use nbd_lines::{
+use nbd_files::{
     Files, Measured, PORTION, ReadFault, RunFault, StartFrom, StartWord, open_inputs, read_whole,
 };
+use nbd_judge::Verdict;
 use nbd_session::{SessionFault, Transcript};
 use nbd_wire::{Entry, Profile};
 use std::alloc::Global;

@@ -1,4 +1,4 @@
-//! What the commands `check` and `show` do, over any readers and writer.
+//! What the command `check` does, over any readers and writer.
 #![tactic(auto)]
 
 pub mod beginning;
@@ -6,12 +6,10 @@ pub mod capture;
 pub mod check;
 pub mod concluding;
 pub mod laws;
-pub mod show;
 pub mod verdict;
 
 pub use beginning::{Beginning, read_start, room_of};
 pub use capture::{Unseen, Witness, session_over};
 pub use check::{check_files, read_order, run_check, run_check_of};
 pub use concluding::conclude_from;
-pub use show::{run_show, run_show_of, write_end};
-pub use verdict::{Line, is_yes, line_of};
+pub use verdict::{Line, is_yes, line_of, write_verdict};

@@ -4,11 +4,11 @@ ghost use Rattle.std.specs.Io.KnownBytes.{Appends, Keeps};
 ghost use Rattle.nbd_capture.specs.Writing.{AppendsPrefix};
 ghost use Rattle.nbd_tool.specs.Verdicts.{IsYes, fault_name, line, order_fault_name, words};
 ghost use Rattle.nbd_tool.specs.internal.VerdictParts.{parts_words};
-ghost use Rattle.nbd_lines.specs.declared.fault.RunFault.TheVariants.{Memory, Write};
+ghost use Rattle.nbd_files.specs.declared.fault.RunFault.TheVariants.{Memory, Write};
 
 use nbd_capture::write_whole;
+use nbd_files::RunFault;
 use nbd_judge::{OrderFault, Verdict};
-use nbd_lines::RunFault;
 use nbd_session::WireFault;
 use std::alloc::{AllocError, Global};
 use std::fmt;
@@ -23,7 +23,7 @@ pub fn is_yes(verdict: &Verdict) -> bool
 
 /// Writes a verdict's line, and answers whether the verdict is yes. After `Write` a prefix of the line stands written, after
 /// `Memory` nothing of it.
-pub(crate) fn write_verdict<W: Write>(
+pub fn write_verdict<W: Write>(
     alloc: Global,
     verdict: Verdict,
     out: &mut W,

@@ -6,7 +6,7 @@ ghost use Rattle.nbd_wire.specs.declared.profile.Profile.TheVariants.{Base, Wide
 
 use crate::words::{USUAL_PROFILE, USUAL_START};
 use clap::ArgMatches;
-use nbd_lines::{StartWord, start_of};
+use nbd_files::{StartWord, start_of};
 use nbd_order::{Scope, Wanted, usual_limits};
 use nbd_search::Limits;
 use nbd_wire::Profile;

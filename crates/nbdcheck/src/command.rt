@@ -1,7 +1,7 @@
 //! The commands.
 
 ghost use Rattle.std.specs.Prelude.{◌≡◌};
-ghost use Rattle.nbd_lines.specs.CommandLine.{exit_status};
+ghost use Rattle.nbd_files.specs.CommandLine.{exit_status};
 ghost use Rattle.nbd_explain.specs.Answering as answering;
 ghost use Rattle.nbd_explain.specs.Ordering as ordering;
 
@@ -12,7 +12,7 @@ use crate::words::command;
 use clap::error::ErrorKind;
 use clap::{ArgMatches, Error};
 use nbd_explain::{Answer, Ordered, explain_status, order_status};
-use nbd_lines::{Files, RunFault, complain, exit_status, tell};
+use nbd_files::{Files, RunFault, complain, exit_status, tell};
 use nbd_tool::check_files;
 use std::{env, io};
 

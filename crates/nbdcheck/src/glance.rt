@@ -3,7 +3,7 @@
 ghost use Rattle.std.specs.Prelude.{◌≡◌, ◌-◌, IfSome, length};
 
 use nbd_capture::CaptureReader;
-use nbd_lines::READ_LIMIT;
+use nbd_files::READ_LIMIT;
 use nbd_wire::Side;
 use std::alloc::Global;
 use std::fs;

@@ -3,7 +3,7 @@
 use crate::asked::Asked;
 use crate::glance::{is_answer, is_directory, is_empty, is_exchanged, line_of};
 use crate::mistakes::{Mistake, capture_mistake, order_mistake, script_mistake};
-use nbd_lines::{Files, RunFault, StartWord, tell};
+use nbd_files::{Files, RunFault, StartWord, tell};
 
 /// Says that nothing was recorded, or, of a session that was refused, that its sides are exchanged, where that is so.
 pub fn tell_of_capture(rt: &HostRuntime, path: &str, is_refused: bool) {

@@ -2,12 +2,12 @@
 #![tactic(auto)]
 
 ghost use Rattle.std.specs.Prelude.{◌≡◌};
-ghost use Rattle.nbd_lines.specs.CommandLine.{exit_status};
+ghost use Rattle.nbd_files.specs.CommandLine.{exit_status};
 
 #[cfg(test)]
 mod tests;
 
-use nbd_lines::{Files, RunFault, StartWord, complain, start_of};
+use nbd_files::{Files, RunFault, StartWord, complain, start_of};
 use nbd_tool::check_files;
 use nbd_wire::Profile;
 use std::process::ExitCode;

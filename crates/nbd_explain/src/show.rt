@@ -1,0 +1,97 @@
+//! The command `show`, over any reader and writer.
+ghost use Rattle.std.specs.Prelude.{◌≡◌, IfErr, IfOk, OnOk, None, true};
+ghost use Rattle.std.specs.Io.KnownBytes.{Appends};
+ghost use Rattle.nbd_wire.specs.declared.profile.Profile.TheVariants.{Base};
+ghost use Rattle.nbd_session.specs.Sessions.{fault_of};
+ghost use Rattle.nbd_tool.specs.Runs.{IsCapture};
+ghost use Rattle.nbd_tool.specs.Ends.{LeavesLast, is_accepted, last_line};
+ghost use Rattle.nbd_files.specs.Starts.{IsWithinLimit};
+ghost use Rattle.nbd_explain.specs.Shown.{IsShowCause, LeavesShown, WritesAll};
+
+use nbd_capture::write_whole;
+use nbd_files::RunFault;
+use nbd_judge::Verdict;
+use nbd_lines::show;
+use nbd_session::{SessionFault, Transcript};
+use nbd_tool::{Unseen, session_over, write_verdict};
+use nbd_wire::Profile;
+use std::alloc::Global;
+use std::io::{BufRead, Write};
+
+/// Reads a capture text to its end, chunk by chunk, and writes a line for each message that its session of the profile
+/// `Base` accepts, in the order of their completion, and then `ok`, or where and why the session was refused. Answers true where it
+/// was accepted.
+///
+/// Nothing is written unless the capture was read whole and is well formed. After `Write` a prefix of the
+/// lines stands written, after `Memory` a prefix of the message lines, possibly nothing.
+pub fn run_show<C: BufRead + Drop, W: Write>(
+    alloc: Global,
+    capture: C,
+    out: &mut W,
+) -> Result<bool, RunFault>
+    ensures written { IfOk result
+        (λ yes. WritesAll Base (C.remaining capture) yes (W.contents out.old) (W.contents out.new)) }
+    ensures well_formed { OnOk result (IsCapture (C.remaining capture)) }
+    ensures limited { OnOk result (IsWithinLimit (C.remaining capture)) }
+    ensures cause { IfErr result (IsShowCause (C.remaining capture)) }
+    ensures left { IfErr result (LeavesShown Base (C.remaining capture) (W.contents out.old) (W.contents out.new)) }
+{
+    run_show_of(alloc, Profile::Base, capture, out)
+}
+
+/// Reads a capture text to its end, chunk by chunk, and writes a line for each message that its session of this profile
+/// accepts, in the order of their completion, and then `ok`, or where and why the session was refused. Answers true
+/// where it was accepted.
+///
+/// An `Err` is a fault of the text, of its reader or of the writer, or out of memory. Nothing is written unless the
+/// capture was read whole and is well formed. After `Write` a prefix of the lines stands written, after `Memory` a
+/// prefix of the message lines, possibly nothing.
+pub fn run_show_of<C: BufRead + Drop, W: Write>(
+    alloc: Global,
+    profile: Profile,
+    capture: C,
+    out: &mut W,
+) -> Result<bool, RunFault>
+    ensures written { IfOk result
+        (λ yes. WritesAll profile (C.remaining capture) yes (W.contents out.old) (W.contents out.new)) }
+    ensures well_formed { OnOk result (IsCapture (C.remaining capture)) }
+    ensures limited { OnOk result (IsWithinLimit (C.remaining capture)) }
+    ensures cause { IfErr result (IsShowCause (C.remaining capture)) }
+    ensures left { IfErr result (LeavesShown profile (C.remaining capture) (W.contents out.old) (W.contents out.new)) }
+{
+    let session = session_over(alloc, profile, capture, &mut Unseen)?;
+    let finished = show(alloc, session.messages(), out).and(Ok(session.finish()))?;
+    write_end(alloc, finished, out)
+}
+
+/// Writes how the session ended: `ok`, or where and why it was refused. Answers true where it was
+/// accepted.
+///
+/// After `Write` a prefix of the line stands written, after `Memory` nothing of it.
+pub fn write_end<W: Write>(
+    alloc: Global,
+    finished: Result<Transcript, SessionFault>,
+    out: &mut W,
+) -> Result<bool, RunFault>
+    ensures answer { IfOk result (λ yes. yes ≡ is_accepted (fault_of finished)) }
+    ensures written { OnOk result (Appends (W.contents out.old) (W.contents out.new) (last_line (fault_of finished))) }
+    ensures left { IfErr result (LeavesLast (fault_of finished) (W.contents out.old) (W.contents out.new)) }
+{
+    match finished {
+        Ok(_) => write_accepted(out),
+        Err(SessionFault::Wire { at, fault }) => {
+            write_verdict(alloc, Verdict::Wire { at, fault }, out)
+        }
+        Err(SessionFault::Memory) => Err(RunFault::Memory),
+    }
+}
+
+/// Writes that the session was accepted.
+fn write_accepted<W: Write>(out: &mut W) -> Result<bool, RunFault>
+    ensures answer { IfOk result (λ yes. yes ≡ true) }
+    ensures written { OnOk result (Appends (W.contents out.old) (W.contents out.new) (last_line None)) }
+    ensures left { IfErr result (LeavesLast None (W.contents out.old) (W.contents out.new)) }
+{
+    write_whole(out, b"ok\n")?;
+    Ok(true)
+}

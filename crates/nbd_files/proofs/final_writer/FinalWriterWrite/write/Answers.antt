@@ -1,0 +1,6 @@
+use borrow.Author.Tests.{tests}
+use Rattle.std.proofs.Common.{rules}
+use Rattle.nbd_files.proofs.final_writer.FinalWriterWrite.write.Goals as goal
+
+pub returns-in-Ok-clause-bytes : goal.returns-in-Ok-clause-bytes
+returns-in-Ok-clause-bytes c = search (tests, rules)

@@ -1,0 +1,23 @@
+-- What the words of a command line name, and the exit status of an answer.
+use Rattle.std.specs.Prelude.{◌≡◌, ◌++◌, ℕ, List, Bool, true, false, Option, Some, None, Result, Ok, Err, codes}
+use Rattle.nbd_files.specs.declared.fault.RunFault.{RunFault}
+use Rattle.nbd_files.specs.RunFaults.{status}
+use Rattle.nbd_files.specs.declared.command_line.StartWord.{StartWord}
+use Rattle.nbd_files.specs.declared.command_line.StartWord.TheVariants.{Unknown, Zero, Image}
+
+-- the word behind `--start` names this start: bytes that are not known, zeroes, or those of the file behind `image:`
+abbrev pub Names : List ℕ → StartWord → Type 0
+Names word Unknown = word ≡ codes "unknown"
+Names word Zero = word ≡ codes "zero"
+Names word (Image path) = word ≡ codes "image:" ++ path.now
+
+-- what the word names, or nothing where it names no start
+abbrev pub IsNamed : List ℕ → Option StartWord → Type 0
+IsNamed word (Some start) = Names word start
+IsNamed word None = (start : StartWord) → Names word start → ⊥
+
+-- the exit status: 0 of a yes, 1 of a no, and that of a fault
+abbrev pub exit_status : Result Bool RunFault → ℕ
+exit_status (Ok true) = 0
+exit_status (Ok false) = 1
+exit_status (Err fault) = status fault

@@ -1,0 +1,46 @@
+-- Which files were opened, and in which order, where an opener and its inputs tell it.
+use Rattle.std.specs.Prelude.{◌≡◌, ◌++◌, ◌∷◌, [], ℕ, List, Option, Some, None, ⊤, IfSome}
+use Rattle.nbd_files.specs.declared.command_line.StartWord.{StartWord}
+use Rattle.nbd_files.specs.declared.command_line.StartWord.TheVariants.{Unknown, Zero, Image}
+use Rattle.nbd_files.specs.declared.start.StartFrom.{StartFrom}
+use Rattle.nbd_files.specs.declared.start.StartFrom.TheVariants as starts
+use Rattle.nbd_files.specs.declared.fault.RunFault.{RunFault}
+use Rattle.nbd_files.specs.declared.fault.RunFault.TheVariants.{CaptureRead, OrderRead, ImageRead}
+
+-- a path, as its bytes
+abbrev pub Path : Type 0
+Path = List ℕ
+
+-- known paths are followed by these
+abbrev pub AsksFor : Option (List Path) → Option (List Path) → List Path → Type 0
+AsksFor None new paths = ⊤
+AsksFor (Some old) None paths = ⊥
+AsksFor (Some old) (Some new) paths = new ≡ old ++ paths
+
+-- the path of the image, where the start is one
+abbrev pub image_path : StartWord → List Path
+image_path (Image path) = path.now ∷ []
+image_path start = []
+
+-- a fault names the kind of the file that was asked for last
+abbrev pub IsOpeningCause : (old new : Option (List Path)) → Path → Path → StartWord → RunFault → Type 0
+IsOpeningCause old new capture order start CaptureRead = AsksFor old new (capture ∷ [])
+IsOpeningCause old new capture order start OrderRead = AsksFor old new (capture ∷ order ∷ [])
+IsOpeningCause old new capture order (Image path) ImageRead = AsksFor old new (capture ∷ order ∷ path.now ∷ [])
+IsOpeningCause old new capture order start _ = ⊥
+
+-- an input is that of the file with this path, where that is told
+abbrev pub IsAt : {I : Type 0} → (I → Option Path) → I → Path → Type 0
+IsAt path_of input path = IfSome (path_of input) (λ told. told ≡ path)
+
+-- the start is what the word names, an image the file with its path
+abbrev pub StartsAt : {I : Type 0} → (I → Option Path) → StartWord → StartFrom I → Type 0
+StartsAt path_of Unknown starts.Unknown = ⊤
+StartsAt path_of Zero starts.Zeroes = ⊤
+StartsAt path_of (Image path) (starts.Image input) = IsAt path_of input path.now
+StartsAt path_of word start = ⊥
+
+-- the start is an image
+abbrev pub HasPath : StartWord → Type 0
+HasPath (Image path) = ⊤
+HasPath start = ⊥

@@ -1,6 +1,0 @@
-use borrow.Author.Tests.{tests}
-use Rattle.std.proofs.Common.{rules}
-use Rattle.nbd_lines.proofs.command_line.start_of.Goals as goal
-
-pub returns-in_default : goal.returns-in_default
-returns-in_default c = search (tests, rules)

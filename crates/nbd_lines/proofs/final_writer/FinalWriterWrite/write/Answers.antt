@@ -1,6 +1,0 @@
-use borrow.Author.Tests.{tests}
-use Rattle.std.proofs.Common.{rules}
-use Rattle.nbd_lines.proofs.final_writer.FinalWriterWrite.write.Goals as goal
-
-pub returns-in-Ok-clause-bytes : goal.returns-in-Ok-clause-bytes
-returns-in-Ok-clause-bytes c = search (tests, rules)
