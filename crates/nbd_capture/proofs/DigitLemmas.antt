@@ -1,14 +1,6 @@
 -- Digits and the bytes that they spell, next to what `hex` says of its calls.
-use Rattle.std.proofs.Common.{◌≡◌, ℕ, zero, suc, ◌+◌, ◌*◌, ◌%◌, ◌<◌, ◌≤◌, ◌==◌, Bool, true, ◌&&◌, nat_lt, ◌⊎◌, inl, inr, List, [], ◌∷◌, length, slice_index, Option, Some, None, Result, Ok, Err, refl, sym, ap, ◌∙◌, arith, subst}
-use Rattle.std.proofs.lemmas.Bool.{and_parts, cases_lt}
-use Rattle.std.proofs.lemmas.Bool.Decides.{nat_tests}
-use Rattle.std.specs.Prelude.{if◌then◌else◌}
-use Rattle.hex.specs.Hex.{decode_of, decode_pairs, digit_or_error, hex_digit_value, lower_digits, pair_value, upper_digits, value_at, ◌>>=◌}
-use Rattle.hex.specs.declared.error.FromHexError.{FromHexError}
-use Rattle.hex.proofs.Pairs.{cons_byte, decode_pairs-ok_pair}
-use Rattle.hex.proofs.HexLemmas.{IsDigits-lower_digits, IsDigits-upper_digits, decode_of-even, decode_of-ok}
-use Rattle.nbd_capture.specs.Capture.{IsDigit, AreDigits}
-use Rattle.nbd_capture.specs.Capture.AreDigits.{none, byte}
+use Rattle.nbd_capture.proofs.Common.{◌≡◌, ℕ, zero, suc, ◌+◌, ◌*◌, ◌%◌, ◌<◌, ◌≤◌, ◌==◌, Bool, true, ◌&&◌, nat_lt, ◌⊎◌, inl, inr, List, [], ◌∷◌, length, slice_index, Some, None, Result, Ok, Err, refl, sym, ap, ◌∙◌, arith, subst, and_parts, cases_lt, nat_tests, if◌then◌else◌, decode_of, decode_pairs, digit_or_error, hex_digit_value, lower_digits, pair_value, upper_digits, value_at, ◌>>=◌, FromHexError, cons_byte, decode_pairs-ok_pair, IsDigits-lower_digits, IsDigits-upper_digits, decode_of-even, decode_of-ok, IsDigit, AreDigits, none, byte}
+use Rattle.std.proofs.Common.{Option}
 
 -- what stands at a place of both tables
 abbrev right_at : ℕ → Bool

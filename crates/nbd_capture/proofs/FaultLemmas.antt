@@ -1,16 +1,6 @@
 -- The faults of one line, as faults of the whole text.
-use Rattle.std.proofs.Common.{◌≡◌, ℕ, ◌+◌, List, ◌∷◌, ◌++◌, sym, subst, refl, Result, Ok, Err, IfErr, IfOk}
-use Rattle.std.specs.Prelude.{IsErr, MatchResult}
-use Rattle.nbd_wire.specs.declared.entry.Entry.{Entry}
-use Rattle.nbd_capture.specs.declared.capture.CaptureFault.{CaptureFault}
-use Rattle.nbd_capture.specs.declared.capture.CaptureFault.TheVariants.{Line, Memory, Read}
-use Rattle.nbd_capture.specs.declared.order.OrderTextFault.{OrderTextFault}
+use Rattle.nbd_capture.proofs.Common.{◌≡◌, ℕ, ◌+◌, List, ◌∷◌, ◌++◌, sym, subst, refl, Result, Ok, Err, IfErr, IfOk, IsErr, MatchResult, Entry, CaptureFault, Line, Memory, Read, OrderTextFault, line_feed, IsUnbroken, Chunk, IsCaptureLine, IsCaptureText, IsFirstBadCaptureLine, IsOrderLine, IsOrderText, IsCaptureFault, IsOrderTextFault, IsChunkFault}
 use Rattle.nbd_capture.specs.declared.order.OrderTextFault.TheVariants as order_faults
-use Rattle.nbd_capture.specs.Lines.{line_feed, IsUnbroken}
-use Rattle.nbd_capture.specs.Capture.{Chunk, IsCaptureLine, IsCaptureText, IsFirstBadCaptureLine}
-use Rattle.nbd_capture.specs.Order.{IsOrderLine, IsOrderText}
-use Rattle.nbd_capture.specs.Faults.{IsCaptureFault, IsOrderTextFault}
-use Rattle.nbd_capture.specs.internal.Steps.{IsChunkFault}
 use Rattle.nbd_capture.proofs.OrderLineLemmas.{one_entry}
 use Rattle.nbd_capture.proofs.ProgressLemmas.{Progress, stopped}
 use Rattle.nbd_capture.proofs.ReadingLemmas.{no_reading, one_reading}

@@ -1,12 +1,5 @@
 -- The forms of a capture line, taken apart.
-use Rattle.std.proofs.Common.{◌≡◌, ℕ, ◌⊎◌, inl, inr, List, [], ◌∷◌, Ok, Err, refl, sym, ap, ◌∙◌, arith, subst, length, ◌≤◌, true, nat_eq, slice_index, IsTrue, eq-eqb}
-use Rattle.std.proofs.lemmas.Bool.{eqb-true}
-use Rattle.nbd_wire.specs.declared.message.Side.{Side}
-use Rattle.nbd_wire.specs.declared.message.Side.TheVariants.{Client, Server}
-use Rattle.nbd_capture.specs.Capture.{AreDigits, Chunk, IsCaptureLine, hash, letter, space}
-use Rattle.nbd_capture.specs.Capture.IsCaptureLine.{chunk, blank, comment}
-use Rattle.hex.specs.Hex.{decode_of}
-use Rattle.hex.specs.declared.error.FromHexError.{FromHexError}
+use Rattle.nbd_capture.proofs.Common.{◌≡◌, ℕ, ◌⊎◌, inl, inr, List, [], ◌∷◌, Ok, Err, refl, sym, ap, ◌∙◌, arith, subst, length, ◌≤◌, true, nat_eq, slice_index, IsTrue, eq-eqb, eqb-true, Side, Client, Server, AreDigits, Chunk, IsCaptureLine, hash, letter, space, chunk, blank, comment, decode_of, FromHexError}
 use Rattle.nbd_capture.proofs.DigitLemmas.{decodes}
 use Rattle.nbd_capture.proofs.ReadingLemmas.{IsFunctional}
 

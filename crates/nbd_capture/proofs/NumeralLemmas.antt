@@ -1,11 +1,5 @@
 -- The numbers of order lines, digit by digit.
-use Rattle.std.proofs.Common.{◌≡◌, ℕ, ◌+◌, ◌-◌, ◌*◌, ◌^◌, ◌<◌, ◌≤◌, List, [], ◌∷◌, inl, inr, length, get_or, take, sym, ap, ◌∙◌, arith}
-use Rattle.std.specs.Char.{IsNotAsciiDigit, digit_value}
-use Rattle.std.specs.Str.Parse.{AllDigits, digits_value}
-use Rattle.std.proofs.lemmas.Int.Digits.{digits_more, digits_value_more}
-use Rattle.std.proofs.lemmas.Str.Parse.{digit_at, digits_value-take-le}
-use Rattle.std.proofs.lemmas.Str.{digit_value_digit}
-use Rattle.nbd_capture.specs.Order.{IsNumber}
+use Rattle.nbd_capture.proofs.Common.{◌≡◌, ℕ, ◌+◌, ◌-◌, ◌*◌, ◌^◌, ◌<◌, ◌≤◌, List, [], ◌∷◌, inl, inr, length, get_or, take, sym, ap, ◌∙◌, arith, IsNotAsciiDigit, digit_value, AllDigits, digits_value, digits_more, digits_value_more, digit_at, digits_value-take-le, digit_value_digit, IsNumber}
 
 -- the digits up to one, by the number of those before it
 pub with_digit : (digits : List ℕ) (i number : ℕ) → i < length digits → number ≡ digits_value 10 (take i digits) → (48 ≤ get_or digits i 0) × (get_or digits i 0 ≤ 57)

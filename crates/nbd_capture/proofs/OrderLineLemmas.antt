@@ -1,15 +1,5 @@
 -- The two forms of an order line.
-use Rattle.std.proofs.Common.{◌≡◌, ℕ, List, [], ◌∷◌, ◌++◌, ◌⊎◌, inl, inr, refl, sym, ap, ◌∙◌, subst, arith, Some}
-use Rattle.std.proofs.lemmas.Bool.{cases_eq}
-use Rattle.std.specs.Str.Parse.{AllDigits}
-use Rattle.std.proofs.lemmas.Str.Parse.{digit_from_value}
-use Rattle.nbd_wire.specs.declared.entry.Entry.{Entry}
-use Rattle.nbd_wire.specs.declared.entry.Part.{Part}
-use Rattle.nbd_wire.specs.protocol.Entries.{whole}
-use Rattle.nbd_capture.specs.Capture.{space}
-use Rattle.nbd_capture.specs.Order.{IsNumber, IsOrderLine, IsPart}
-use Rattle.nbd_capture.specs.Order.IsOrderLine.{atomically, of_part}
-use Rattle.nbd_capture.specs.internal.Words.{IsWord}
+use Rattle.nbd_capture.proofs.Common.{◌≡◌, ℕ, List, [], ◌∷◌, ◌++◌, ◌⊎◌, inl, inr, refl, sym, ap, ◌∙◌, subst, arith, Some, cases_eq, AllDigits, digit_from_value, Entry, Part, whole, space, IsNumber, IsOrderLine, IsPart, atomically, of_part, IsWord}
 
 -- digits have no space
 pub digits_word : (ds : List ℕ) → AllDigits 10 ds → IsWord ds

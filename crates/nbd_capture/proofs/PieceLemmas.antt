@@ -1,22 +1,6 @@
 -- What one look at a reader's bytes gives of a line.
-use Rattle.std.proofs.Common.{◌≡◌, ℕ, Bool, true, true≢false, Ok, Err, refl, IsTrue, ◌+◌, ◌-◌, ◌<◌, ◌≤◌, List, [], ◌∷◌, ◌++◌, length, take, sym, ap, subst, ◌∙◌, arith, ◌==◌, false, take-take, length-take-le, Some, None, IfSome}
-use Rattle.std.specs.Prelude.{OnSome, Option}
-use Rattle.std.specs.Io.{StartsWith}
-use Rattle.std.specs.Io.KnownBytes.{Consumes, IsAtEnd, Keeps}
-use Rattle.std.specs.Io.BufRead.{DropsConsumable}
-use Rattle.std.proofs.BufReadLemmas.{Consumes_shown}
-use Rattle.std.proofs.lemmas.List.{length-append}
-use Rattle.std.proofs.Math.Seq.{take-append-add}
-use Rattle.nbd_capture.specs.Lines.{IsUnbroken, line_feed}
-use Rattle.nbd_capture.specs.declared.capture.CaptureFault.{CaptureFault}
-use Rattle.nbd_capture.specs.declared.capture.CaptureFault.TheVariants.{Line, Memory, Read}
-use Rattle.nbd_capture.specs.declared.source.Ending.TheVariants.{LineFeed, Text}
-use Rattle.nbd_capture.specs.declared.source.Piece.TheVariants.{Part, Last}
-use Rattle.nbd_capture.specs.Capture.{Chunk, IsCaptureLine}
-use Rattle.nbd_capture.specs.Reading.{IsReaderFault, Reading, Reads, Refuses, Takes}
-use Rattle.nbd_capture.specs.internal.Steps.{IsChunkFault}
-use Rattle.nbd_capture.specs.internal.Kept.{IsAdded, IsKept, Kept}
-use Rattle.nbd_capture.specs.internal.Pieces.{IsLine, IsPiece}
+use Rattle.nbd_capture.proofs.Common.{◌≡◌, ℕ, Bool, true, true≢false, Ok, Err, refl, IsTrue, ◌+◌, ◌-◌, ◌<◌, ◌≤◌, List, [], ◌∷◌, ◌++◌, length, take, sym, ap, subst, ◌∙◌, arith, ◌==◌, false, take-take, length-take-le, Some, None, IfSome, OnSome, Option, StartsWith, Consumes, IsAtEnd, Keeps, DropsConsumable, Consumes_shown, length-append, take-append-add, IsUnbroken, line_feed, CaptureFault, Line, Memory, Read, LineFeed, Text, Last, Chunk, IsCaptureLine, IsReaderFault, Reading, Reads, Refuses, Takes, IsChunkFault, IsAdded, IsKept, Kept, IsLine, IsPiece}
+use Rattle.nbd_capture.specs.declared.source.Piece.TheVariants.{Part}
 use Rattle.nbd_capture.proofs.ReadingStepLemmas.{none_ended, one_ended, reads-append, reads_line, refuses_chunk, refuses_end, stops, takes-append, unbroken-append}
 
 pub at_end : (a b : Option (List ℕ)) (shown : List ℕ) → length shown ≡ 0 → IfSome a (λ xs. length shown ≡ 0 → xs ≡ []) → Keeps a b → OnSome a (IsAtEnd b)

@@ -1,10 +1,5 @@
 -- What a reader of lines has seen of a text: what remains to be said of the whole text once the rest of it is known.
-use Rattle.std.proofs.Common.{◌≡◌, ℕ, suc, ◌+◌, ◌≤◌, List, [], ◌∷◌, ◌++◌, length, sym, ap, arith, append_assoc, append-nil, subst, ◌==◌, true, false}
-use Rattle.std.proofs.lemmas.Bool.{eqb-true}
-use Rattle.std.proofs.lemmas.List.{length-append}
-use Rattle.nbd_capture.specs.Lines.{line_feed, IsUnbroken, IsText, IsFirstBadLine}
-use Rattle.nbd_capture.specs.Lines.IsText.{empty, line}
-use Rattle.nbd_capture.specs.Lines.IsFirstBadLine.{formless, unended, later}
+use Rattle.nbd_capture.proofs.Common.{◌≡◌, ℕ, suc, ◌+◌, ◌≤◌, List, [], ◌∷◌, ◌++◌, length, sym, ap, arith, append_assoc, append-nil, subst, ◌==◌, true, false, eqb-true, length-append, line_feed, IsUnbroken, IsText, IsFirstBadLine, empty, line, formless, unended, later}
 
 -- so many lines of the text were read and gave these values, and this is the rest
 pub record Progress {V : Type 0} (Form : List ℕ → List V → Type 0) (text rest : List ℕ) (values : List V) (number : ℕ) : Type 0 where

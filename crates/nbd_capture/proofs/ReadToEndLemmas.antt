@@ -1,14 +1,5 @@
 -- What the steps of a reader of captures say of the whole text.
-use Rattle.std.proofs.Common.{◌≡◌, ℕ, suc, ◌+◌, ◌<◌, ◌≤◌, length, List, [], ◌∷◌, ◌++◌, Some, None, IfSome, sym, ap, ◌∙◌, subst, arith, append_assoc, append-nil}
-use Rattle.std.specs.Prelude.{OnSome, Option}
-use Rattle.std.specs.Io.KnownBytes.{Consumes, IsAtEnd}
-use Rattle.nbd_capture.specs.Lines.{IsUnbroken, line_feed}
-use Rattle.nbd_capture.specs.Lines.IsText.{empty, line}
-use Rattle.nbd_capture.specs.Lines.IsFirstBadLine.{formless, unended, later}
-use Rattle.nbd_capture.specs.Capture.{Chunk, IsCaptureLine, IsCaptureText, IsFirstBadCaptureLine}
-use Rattle.nbd_capture.specs.declared.capture.CaptureFault.{CaptureFault}
-use Rattle.nbd_capture.specs.declared.capture.CaptureFault.TheVariants.{Line, Memory, Read}
-use Rattle.nbd_capture.specs.Reading.{IsReaderFault, NamesFirstBadLine, Reading, Reads, ReadsToEnd, Refuses, lines_ended}
+use Rattle.nbd_capture.proofs.Common.{◌≡◌, ℕ, suc, ◌+◌, ◌<◌, ◌≤◌, length, List, [], ◌∷◌, ◌++◌, Some, None, IfSome, sym, ap, ◌∙◌, subst, arith, append_assoc, append-nil, OnSome, Option, Consumes, IsAtEnd, IsUnbroken, line_feed, empty, line, formless, unended, later, Chunk, IsCaptureLine, IsCaptureText, IsFirstBadCaptureLine, CaptureFault, Line, Memory, Read, IsReaderFault, NamesFirstBadLine, Reading, Reads, ReadsToEnd, Refuses, lines_ended}
 use Rattle.nbd_capture.proofs.FormLemmas.{one_saying}
 use Rattle.nbd_capture.proofs.ReadingLemmas.{rest_reading}
 use Rattle.nbd_capture.proofs.ReadingStepLemmas.{ended-append, one_ended, reads-append, still_known, text-append, takes-append}

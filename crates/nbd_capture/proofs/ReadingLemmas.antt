@@ -1,8 +1,5 @@
 -- Texts of lines: what a text's first line is, that a text has one reading at most, and none where a line is bad.
-use Rattle.std.proofs.Common.{◌≡◌, ℕ, suc, List, [], ◌∷◌, ◌++◌, ◌⊎◌, inl, inr, refl, sym, ap, ◌∙◌, subst, append_assoc}
-use Rattle.nbd_capture.specs.Lines.{line_feed, IsUnbroken, IsText, IsFirstBadLine}
-use Rattle.nbd_capture.specs.Lines.IsText.{empty, line}
-use Rattle.nbd_capture.specs.Lines.IsFirstBadLine.{formless, unended, later}
+use Rattle.nbd_capture.proofs.Common.{◌≡◌, ℕ, suc, List, [], ◌∷◌, ◌++◌, ◌⊎◌, inl, inr, refl, sym, ap, ◌∙◌, subst, append_assoc, line_feed, IsUnbroken, IsText, IsFirstBadLine, empty, line, formless, unended, later}
 
 -- the first line feed ends the first line
 pub first_lines : (a b x y : List ℕ) → IsUnbroken a → IsUnbroken b → a ++ line_feed ∷ x ≡ b ++ line_feed ∷ y → (a ≡ b) × (x ≡ y)

@@ -1,19 +1,5 @@
 -- Steps of a reader of captures: what pieces, lines and chunks that were read one after another are together.
-use Rattle.std.proofs.Common.{◌≡◌, ℕ, ◌+◌, List, [], ◌∷◌, ◌++◌, refl, sym, ap, subst, arith, append_assoc, append-nil, Some, None}
-use Rattle.std.specs.Prelude.{OnSome, Option}
-use Rattle.std.specs.Io.KnownBytes.{Consumes, IsAtEnd, Keeps}
-use Rattle.std.proofs.KnownBytes.{Consumes-nil, Consumes-kept, Consumes-trans, Keeps-refl}
-use Rattle.std.proofs.lemmas.Bool.{ne_eqb}
-use Rattle.std.proofs.lemmas.List.{length-append}
-use Rattle.std.proofs.lemmas.List.Sums.{sum_by-append}
-use Rattle.nbd_capture.specs.declared.capture.CaptureFault.{CaptureFault}
-use Rattle.nbd_capture.specs.declared.capture.CaptureFault.TheVariants.{Line, Memory, Read}
-use Rattle.nbd_capture.specs.Lines.{IsUnbroken, IsText, line_feed}
-use Rattle.nbd_capture.specs.Lines.IsText.{empty, line}
-use Rattle.nbd_capture.specs.Lines.IsFirstBadLine.{formless, unended}
-use Rattle.nbd_capture.specs.Capture.{Chunk, IsCaptureLine, IsCaptureText}
-use Rattle.nbd_capture.specs.Reading.{IsReaderFault, Reading, Reads, Refuses, StopsWithin, Takes, lines_ended}
-use Rattle.nbd_capture.specs.internal.Steps.{IsChunkFault}
+use Rattle.nbd_capture.proofs.Common.{◌≡◌, ℕ, ◌+◌, List, [], ◌∷◌, ◌++◌, refl, sym, ap, subst, arith, append_assoc, append-nil, Some, None, OnSome, Option, Consumes, IsAtEnd, Keeps, Consumes-nil, Consumes-kept, Consumes-trans, Keeps-refl, ne_eqb, length-append, sum_by-append, CaptureFault, Line, Memory, Read, IsUnbroken, IsText, line_feed, empty, line, formless, unended, Chunk, IsCaptureLine, IsCaptureText, IsReaderFault, Reading, Reads, Refuses, StopsWithin, Takes, lines_ended, IsChunkFault}
 
 -- ---- line feeds
 

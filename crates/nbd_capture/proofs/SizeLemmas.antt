@@ -1,12 +1,5 @@
 -- A chunk has fewer bytes than the lines that were read for it.
-use Rattle.std.proofs.Common.{◌≡◌, ℕ, ◌+◌, ◌<◌, ◌≤◌, List, [], ◌∷◌, ◌++◌, length, arith}
-use Rattle.std.proofs.lemmas.List.{length-append}
-use Rattle.nbd_capture.specs.Lines.{line_feed}
-use Rattle.nbd_capture.specs.Lines.IsText.{empty, line}
-use Rattle.nbd_capture.specs.Capture.{AreDigits, Chunk, IsCaptureLine, IsCaptureText}
-use Rattle.nbd_capture.specs.Capture.AreDigits.{none, byte}
-use Rattle.nbd_capture.specs.Capture.IsCaptureLine.{chunk, blank, comment}
-use Rattle.nbd_capture.specs.Reading.{Reading, Reads}
+use Rattle.nbd_capture.proofs.Common.{◌≡◌, ℕ, ◌+◌, ◌<◌, ◌≤◌, List, [], ◌∷◌, ◌++◌, length, arith, length-append, line_feed, empty, line, AreDigits, Chunk, IsCaptureLine, IsCaptureText, none, byte, chunk, blank, comment, Reading, Reads}
 
 -- the chunks' bytes, and one more for each chunk
 size : List Chunk → ℕ

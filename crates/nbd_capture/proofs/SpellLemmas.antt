@@ -1,17 +1,6 @@
 -- Digits that come in parts, and the lines that they stand in.
-use Rattle.std.proofs.Common.{◌≡◌, ℕ, ◌+◌, ◌*◌, ◌%◌, ◌≤◌, List, [], ◌∷◌, ◌++◌, length, Option, Some, None, Result, Ok, Err, refl, sym, ap, ◌∙◌, arith, subst, append_assoc, append-nil, ◌⊎◌, inl, inr, IfOk, MatchBool, MatchResult, is_ok, take, slice_get}
-use Rattle.std.proofs.Math.Seq.{take-append_seam}
-use Rattle.std.proofs.lemmas.List.{length-append, take_all}
-use Rattle.hex.proofs.HexLemmas.{decode_sized-twice}
-use Rattle.hex.specs.Hex.{decode_of, decode_sized}
-use Rattle.hex.specs.declared.error.FromHexError.{FromHexError}
-use Rattle.nbd_wire.specs.declared.message.Side.{Side}
-use Rattle.nbd_capture.specs.Capture.{AreDigits, Chunk, IsCaptureLine, hash, letter, space}
-use Rattle.nbd_capture.specs.Capture.AreDigits.{none, byte}
-use Rattle.nbd_capture.specs.Capture.IsCaptureLine.{blank, chunk, comment}
-use Rattle.nbd_capture.specs.declared.form.Form.{Form}
-use Rattle.nbd_capture.specs.declared.form.Form.TheVariants.{Empty, Letter, Digits, Comment, Bad}
-use Rattle.nbd_capture.specs.internal.Kept.{IsOf, Spell}
+use Rattle.nbd_capture.proofs.Common.{◌≡◌, ℕ, ◌+◌, ◌*◌, ◌%◌, ◌≤◌, List, [], ◌∷◌, ◌++◌, length, Some, None, Result, Ok, Err, refl, sym, ap, ◌∙◌, arith, subst, append_assoc, append-nil, ◌⊎◌, inl, inr, IfOk, MatchBool, is_ok, take, slice_get, take-append_seam, length-append, take_all, decode_sized-twice, decode_of, decode_sized, FromHexError, Side, AreDigits, Chunk, IsCaptureLine, hash, letter, space, none, byte, blank, chunk, comment, Form, Empty, Letter, Digits, Comment, Bad, IsOf, Spell}
+use Rattle.std.proofs.Common.{Option, MatchResult}
 use Rattle.nbd_capture.proofs.DigitLemmas.{decodes, even, spelled}
 use Rattle.nbd_capture.proofs.FormLemmas.{forms, same_parts, silent_sends}
 

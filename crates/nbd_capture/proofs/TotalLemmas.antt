@@ -1,18 +1,6 @@
 -- Each line has a form of its grammar, or none.
-use Rattle.std.proofs.Common.{◌≡◌, ◌≢◌, ℕ, ◌^◌, ◌<◌, ◌≤◌, List, [], ◌∷◌, length, slice_index, ◌⊎◌, inl, inr, refl, sym, subst, arith, Result, Ok, Err, Some}
-use Rattle.std.specs.Char.{digit_value}
-use Rattle.std.specs.Str.Parse.{AllDigits, IsNumeral, digits_value}
-use Rattle.std.proofs.lemmas.Bool.{cases_eq, cases_lt}
-use Rattle.hex.specs.Hex.{decode_of}
-use Rattle.nbd_wire.specs.declared.message.Side.{Side}
-use Rattle.nbd_wire.specs.declared.message.Side.TheVariants.{Client, Server}
+use Rattle.nbd_capture.proofs.Common.{◌≡◌, ◌≢◌, ℕ, ◌^◌, ◌<◌, ◌≤◌, List, [], ◌∷◌, length, slice_index, ◌⊎◌, inl, inr, refl, sym, subst, arith, Result, Ok, Err, Some, digit_value, AllDigits, IsNumeral, digits_value, cases_eq, cases_lt, decode_of, Side, Client, Server, Chunk, IsCaptureLine, hash, letter, space, chunk, blank, comment, Part, whole, BeginsPlainly, IsNumber, IsOrderLine, IsPart, atomically, of_part}
 use Rattle.nbd_capture.proofs.TotalTextLemmas.{Decided}
-use Rattle.nbd_capture.specs.Capture.{Chunk, IsCaptureLine, hash, letter, space}
-use Rattle.nbd_capture.specs.Capture.IsCaptureLine.{chunk, blank, comment}
-use Rattle.nbd_wire.specs.declared.entry.Part.{Part}
-use Rattle.nbd_wire.specs.protocol.Entries.{whole}
-use Rattle.nbd_capture.specs.Order.{BeginsPlainly, IsNumber, IsOrderLine, IsPart}
-use Rattle.nbd_capture.specs.Order.IsOrderLine.{atomically, of_part}
 use Rattle.nbd_capture.proofs.DigitLemmas.{spelled}
 use Rattle.nbd_capture.proofs.FormLemmas.{forms, undecodable}
 use Rattle.nbd_capture.proofs.OrderLineLemmas.{no_number, no_numbers, no_part, no_parted, split}

@@ -1,10 +1,5 @@
 -- Each text has a reading or a first bad line, where each line has a form or none.
-use Rattle.std.proofs.Common.{◌≡◌, ℕ, zero, suc, ◌≤◌, List, [], ◌∷◌, ◌++◌, length, ◌⊎◌, inl, inr, sym, ap, subst, arith}
-use Rattle.std.proofs.lemmas.Bool.{cases_eq}
-use Rattle.std.proofs.lemmas.List.{length-append}
-use Rattle.nbd_capture.specs.Lines.{line_feed, IsUnbroken, IsText, IsFirstBadLine}
-use Rattle.nbd_capture.specs.Lines.IsText.{empty, line}
-use Rattle.nbd_capture.specs.Lines.IsFirstBadLine.{formless, unended, later}
+use Rattle.nbd_capture.proofs.Common.{◌≡◌, ℕ, zero, suc, ◌≤◌, List, [], ◌∷◌, ◌++◌, length, ◌⊎◌, inl, inr, sym, ap, subst, arith, cases_eq, length-append, line_feed, IsUnbroken, IsText, IsFirstBadLine, empty, line, formless, unended, later}
 
 -- a line has a form, or none
 abbrev pub Decided : {V : Type 0} → (List ℕ → List V → Type 0) → List ℕ → Type 0

@@ -1,10 +1,5 @@
 -- How far a writer has come, and what it holds after one more step or a fault.
-use Rattle.std.proofs.Common.{◌≡◌, ℕ, List, [], ◌∷◌, ◌++◌, refl, sym, ap, ◌∙◌, append_assoc, subst, ◌/◌, ◌%◌, slice_index}
-use Rattle.hex.specs.Hex.{encode_lower, encode_with, lower_digits}
-use Rattle.std.specs.Prelude.{Option}
-use Rattle.std.specs.Io.KnownBytes.{Appends}
-use Rattle.std.proofs.KnownBytes.{Appends-nil, Appends-trans}
-use Rattle.nbd_capture.specs.Writing.{AppendsPrefix}
+use Rattle.nbd_capture.proofs.Common.{◌≡◌, ℕ, List, [], ◌∷◌, ◌++◌, refl, sym, ap, ◌∙◌, append_assoc, subst, ◌/◌, ◌%◌, slice_index, encode_lower, encode_with, lower_digits, Option, Appends, Appends-nil, Appends-trans, AppendsPrefix}
 
 -- all but the rest stands written, where a written prefix has these bytes
 pub record Wrote (spelling : List ℕ → List ℕ) (old new : Option (List ℕ)) (all rest : List ℕ) : Type 0 where

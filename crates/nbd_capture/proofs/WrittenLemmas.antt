@@ -1,25 +1,6 @@
 -- What is written in the forms of the two grammars is read again.
-use Rattle.std.proofs.Common.{◌≡◌, ℕ, suc, ◌+◌, ◌/◌, ◌%◌, ◌^◌, ◌<◌, ◌≤◌, List, [], ◌∷◌, ◌++◌, length, slice_index, refl, sym, ap, ◌∙◌, subst, arith, append_assoc, append-nil, Option, Some, None}
-use Rattle.std.specs.Prelude.{flat_map}
-use Rattle.std.specs.List.{AllByRecursion}
-use Rattle.std.specs.Char.{IsAsciiDigit}
-use Rattle.std.specs.Fmt.{decimal}
-use Rattle.std.specs.Str.Parse.{AllDigits}
-use Rattle.std.proofs.lemmas.Fmt.{decimal_by_steps, decimal_digit, decimal_is_IsNumeral}
-use Rattle.std.proofs.lemmas.List.{get_or_append_left, length-append}
-use Rattle.std.proofs.lemmas.Str.Parse.{digit_from_value}
-use Rattle.hex.specs.Hex.{IsBytes, encode_lower, encode_with}
-use Rattle.hex.proofs.HexLemmas.{decode_of-encode_lower}
-use Rattle.nbd_wire.specs.declared.message.Side.{Side}
-use Rattle.nbd_wire.specs.declared.message.Side.TheVariants.{Client, Server}
-use Rattle.nbd_capture.specs.Lines.{line_feed, IsUnbroken}
-use Rattle.nbd_capture.specs.Lines.IsText.{empty, line}
-use Rattle.nbd_capture.specs.Capture.{Chunk, IsCaptureText, chunk_line, letter, space}
-use Rattle.nbd_capture.specs.Capture.IsCaptureLine.{chunk}
-use Rattle.nbd_wire.specs.declared.entry.Entry.{Entry}
-use Rattle.nbd_wire.specs.declared.entry.Part.{Part}
-use Rattle.nbd_capture.specs.Order.{BeginsPlainly, EntryFits, IsNumber, IsOrderLine, IsOrderText, PartFits, entry_text, part_text}
-use Rattle.nbd_capture.specs.Order.IsOrderLine.{atomically, of_part}
+use Rattle.nbd_capture.proofs.Common.{◌≡◌, ℕ, suc, ◌+◌, ◌/◌, ◌%◌, ◌^◌, ◌<◌, ◌≤◌, List, [], ◌∷◌, ◌++◌, length, slice_index, refl, sym, ap, ◌∙◌, subst, arith, append_assoc, append-nil, Some, None, flat_map, AllByRecursion, IsAsciiDigit, decimal, AllDigits, decimal_by_steps, decimal_digit, decimal_is_IsNumeral, get_or_append_left, length-append, digit_from_value, IsBytes, encode_lower, encode_with, decode_of-encode_lower, Side, Client, Server, line_feed, IsUnbroken, empty, line, Chunk, IsCaptureText, chunk_line, letter, space, chunk, Entry, Part, BeginsPlainly, EntryFits, IsNumber, IsOrderLine, IsOrderText, PartFits, entry_text, part_text, atomically, of_part}
+use Rattle.std.proofs.Common.{Option}
 use Rattle.nbd_capture.proofs.DigitLemmas.{lower_below, spelled}
 
 -- no digit is a line feed

@@ -1,17 +1,5 @@
 -- What is known of a byte, by the kind of its range and the byte in its page, and ranges that were seen to be zeroes.
-use Rattle.std.proofs.Common.{◌≡◌, ℕ, zero, suc, List, ◌+◌, ◌-◌, ◌<◌, ◌≤◌, ◌⊎◌, inl, inr, length, slice_index, refl, sym, ◌∙◌, ap, Option, Some, Result, Ok, Err, OnErr, OnOk, arith, ⊎_elim, if◌then◌else◌, nat_le, nat_lt}
-use Rattle.std.proofs.lemmas.Bool.{and_from, and_left, and_right, cases_lt, le-leb, lt-leb, le-ltb, lt-ltb}
-use Rattle.std.proofs.lemmas.Option.{slice_get-get_or}
-use Rattle.nbd_export.specs.declared.extents.Extents.{Extents}
-use Rattle.nbd_export.specs.declared.kind.Kind.{Kind}
-use Rattle.nbd_export.specs.declared.kind.Kind.TheVariants.{Zeroes}
-use Rattle.nbd_export.specs.declared.kinds.Kinds.{Kinds}
-use Rattle.nbd_export.specs.declared.pages.Pages.{Pages}
-use Rattle.nbd_export.specs.Extents.{byte_of}
-use Rattle.nbd_export.specs.RangeKinds.{byte_by_kind, kind_of}
-use Rattle.nbd_export.specs.Pages.{stored_byte}
-use Rattle.nbd_export.specs.Ranges.{AreSameBelow, DiffersIn, bytes_from, overlay, zeroes}
-use Rattle.nbd_export.specs.internal.Seen.{HasZeroesAlone}
+use Rattle.nbd_export.proofs.Common.{◌≡◌, ℕ, zero, suc, List, ◌+◌, ◌-◌, ◌<◌, ◌≤◌, ◌⊎◌, inl, inr, length, slice_index, refl, sym, ◌∙◌, ap, Option, Some, Result, Ok, Err, OnErr, OnOk, arith, ⊎_elim, if◌then◌else◌, nat_le, nat_lt, and_from, and_left, and_right, cases_lt, le-leb, lt-leb, le-ltb, lt-ltb, slice_get-get_or, Extents, Kind, Zeroes, Kinds, Pages, byte_of, byte_by_kind, kind_of, stored_byte, AreSameBelow, DiffersIn, bytes_from, overlay, zeroes, HasZeroesAlone}
 
 -- a byte in a range of this kind
 pub byte_of-kind : (e : Extents) (x : ℕ) (kind : Kind) → kind_of e.kinds x ≡ Some kind → byte_of e x ≡ byte_by_kind (Some kind) (stored_byte e.pages x)

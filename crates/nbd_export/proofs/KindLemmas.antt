@@ -1,12 +1,6 @@
 -- The kinds at offsets, by the kinds from each start.
-use Rattle.std.proofs.Common.{◌≡◌, ℕ, zero, suc, ◌+◌, ◌-◌, ◌<◌, ◌≤◌, ◌⊎◌, inl, inr, refl, sym, ◌∙◌, ap, subst, Option, Some, None, IsSome, arith, ⊎_elim, Bool, true, false, ◌==◌, ◌||◌, is_some, if◌then◌else◌}
-use Rattle.std.proofs.lemmas.Bool.{cases_eq, cases_lt}
-use Rattle.std.proofs.lemmas.Bool.Decides.{nat_tests}
-use Rattle.std.specs.BTreeMap.{is_at}
+use Rattle.nbd_export.proofs.Common.{◌≡◌, ℕ, zero, suc, ◌+◌, ◌-◌, ◌<◌, ◌≤◌, ◌⊎◌, inl, inr, refl, sym, ◌∙◌, ap, subst, Option, Some, None, IsSome, arith, ⊎_elim, Bool, true, false, ◌==◌, ◌||◌, is_some, if◌then◌else◌, cases_eq, cases_lt, nat_tests, is_at, Kind, kind_at, kind_before, first_of_two, IsApartAt, ranges_met, IsJoin, IsOverlay}
 use Rattle.std.specs.Ordering.{nat_cmp}
-use Rattle.nbd_export.specs.declared.kind.Kind.{Kind}
-use Rattle.nbd_export.specs.Kinds.{kind_at, kind_before, first_of_two, IsApartAt, ranges_met}
-use Rattle.nbd_export.specs.internal.Overlays.{IsJoin, IsOverlay}
 
 -- the kind at an offset comes from the starts up to it
 pub kind_at-same : (f g : ℕ → Option Kind) (x : ℕ) → ((k : ℕ) → k ≤ x → g k ≡ f k) → kind_at g x ≡ kind_at f x

@@ -1,9 +1,5 @@
 -- The least offset where bytes differ, piece by piece.
-use Rattle.std.proofs.Common.{◌≡◌, ℕ, List, ◌+◌, ◌-◌, ◌<◌, ◌≤◌, refl, sym, ◌∙◌, subst, ap, Option, Some, None, arith, Bool, true, false, ◌==◌, eqb-true, slice_get, length, ⊎_elim, get_or, take, drop}
-use Rattle.std.proofs.lemmas.Bool.{cases_lt, eqb-false}
-use Rattle.std.proofs.lemmas.List.{get_or-drop, get_or-take, length-drop, length-take}
-use Rattle.std.proofs.lemmas.Option.{slice_get-get_or}
-use Rattle.nbd_export.specs.Ranges.{DiffersIn, IsLeast, bytes_from}
+use Rattle.nbd_export.proofs.Common.{◌≡◌, ℕ, List, ◌+◌, ◌-◌, ◌<◌, ◌≤◌, refl, sym, ◌∙◌, subst, ap, Option, Some, None, arith, Bool, true, false, ◌==◌, eqb-true, slice_get, length, ⊎_elim, get_or, take, drop, cases_lt, eqb-false, get_or-drop, get_or-take, length-drop, length-take, slice_get-get_or, DiffersIn, IsLeast, bytes_from}
 
 -- no difference below one more offset
 pub none_more : (f g : ℕ → Option ℕ) (offset len i : ℕ) → ((x : ℕ) → x < offset + i → DiffersIn f offset len g x → ⊥) → (DiffersIn f offset len g (offset + i) → ⊥) → (x : ℕ) → x < offset + (i + 1) → DiffersIn f offset len g x → ⊥

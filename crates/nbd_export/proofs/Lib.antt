@@ -1,3 +1,4 @@
+pub mod Common
 pub mod ExtentLemmas
 pub mod KindLemmas
 pub mod LeastLemmas

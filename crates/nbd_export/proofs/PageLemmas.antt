@@ -1,9 +1,5 @@
 -- The bytes at offsets, by pages.
-use Rattle.std.proofs.Common.{◌≡◌, ℕ, List, ◌+◌, ◌*◌, ◌/◌, ◌%◌, ◌<◌, ◌≤◌, length, slice_index, sym, ◌∙◌, ap, Some, None, arith, ⊎_elim}
-use Rattle.std.proofs.lemmas.Bool.{cases_eq}
-use Rattle.nbd_export.specs.declared.pages.TheConstants.{PAGE}
-use Rattle.nbd_export.specs.declared.pages.Pages.{Pages}
-use Rattle.nbd_export.specs.Pages.{byte_from, page_from, stored_byte}
+use Rattle.nbd_export.proofs.Common.{◌≡◌, ℕ, List, ◌+◌, ◌*◌, ◌/◌, ◌%◌, ◌<◌, ◌≤◌, length, slice_index, sym, ◌∙◌, ap, Some, None, arith, ⊎_elim, cases_eq, PAGE, Pages, byte_from, page_from, stored_byte}
 
 -- some bytes further on in a page
 pub same_page : (x i : ℕ) → x % PAGE + i < PAGE → (x + i) / PAGE ≡ x / PAGE

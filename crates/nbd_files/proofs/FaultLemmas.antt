@@ -1,10 +1,6 @@
 -- What is printed of a fault, by its parts.
-use Rattle.std.proofs.Common.{◌≡◌, ℕ, List, ◌++◌, refl, sym, subst, Option, Some, None, codes}
-use Rattle.std.specs.Fmt.{decimal}
-use Rattle.nbd_files.specs.declared.fault.RunFault.{RunFault}
-use Rattle.nbd_files.specs.declared.fault.RunFault.TheVariants.{CaptureLine, CaptureRead, OrderLine, OrderRead, ImageRead, ScriptLine, ScriptRead, Write, Memory}
-use Rattle.nbd_files.specs.RunFaults.{words}
-use Rattle.nbd_files.specs.internal.FaultWords.{line_of, name_of}
+use Rattle.nbd_files.proofs.Common.{◌≡◌, ℕ, List, ◌++◌, refl, sym, subst, Some, None, codes, decimal, RunFault, CaptureLine, CaptureRead, OrderLine, OrderRead, ImageRead, ScriptLine, ScriptRead, Write, Memory, words, line_of, name_of}
+use Rattle.std.proofs.Common.{Option}
 
 -- the words behind the first one
 abbrev words_by : RunFault → Option ℕ → List ℕ

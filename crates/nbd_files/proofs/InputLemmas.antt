@@ -1,15 +1,5 @@
 -- A reader's bytes, read to their end.
-use Rattle.std.proofs.Common.{◌≡◌, ℕ, List, [], ◌++◌, None, Some, IfSome, refl, ap, sym, subst, ◌∙◌, append-nil, length, length-append, take, ◌+◌, ◌<◌, ◌≤◌, ◌^◌, arith}
-use Rattle.std.proofs.KnownBytes.{Consumes-nil, Consumes-trans}
-use Rattle.std.specs.declared.alloc.Global.{Global}
-use Rattle.std.specs.declared.vec.Vec.{Vec}
-use Rattle.std.proofs.Math.Seq.{take-append_seam}
-use Rattle.std.specs.Io.KnownBytes.{Consumes, IsAtEnd}
-use Rattle.std.specs.Prelude.{Option}
-use Rattle.nbd_files.specs.Starts.{IsWithinLimit}
-use Rattle.nbd_files.specs.declared.input.Text.{Text}
-use Rattle.nbd_files.specs.declared.input.Text.TheVariants.{Longer, Whole}
-use Rattle.nbd_files.specs.Texts.{IsText}
+use Rattle.nbd_files.proofs.Common.{◌≡◌, ℕ, List, [], ◌++◌, None, Some, IfSome, refl, ap, sym, subst, ◌∙◌, append-nil, length, length-append, take, ◌+◌, ◌<◌, ◌≤◌, ◌^◌, arith, Consumes-nil, Consumes-trans, Global, Vec, take-append_seam, Consumes, IsAtEnd, Option, IsWithinLimit, Text, Longer, Whole, IsText}
 
 -- what was read before a last read that gave nothing, at the end, is all
 pub all_read : (old mid new : Option (List ℕ)) (text last : List ℕ)

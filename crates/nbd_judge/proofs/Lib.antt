@@ -1,3 +1,4 @@
+pub mod Common
 pub mod contents
 pub mod orders
 pub mod verdicts

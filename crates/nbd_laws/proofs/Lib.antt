@@ -1,3 +1,4 @@
+pub mod Common
 pub mod LawLemmas
 pub mod judge
 pub mod reading

@@ -1,17 +1,5 @@
 -- Numbers in decimal digits, next to what `std` says of `parse`.
-use Rattle.std.proofs.Common.{◌≡◌, ◌≢◌, ℕ, ◌^◌, ◌<◌, List, [], ◌∷◌, length, get_or, Some, Result, Ok, Err, inl, inr, sym, ap, ◌∙◌, subst, arith, MatchOption, false}
-use Rattle.std.specs.Prelude.{MatchResult, is_ok}
-use Rattle.std.specs.Borrow.{Bor}
-use Rattle.std.specs.Fmt.{decimal}
-use Rattle.std.specs.Result.{OkIff, result_ok}
-use Rattle.std.specs.Str.{IsUtf8}
-use Rattle.std.specs.Str.Parse.{AllDigits, IsNumeral, ParsesUnsigned, digits_value}
-use Rattle.std.proofs.lemmas.Fmt.{IsAscii-decimal, decimal-digits_value, decimal_digit, decimal_is_IsNumeral, first_decimal}
-use Rattle.std.proofs.lemmas.Bool.{cases_lt}
-use Rattle.std.proofs.lemmas.Str.{IsUtf8-from_ascii}
-use Rattle.std.proofs.lemmas.Str.Parse.{IsNumeralModel, digit_at, digit_from_value, numerals_by_value, tells_digits, without_leading_plus_none}
-use Rattle.nbd_capture.specs.Order.{BeginsPlainly}
-use Rattle.nbd_lines.specs.internal.Reading.{IsSpaceless}
+use Rattle.nbd_lines.proofs.Common.{◌≡◌, ◌≢◌, ℕ, ◌^◌, ◌<◌, List, [], ◌∷◌, length, get_or, Some, Result, Ok, Err, inl, inr, sym, ap, ◌∙◌, subst, arith, MatchOption, false, MatchResult, is_ok, Bor, decimal, OkIff, result_ok, IsUtf8, AllDigits, IsNumeral, ParsesUnsigned, digits_value, IsAscii-decimal, decimal-digits_value, decimal_digit, decimal_is_IsNumeral, first_decimal, cases_lt, IsUtf8-from_ascii, IsNumeralModel, digit_at, digit_from_value, numerals_by_value, tells_digits, without_leading_plus_none, BeginsPlainly, IsSpaceless}
 
 own : IsNumeralModel (AllDigits 10) (digits_value 10)
 own = numerals_by_value (AllDigits 10) tells_digits

@@ -1,29 +1,6 @@
 -- Each line of a script has a form or none.
-use Rattle.std.proofs.Common.{◌≡◌, ◌≢◌, ℕ, zero, suc, ◌^◌, ◌<◌, ◌≤◌, Bool, true, false, List, [], ◌∷◌, ◌++◌, length, drop, get_or, ◌⊎◌, inl, inr, refl, sym, ap, ◌∙◌, subst, arith, nat_eq, append_assoc, Result, Ok, Err}
-use Rattle.std.specs.Prelude.{◌==◌, if◌then◌else◌, codes}
-use Rattle.std.specs.List.{AllByRecursion}
-use Rattle.std.specs.Fmt.{decimal}
-use Rattle.std.specs.Str.Parse.{digits_value}
-use Rattle.std.proofs.lemmas.Bool.{cases_eq, cases_lt}
-use Rattle.std.proofs.lemmas.Fmt.{decimal_is_IsNumeral}
-use Rattle.hex.specs.Hex.{decode_of}
-use Rattle.hex.specs.declared.error.FromHexError.{FromHexError}
-use Rattle.nbd_wire.specs.declared.message.Message.{Message}
+use Rattle.nbd_lines.proofs.Common.{◌≡◌, ◌≢◌, ℕ, zero, suc, ◌^◌, ◌<◌, ◌≤◌, Bool, true, false, List, [], ◌∷◌, ◌++◌, length, drop, get_or, ◌⊎◌, inl, inr, refl, sym, ap, ◌∙◌, subst, arith, nat_eq, append_assoc, Result, Ok, Err, ◌==◌, if◌then◌else◌, codes, AllByRecursion, decimal, digits_value, cases_eq, cases_lt, decimal_is_IsNumeral, decode_of, FromHexError, Message, carries_payload, FitsItsHead, WRITE, hash, space, Decided, Field, Form, Greeting, ClientFlags, Choice, Answer, Exported, Request, Simple, Chunk, ExtendedRequest, ExtendedChunk, AreWithin, IsEnd, IsMessageLine, equals, numbers_text, payload_words, nothing, BeginsNumber, BeginsNumbers, EndsWord, IsSpaceless, ReadsNumber, ReadsNumbers, IsScriptLine, message, blank, comment, ok, payload_of, field_name, fields, has_payload, line_form, numbers, words}
 use Rattle.nbd_wire.specs.declared.message.Message.TheVariants as messages
-use Rattle.nbd_wire.specs.protocol.Sendable.{carries_payload}
-use Rattle.nbd_wire.specs.codec.Fits.{FitsItsHead}
-use Rattle.nbd_wire.specs.declared.commands.TheConstants.{WRITE}
-use Rattle.nbd_capture.specs.Capture.{hash, space}
-use Rattle.nbd_capture.proofs.TotalTextLemmas.{Decided}
-use Rattle.nbd_lines.specs.declared.forms.Field.{Field}
-use Rattle.nbd_lines.specs.declared.forms.Form.{Form}
-use Rattle.nbd_lines.specs.declared.forms.Form.TheVariants.{Greeting, ClientFlags, Choice, Answer, Exported, Request, Simple, Chunk, ExtendedRequest, ExtendedChunk}
-use Rattle.nbd_lines.specs.Line.{AreWithin, IsEnd, IsMessageLine, equals, numbers_text, payload_words}
-use Rattle.nbd_lines.specs.Line.IsEnd.{nothing}
-use Rattle.nbd_lines.specs.internal.Reading.{BeginsNumber, BeginsNumbers, EndsWord, IsSpaceless, ReadsNumber, ReadsNumbers}
-use Rattle.nbd_lines.specs.Script.{IsScriptLine}
-use Rattle.nbd_lines.specs.Script.IsScriptLine.{message, blank, comment, ok}
-use Rattle.nbd_lines.specs.Table.{payload_of, field_name, fields, has_payload, line_form, numbers, words}
 use Rattle.nbd_lines.proofs.EndLemmas.{no_payload, not_nothing, payload_at, bad_digits_are_no_end}
 use Rattle.nbd_lines.proofs.MessageLineLemmas.{EndsSo, built, ends_so, fields_small, form_by, form_by-words, from_parts, misfit, no_end, no_form, no_numbers, nth}
 use Rattle.nbd_lines.proofs.NumberLemmas.{no_more, number_read, number_word, put_first, split_first}

@@ -1,13 +1,5 @@
 -- Ends of lines, next to what `hex` says of its calls.
-use Rattle.std.proofs.Common.{◌≡◌, ℕ, Bool, true, false, List, [], ◌∷◌, ◌++◌, Ok, Err, length, refl, sym, ap, ◌∙◌, subst, arith}
-use Rattle.std.specs.Prelude.{◌==◌}
-use Rattle.std.proofs.lemmas.Bool.{eqb-true}
-use Rattle.std.proofs.lemmas.List.{append_cancel_left}
-use Rattle.hex.specs.Hex.{decode_of}
-use Rattle.hex.specs.declared.error.FromHexError.{FromHexError}
-use Rattle.nbd_capture.proofs.DigitLemmas.{decodes, spelled}
-use Rattle.nbd_lines.specs.Line.{IsEnd, payload_words}
-use Rattle.nbd_lines.specs.Line.IsEnd.{nothing, payload}
+use Rattle.nbd_lines.proofs.Common.{◌≡◌, ℕ, Bool, true, false, List, [], ◌∷◌, ◌++◌, Ok, Err, length, refl, sym, ap, ◌∙◌, subst, arith, ◌==◌, eqb-true, append_cancel_left, decode_of, FromHexError, decodes, spelled, IsEnd, payload_words, nothing, payload}
 use Rattle.nbd_lines.proofs.MessageLineLemmas.{Carries, EndsSo, ends_so}
 
 pub nothing_at : (p : Bool) (bytes end : List ℕ) → p ≡ false → bytes ≡ [] → end ≡ [] → IsEnd p bytes end

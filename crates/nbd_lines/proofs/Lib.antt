@@ -1,3 +1,4 @@
+pub mod Common
 pub mod DecimalLemmas
 pub mod DecisionLemmas
 pub mod EndLemmas

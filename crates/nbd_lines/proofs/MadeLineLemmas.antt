@@ -1,18 +1,7 @@
 -- What the chunk lines of a script's messages are as a capture.
-use Rattle.std.proofs.Common.{◌≡◌, ℕ, zero, suc, ◌<◌, Bool, true, false, List, [], ◌∷◌, ◌++◌, refl, ap, subst, arith, length, map, replicate}
-use Rattle.std.specs.Prelude.{flat_map, if◌then◌else◌}
-use Rattle.std.specs.Int.{byte_at, bytes_high_first}
-use Rattle.std.specs.List.{AllByRecursion}
-use Rattle.hex.specs.Hex.{IsBytes}
-use Rattle.nbd_wire.specs.declared.message.Message.{Message}
+use Rattle.nbd_lines.proofs.Common.{◌≡◌, ℕ, zero, suc, ◌<◌, Bool, true, false, List, [], ◌∷◌, ◌++◌, refl, ap, subst, arith, length, map, replicate, flat_map, if◌then◌else◌, byte_at, bytes_high_first, AllByRecursion, IsBytes, Message, ANSWER_MAGIC, CHUNK_MAGIC, GREETING_MAGIC, OPTION_MAGIC, REQUEST_MAGIC, SIMPLE_MAGIC, EXTENDED_REQUEST_MAGIC, EXTENDED_CHUNK_MAGIC, AreBytes, enc, head, tail, slice_index-byte, IsSendable, IsCaptureText, chunk_line, chunk_lines, made_chunk, made_line, payload_of}
 use Rattle.nbd_wire.specs.declared.message.Message.TheVariants as messages
-use Rattle.nbd_wire.specs.declared.magics.TheConstants.{ANSWER_MAGIC, CHUNK_MAGIC, GREETING_MAGIC, OPTION_MAGIC, REQUEST_MAGIC, SIMPLE_MAGIC, EXTENDED_REQUEST_MAGIC, EXTENDED_CHUNK_MAGIC}
-use Rattle.nbd_wire.specs.protocol.Encoding.{AreBytes, enc, head, tail}
-use Rattle.nbd_wire.proofs.NumberLemmas.{slice_index-byte}
-use Rattle.nbd_wire.specs.protocol.Sendable.{IsSendable}
-use Rattle.nbd_capture.specs.Capture.{Chunk, IsCaptureText, chunk_line}
-use Rattle.nbd_lines.specs.Script.{chunk_lines, made_chunk, made_line}
-use Rattle.nbd_lines.specs.Table.{payload_of}
+use Rattle.nbd_capture.specs.Capture.{Chunk}
 use Rattle.nbd_lines.proofs.PrintableLemmas.{sendable_bytes}
 
 -- each number is a byte

@@ -1,10 +1,5 @@
 -- What `make` answers: that a script's messages fit, and what stands written after a fault.
-use Rattle.std.proofs.Common.{ℕ, inl, inr, List, ◌++◌, sym, subst}
-use Rattle.std.specs.List.{AllByRecursion}
-use Rattle.nbd_wire.specs.declared.message.Message.{Message}
-use Rattle.nbd_wire.specs.codec.Fits.{FitsItsHead}
-use Rattle.nbd_capture.specs.Lines.IsText.{empty, line}
-use Rattle.nbd_lines.specs.Script.{IsScript}
+use Rattle.nbd_lines.proofs.Common.{ℕ, inl, inr, List, ◌++◌, sym, subst, AllByRecursion, Message, FitsItsHead, empty, line, IsScript}
 use Rattle.nbd_lines.proofs.ScriptLineLemmas.{forms}
 
 -- each message of a script fits its head

@@ -1,21 +1,6 @@
 -- Message lines: a line stands for one message at most.
-use Rattle.std.proofs.Common.{◌≡◌, ℕ, zero, suc, ◌^◌, ◌<◌, Bool, true, false, List, [], ◌++◌, drop, get_or, refl, sym, ap, ◌∙◌, subst, arith, Ok, nat_eq}
-use Rattle.std.specs.Prelude.{◌==◌, if◌then◌else◌}
-use Rattle.std.specs.List.{AllByRecursion}
-use Rattle.std.proofs.lemmas.List.{append_cancel_left}
-use Rattle.hex.specs.Hex.{decode_of}
-use Rattle.nbd_wire.specs.declared.message.Message.{Message}
+use Rattle.nbd_lines.proofs.Common.{◌≡◌, ℕ, zero, suc, ◌^◌, ◌<◌, Bool, true, false, List, [], ◌++◌, drop, get_or, refl, sym, ap, ◌∙◌, subst, arith, Ok, nat_eq, ◌==◌, if◌then◌else◌, AllByRecursion, append_cancel_left, decode_of, Message, FitsItsHead, AreDigits, decodes, Field, Form, Greeting, ClientFlags, Choice, Answer, Exported, Request, Simple, Chunk, ExtendedRequest, ExtendedChunk, IsEnd, IsMessageLine, numbers_text, payload_words, nothing, payload, BeginsNumbers, EndsWord, ReadsNumbers, payload_of, fields, has_payload, line_form, numbers, words}
 use Rattle.nbd_wire.specs.declared.message.Message.TheVariants as messages
-use Rattle.nbd_wire.specs.codec.Fits.{FitsItsHead}
-use Rattle.nbd_capture.specs.Capture.{AreDigits}
-use Rattle.nbd_capture.proofs.DigitLemmas.{decodes}
-use Rattle.nbd_lines.specs.declared.forms.Field.{Field}
-use Rattle.nbd_lines.specs.declared.forms.Form.{Form}
-use Rattle.nbd_lines.specs.declared.forms.Form.TheVariants.{Greeting, ClientFlags, Choice, Answer, Exported, Request, Simple, Chunk, ExtendedRequest, ExtendedChunk}
-use Rattle.nbd_lines.specs.Line.{IsEnd, IsMessageLine, numbers_text, payload_words}
-use Rattle.nbd_lines.specs.Line.IsEnd.{nothing, payload}
-use Rattle.nbd_lines.specs.internal.Reading.{BeginsNumbers, EndsWord, ReadsNumbers}
-use Rattle.nbd_lines.specs.Table.{payload_of, fields, has_payload, line_form, numbers, words}
 use Rattle.nbd_lines.proofs.NumberLemmas.{one_list}
 
 -- the first, the third and the fifth letter of a line state its form

@@ -1,15 +1,5 @@
 -- The numbers of a line: how a text begins with them.
-use Rattle.std.proofs.Common.{◌≡◌, ℕ, ◌+◌, ◌^◌, ◌<◌, ◌≤◌, List, [], ◌∷◌, ◌++◌, refl, sym, ap, ◌∙◌, append_assoc, append-nil, arith, add-one, drop, drop-cons, get_or, length, subst, take}
-use Rattle.std.specs.Prelude.{slice_set}
-use Rattle.std.specs.List.{AllByRecursion}
-use Rattle.std.specs.Fmt.{decimal}
-use Rattle.std.proofs.lemmas.Fmt.{decimal_injective}
-use Rattle.std.proofs.lemmas.List.{append_cancel_left, drop_all, take_more_set}
-use Rattle.nbd_capture.specs.Capture.{space}
-use Rattle.nbd_lines.specs.declared.forms.Field.{Field}
-use Rattle.nbd_lines.specs.Line.{AreWithin, equals, number_text, numbers_text}
-use Rattle.nbd_lines.specs.internal.Reading.{BeginsNumber, BeginsNumbers, EndsWord, IsSpaceless, ReadsNumber, ReadsNumbers}
-use Rattle.nbd_lines.specs.Table.{field_name}
+use Rattle.nbd_lines.proofs.Common.{◌≡◌, ℕ, ◌+◌, ◌^◌, ◌<◌, ◌≤◌, List, [], ◌∷◌, ◌++◌, refl, sym, ap, ◌∙◌, append_assoc, append-nil, arith, add-one, drop, drop-cons, get_or, length, subst, take, slice_set, AllByRecursion, decimal, decimal_injective, append_cancel_left, drop_all, take_more_set, space, Field, AreWithin, equals, number_text, numbers_text, BeginsNumber, BeginsNumbers, EndsWord, IsSpaceless, ReadsNumber, ReadsNumbers, field_name}
 use Rattle.nbd_lines.proofs.DecimalLemmas.{decimal_is_spaceless}
 use Rattle.nbd_lines.proofs.WordLemmas.{same_word}
 

@@ -1,33 +1,8 @@
 -- What is printed of a message that can be sent is read again.
-use Rattle.std.proofs.Common.{◌≡◌, ℕ, ◌/◌, ◌%◌, ◌^◌, ◌<◌, ◌≤◌, Bool, true, false, List, [], ◌∷◌, ◌++◌, length, refl, sym, subst, arith, append_assoc, append-nil, ◌∙◌, not, ◌&&◌, ◌==◌}
-use Rattle.std.specs.Prelude.{codes, if◌then◌else◌}
-use Rattle.std.proofs.lemmas.Bool.{and_parts, eqb-false, not-true}
-use Rattle.std.specs.List.{AllByRecursion}
-use Rattle.std.specs.Fmt.{decimal}
-use Rattle.std.specs.Str.Parse.{AllDigits}
-use Rattle.std.proofs.lemmas.Fmt.{decimal_is_IsNumeral}
-use Rattle.std.proofs.lemmas.Str.Parse.{digit_from_value}
-use Rattle.hex.specs.Hex.{encode_lower, encode_with}
-use Rattle.hex.proofs.HexLemmas.{decode_of-encode_lower}
-use Rattle.nbd_wire.specs.declared.message.Message.{Message}
+use Rattle.nbd_lines.proofs.Common.{◌≡◌, ℕ, ◌/◌, ◌%◌, ◌^◌, ◌<◌, ◌≤◌, Bool, true, false, List, [], ◌∷◌, ◌++◌, length, refl, sym, subst, arith, append_assoc, append-nil, ◌∙◌, not, ◌&&◌, codes, if◌then◌else◌, and_parts, eqb-false, not-true, AllByRecursion, decimal, AllDigits, decimal_is_IsNumeral, digit_from_value, encode_lower, encode_with, decode_of-encode_lower, Message, AreBytes, FitsItsHead, slice_index-byte, IsSendable, lower_below, spelled, IsUnbroken, line_feed, empty, line, Field, Name, Form, Greeting, ClientFlags, Choice, Answer, Exported, Request, Simple, Chunk, ExtendedRequest, ExtendedChunk, AreWithin, IsEnd, IsMessageLine, end_text, equals, message_line, number_text, numbers_text, payload_words, nothing, payload, IsScript, message_lines, shown_line, message, ok, payload_of, field_name, fields, has_payload, line_form, numbers, words}
+use Rattle.std.proofs.Common.{◌==◌}
 use Rattle.nbd_wire.specs.declared.message.Message.TheVariants as messages
-use Rattle.nbd_wire.specs.protocol.Encoding.{AreBytes}
-use Rattle.nbd_wire.specs.codec.Fits.{FitsItsHead}
-use Rattle.nbd_wire.proofs.NumberLemmas.{slice_index-byte}
-use Rattle.nbd_wire.specs.protocol.Sendable.{IsSendable}
-use Rattle.nbd_capture.proofs.DigitLemmas.{lower_below, spelled}
-use Rattle.nbd_capture.specs.Lines.{IsUnbroken, line_feed}
-use Rattle.nbd_capture.specs.Lines.IsText.{empty, line}
-use Rattle.nbd_lines.specs.declared.forms.Field.{Field}
-use Rattle.nbd_lines.specs.declared.forms.Name.{Name}
 use Rattle.nbd_lines.specs.declared.forms.Name.TheVariants as names
-use Rattle.nbd_lines.specs.declared.forms.Form.{Form}
-use Rattle.nbd_lines.specs.declared.forms.Form.TheVariants.{Greeting, ClientFlags, Choice, Answer, Exported, Request, Simple, Chunk, ExtendedRequest, ExtendedChunk}
-use Rattle.nbd_lines.specs.Line.{AreWithin, IsEnd, IsMessageLine, end_text, equals, message_line, number_text, numbers_text, payload_words}
-use Rattle.nbd_lines.specs.Line.IsEnd.{nothing, payload}
-use Rattle.nbd_lines.specs.Script.{IsScript, message_lines, shown_line}
-use Rattle.nbd_lines.specs.Script.IsScriptLine.{message, ok}
-use Rattle.nbd_lines.specs.Table.{payload_of, field_name, fields, has_payload, line_form, numbers, words}
 use Rattle.nbd_lines.proofs.MessageLineLemmas.{fields_small}
 
 padded_within : (padded : Bool) → (if padded then 1 else 0) ≤ 1

@@ -1,13 +1,5 @@
 -- What is printed, part by part.
-use Rattle.std.proofs.Common.{◌≡◌, ℕ, ◌+◌, ◌<◌, ◌≤◌, List, [], ◌∷◌, ◌++◌, length, take, drop, get_or, refl, sym, ap, ◌∙◌, append_assoc, append-nil, drop-cons, add-one}
-use Rattle.std.proofs.Math.Seq.{take-append_seam}
-use Rattle.std.proofs.lemmas.List.{drop_all}
-use Rattle.nbd_lines.specs.declared.forms.Field.{Field}
-use Rattle.hex.specs.Hex.{encode_lower}
-use Rattle.nbd_wire.specs.declared.message.Message.{Message}
-use Rattle.nbd_lines.specs.Line.{end_text, message_line, payload_words, number_text, numbers_text}
-use Rattle.nbd_lines.specs.Table.{payload_of, fields, has_payload, line_form, numbers, words}
-use Rattle.nbd_lines.specs.internal.Printing.{AddsPrefix}
+use Rattle.nbd_lines.proofs.Common.{◌≡◌, ℕ, ◌+◌, ◌<◌, ◌≤◌, List, [], ◌∷◌, ◌++◌, length, take, drop, get_or, refl, sym, ap, ◌∙◌, append_assoc, append-nil, drop-cons, add-one, take-append_seam, drop_all, Field, encode_lower, Message, end_text, message_line, payload_words, number_text, numbers_text, payload_of, fields, has_payload, line_form, numbers, words, AddsPrefix}
 
 pub adds_nothing : (old : List ℕ) → AddsPrefix old old
 adds_nothing old = record { prefix = []; whole = sym (append-nil old) }

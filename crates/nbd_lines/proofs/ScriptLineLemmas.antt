@@ -1,24 +1,5 @@
 -- The forms of a script's line, taken apart, and the faults of one line as faults of the whole text.
-use Rattle.std.proofs.Common.{◌≡◌, ℕ, ◌+◌, ◌⊎◌, inl, inr, List, [], ◌∷◌, ◌++◌, refl, sym, ap, ◌∙◌, subst, Result, Ok, Err, IfErr, arith, get_or, length, slice_index, ◌<◌, ◌≤◌, Bool, true, nat_eq, IsTrue}
-use Rattle.std.specs.Cmp.Lexicographic.{pointwise}
-use Rattle.std.specs.Prelude.{IsErr, MatchResult, codes}
-use Rattle.std.proofs.lemmas.Bool.{eq-eqb}
-use Rattle.nbd_wire.specs.declared.message.Message.{Message}
-use Rattle.nbd_wire.specs.codec.Fits.{FitsItsHead}
-use Rattle.nbd_capture.specs.Capture.{hash}
-use Rattle.nbd_capture.specs.Lines.{line_feed, IsUnbroken}
-use Rattle.nbd_capture.proofs.ProgressLemmas.{Progress, stopped}
-use Rattle.nbd_capture.proofs.ReadingLemmas.{IsFunctional, no_reading}
-use Rattle.nbd_lines.specs.declared.script.ScriptFault.{ScriptFault}
-use Rattle.nbd_lines.specs.declared.script.ScriptFault.TheVariants.{Line, Memory}
-use Rattle.nbd_lines.specs.declared.forms.Form.{Form}
-use Rattle.nbd_lines.specs.declared.forms.Form.TheVariants.{Greeting, ClientFlags, Choice, Answer, Exported, Request, Simple, Chunk, ExtendedRequest, ExtendedChunk}
-use Rattle.nbd_lines.specs.Faults.{IsScriptFault}
-use Rattle.nbd_lines.specs.Line.{IsMessageLine, numbers_text}
-use Rattle.nbd_lines.specs.Script.{IsFirstBadScriptLine, IsScript, IsScriptLine}
-use Rattle.nbd_lines.specs.Script.IsScriptLine.{message, blank, comment, ok}
-use Rattle.nbd_lines.specs.internal.Steps.{IsLineFault}
-use Rattle.nbd_lines.specs.Table.{fields, line_form, numbers, words}
+use Rattle.nbd_lines.proofs.Common.{◌≡◌, ℕ, ◌+◌, ◌⊎◌, inl, inr, List, [], ◌∷◌, ◌++◌, refl, sym, ap, ◌∙◌, subst, Result, Ok, Err, IfErr, arith, get_or, length, slice_index, ◌<◌, ◌≤◌, Bool, true, nat_eq, IsTrue, pointwise, IsErr, MatchResult, codes, eq-eqb, Message, FitsItsHead, hash, line_feed, IsUnbroken, Progress, stopped, IsFunctional, no_reading, ScriptFault, Line, Memory, Form, Greeting, ClientFlags, Choice, Answer, Exported, Request, Simple, Chunk, ExtendedRequest, ExtendedChunk, IsScriptFault, IsMessageLine, numbers_text, IsFirstBadScriptLine, IsScript, IsScriptLine, message, blank, comment, ok, IsLineFault, fields, line_form, numbers, words}
 use Rattle.nbd_lines.proofs.MessageLineLemmas.{one_message}
 use Rattle.nbd_lines.proofs.WordLemmas.{pointwise-same}
 

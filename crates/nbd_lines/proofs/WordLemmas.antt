@@ -1,11 +1,5 @@
 -- Words of a line, which one space parts: a text has one first word.
-use Rattle.std.proofs.Common.{◌≡◌, ℕ, List, [], ◌∷◌, ◌++◌, length, take, drop, refl, sym, ap, ◌∙◌, ◌+◌, true, false, nat_eq, Option, Some, None, MatchOption}
-use Rattle.std.specs.Borrow.{Bor}
-use Rattle.std.proofs.Math.Seq.{take-append_seam}
-use Rattle.std.specs.Cmp.Lexicographic.{pointwise}
-use Rattle.std.proofs.lemmas.Bool.{and_parts, eq-eqb, eqb-true}
-use Rattle.std.proofs.lemmas.List.{take-append-drop}
-use Rattle.nbd_lines.specs.internal.Reading.{EndsWord, IsSpaceless}
+use Rattle.nbd_lines.proofs.Common.{◌≡◌, ℕ, List, [], ◌∷◌, ◌++◌, length, take, drop, refl, sym, ap, ◌∙◌, ◌+◌, true, false, nat_eq, Option, Some, None, MatchOption, Bor, take-append_seam, pointwise, and_parts, eq-eqb, eqb-true, take-append-drop, EndsWord, IsSpaceless}
 
 -- two splits of one text into a first word and the rest are the same
 pub same_word : (a b x y : List ℕ) → IsSpaceless a → IsSpaceless b → EndsWord x → EndsWord y → a ++ x ≡ b ++ y → (a ≡ b) × (x ≡ y)

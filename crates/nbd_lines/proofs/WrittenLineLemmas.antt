@@ -1,14 +1,7 @@
 -- How far the lines of some messages were written, and what a writer holds after one more line or a fault.
-use Rattle.std.proofs.Common.{◌≡◌, ℕ, zero, suc, ◌+◌, ◌<◌, ◌≤◌, List, [], ◌∷◌, ◌++◌, length, take, drop, get_or, sym, ap, ◌∙◌, append-nil, add-one, drop-cons, subst, take-append-drop, arith}
-use Rattle.std.specs.Prelude.{Option, flat_map}
-use Rattle.std.specs.List.{AllByRecursion}
-use Rattle.std.specs.Io.KnownBytes.{Appends}
-use Rattle.std.proofs.KnownBytes.{Appends-nil, Appends-trans}
-use Rattle.std.proofs.lemmas.List.{take_all, take_more}
-use Rattle.std.proofs.lemmas.Grind.{flat_map-append}
-use Rattle.nbd_wire.specs.declared.message.Message.{Message}
-use Rattle.nbd_capture.specs.Writing.{AppendsPrefix}
-use Rattle.nbd_capture.proofs.WriterLemmas.{prefix_then, then_prefix}
+use Rattle.nbd_lines.proofs.Common.{◌≡◌, ℕ, zero, suc, ◌+◌, ◌<◌, ◌≤◌, List, [], ◌∷◌, ◌++◌, length, take, drop, get_or, sym, ap, ◌∙◌, append-nil, add-one, drop-cons, subst, arith, flat_map, AllByRecursion, Appends, Appends-nil, Appends-trans, take_all, take_more, flat_map-append, Message, AppendsPrefix, prefix_then, then_prefix}
+use Rattle.std.proofs.Common.{take-append-drop}
+use Rattle.std.specs.Prelude.{Option}
 
 module _ (line : Message → List ℕ) where
   -- the lines of the first k messages stand written

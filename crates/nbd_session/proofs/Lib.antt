@@ -1,3 +1,4 @@
+pub mod Common
 pub mod expecting
 pub mod judge
 pub mod log

@@ -1,31 +1,10 @@
 -- What a state shows once a message has completed.
-use Rattle.std.proofs.Common.{◌≡◌, ℕ, zero, suc, ◌<◌, ◌≤◌, ◌⊎◌, ◌==◌, ◌&&◌, List, [], ◌∷◌, ◌++◌, length, refl, sym, ◌∙◌, ap, subst, Option, Some, None, Bool, true, false, if◌then◌else◌, arith, slice_get, slice_index_or, slice_set, Result, Ok, Err, IfOk, OnOk, inl, inr, not, is_some, ◌^◌}
-use Rattle.std.proofs.lemmas.Option.{slice_get_read}
-use Rattle.nbd_state.specs.Places.{place_at}
-use Rattle.nbd_wire.specs.declared.message.Message.{Message}
-use Rattle.nbd_wire.specs.protocol.Operations.{Operation, Exporting, ends_reply, is_finished}
-use Rattle.nbd_wire.specs.protocol.Rules.{cookie_of, core_with_reply, noted, reply_to, shown_with, target_of}
+use Rattle.nbd_state.proofs.Common.{◌≡◌, ℕ, zero, suc, ◌<◌, ◌≤◌, ◌⊎◌, ◌==◌, ◌&&◌, List, [], ◌∷◌, ◌++◌, length, refl, sym, ◌∙◌, ap, subst, Option, Some, None, Bool, true, false, if◌then◌else◌, arith, slice_get, slice_index_or, slice_set, Result, Ok, Err, IfOk, OnOk, inl, inr, not, is_some, ◌^◌, slice_get_read, place_at, Message, Operation, Exporting, ends_reply, is_finished, cookie_of, core_with_reply, noted, reply_to, shown_with, target_of, Context, Core, Transmission, with_reply_at, operation, target, with_reply, export_in, in_force, Asked, Exchange, Counts, Export, State, AddsUnanswered, is_none_yet, IsShown, exporting, IsReached, AreAskedWith, asked_answered, asked_snoc, AreShown, HasSelection, Shows, ended_if, export_shown, phase_shown, place_of, shown_if, shown_in, IsNotedWith, InPhase, open_target, sound}
 use Rattle.nbd_wire.specs.protocol.States as definitions
-use Rattle.nbd_wire.specs.protocol.Contexts.{Context}
-use Rattle.nbd_wire.specs.protocol.States.{Core, Transmission, with_reply_at, operation, target, with_reply, export_in, in_force}
-use Rattle.nbd_state.specs.declared.asked.Asked.{Asked}
-use Rattle.nbd_state.specs.declared.asked.Exchange.{Exchange}
-use Rattle.nbd_state.specs.declared.recording.Counts.{Counts}
-use Rattle.nbd_state.specs.declared.state.Export.{Export}
 use Rattle.nbd_state.specs.declared.state.Phase.TheVariants as shown
-use Rattle.nbd_state.specs.declared.state.State.{State}
-use Rattle.nbd_state.specs.internal.Completing.{AddsUnanswered}
-use Rattle.nbd_wire.specs.protocol.Transmission.{is_none_yet}
-use Rattle.nbd_state.specs.Showing.{IsShown, exporting}
-use Rattle.nbd_laws.specs.Reached.{IsReached}
-use Rattle.nbd_laws.specs.Selecting.{AreAskedWith}
-use Rattle.nbd_laws.proofs.requests.ContextLemmas.{asked_answered, asked_at, asked_snoc}
-use Rattle.nbd_state.specs.Shows.{AreShown, HasSelection, Shows, ended_if, export_shown, phase_shown, place_of, shown_if}
-use Rattle.nbd_state.specs.Moments.{shown_in}
-use Rattle.nbd_state.specs.internal.Noting.{IsNotedWith}
+use Rattle.nbd_laws.proofs.requests.ContextLemmas.{asked_at}
 use Rattle.nbd_state.proofs.NotingLemmas.{ended_added, ended_set, fresh, shown_added, shown_set}
 use Rattle.nbd_state.proofs.PlacedLemmas.{IsPlaced, are_shown_in, place_shows_operation, shown_length}
-use Rattle.nbd_laws.proofs.requests.SoundnessLemmas.{InPhase, open_target, sound}
 use Rattle.nbd_state.proofs.TargetLemmas.{distinct_reached, target_replied, target_requested}
 
 shown_snoc : (export : Exporting) (es : List Operation) (xs : List Exchange) (e : Operation) (x : Exchange) → AreShown (Some export) es xs → IsShown export e x → AreShown (Some export) (es ++ e ∷ []) (xs ++ x ∷ [])

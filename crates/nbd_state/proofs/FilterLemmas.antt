@@ -1,12 +1,5 @@
 -- The ids of a filter, taken one after the other.
-use Rattle.std.proofs.Common.{◌≡◌, ℕ, ◌==◌, ◌&&◌, ◌||◌, List, [], ◌∷◌, refl, sym, ◌∙◌, ap, Bool, true, false, not, if◌then◌else◌, eqb-true, eq-eqb, ne_eqb, subst, Option, Some, None}
-use Rattle.std.proofs.lemmas.Bool.{eqb-false}
-use Rattle.std.proofs.lemmas.Option.{none-some}
-use Rattle.nbd_wire.specs.declared.heads.transmission.RequestHead.{RequestHead}
-use Rattle.nbd_wire.specs.protocol.Contexts.{Context, Filter, are_once, is_among}
-use Rattle.nbd_wire.specs.protocol.Rules.{filter_in}
-use Rattle.nbd_state.specs.declared.asking.Asking.{Asking}
-use Rattle.nbd_state.specs.Filters.{Asks, filter_of_head}
+use Rattle.nbd_state.proofs.Common.{◌≡◌, ℕ, ◌==◌, ◌&&◌, ◌||◌, List, [], ◌∷◌, refl, sym, ◌∙◌, ap, Bool, true, false, not, if◌then◌else◌, eqb-true, eq-eqb, ne_eqb, subst, Option, Some, None, eqb-false, none-some, RequestHead, Context, Filter, are_once, is_among, filter_in, Asking, Asks, filter_of_head}
 
 eqb-sym : (a b : ℕ) → (a == b) ≡ (b == a)
 eqb-sym a b = go (a == b) refl

@@ -1,12 +1,6 @@
 -- What a chunk says does not depend on its header.
-use Rattle.std.proofs.Common.{◌≡◌, ℕ, List, Option, Some, None, refl}
+use Rattle.nbd_state.proofs.Common.{◌≡◌, ℕ, List, Option, Some, None, refl, has, ends_reply, is_error_chunk, is_failing, content_of, chunk_piece, piece_of, cookie_of, chunk_with}
 use Rattle.nbd_wire.specs.declared.chunks.TheConstants as chunks
-use Rattle.nbd_wire.specs.protocol.Flags.{has}
-use Rattle.nbd_wire.specs.protocol.Operations.{ends_reply, is_error_chunk, is_failing}
-use Rattle.nbd_wire.specs.protocol.Payloads.{content_of}
-use Rattle.nbd_wire.specs.protocol.Pieces.{chunk_piece, piece_of}
-use Rattle.nbd_wire.specs.protocol.Rules.{cookie_of}
-use Rattle.nbd_state.specs.Heads.{chunk_with}
 
 module _ (flags kind cookie : ℕ) (payload : List ℕ) where
   pub chunk_ends : (at : Option ℕ) → ends_reply (chunk_with at flags kind cookie payload) ≡ has flags chunks.DONE

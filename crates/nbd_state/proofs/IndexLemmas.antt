@@ -1,17 +1,5 @@
 -- What an index of pieces tells, and what one more piece changes.
-use Rattle.std.proofs.Common.{◌≡◌, ℕ, IsTrue, nat_lt, ◌-◌, ◌+◌, ◌<◌, ◌≤◌, ◌==◌, inl, inr, List, [], ◌∷◌, ◌++◌, refl, sym, ◌∙◌, ap, Option, Some, None, Bool, true, false, IsSome, MatchBool, arith, ◌&&◌, ◌||◌, nat_le, if◌then◌else◌, eqb-true, eq-eqb, subst, length, slice_index_or}
-use Rattle.std.proofs.Math.Bool.{and-true, and-false}
-use Rattle.std.proofs.lemmas.Bool.{and_parts, leb-true, leb-false, le-leb, lt-ltb, ltb-false, ltb-true, cases_order}
-use Rattle.std.specs.BTreeMap.{BTreeMap, btree_map_len, is_at}
-use Rattle.std.specs.List.{list_all}
-use Rattle.std.specs.Map.{lookup}
-use Rattle.std.specs.Ordering.{nat_cmp}
-use Rattle.nbd_wire.specs.declared.payloads.Piece.{Piece}
-use Rattle.nbd_wire.specs.protocol.Pieces.{is_in, piece_offset, piece_size}
-use Rattle.nbd_wire.specs.protocol.Transmission.{is_apart, is_apart_from}
-use Rattle.nbd_state.specs.declared.span.Span.{Span}
-use Rattle.nbd_state.specs.Spans.{span_of}
-use Rattle.nbd_state.specs.Indexes.{Covers, HasMore, IsApart, IsBare, IsHeld, IsHeldFrom, IsIndex, size_from}
+use Rattle.nbd_state.proofs.Common.{◌≡◌, ℕ, IsTrue, nat_lt, ◌-◌, ◌+◌, ◌<◌, ◌≤◌, ◌==◌, inl, inr, List, [], ◌∷◌, ◌++◌, refl, sym, ◌∙◌, ap, Option, Some, None, Bool, true, false, IsSome, MatchBool, arith, ◌&&◌, ◌||◌, nat_le, if◌then◌else◌, eqb-true, eq-eqb, subst, length, slice_index_or, and-true, and-false, and_parts, leb-true, leb-false, le-leb, lt-ltb, ltb-false, ltb-true, cases_order, BTreeMap, btree_map_len, is_at, list_all, lookup, nat_cmp, Piece, is_in, piece_offset, piece_size, is_apart, is_apart_from, Span, span_of, Covers, HasMore, IsApart, IsBare, IsHeld, IsHeldFrom, IsIndex, size_from}
 
 -- an offset in a range, as bounds
 pub in_bounds : (offset len x : ℕ) → IsTrue (is_in offset len x) → (offset ≤ x) × (x < offset + len)

@@ -1,14 +1,5 @@
 -- What a log knows of a request, with one more message.
-use Rattle.std.proofs.Common.{◌≡◌, ℕ, ◌<◌, ◌≤◌, ◌==◌, List, [], ◌∷◌, ◌++◌, length, refl, ◌∙◌, ap, subst, inl, inr, Option, Some, None, Bool, true, false, arith, eq-eqb, eqb-true, ne_eqb, is_some, if◌then◌else◌}
-use Rattle.nbd_wire.specs.declared.message.Message.{Message}
-use Rattle.nbd_wire.specs.declared.profile.Profile.{Profile}
-use Rattle.nbd_wire.specs.protocol.Rules.{request_of_reply, complete}
-use Rattle.nbd_wire.specs.protocol.States.{Core}
-use Rattle.nbd_laws.proofs.runs.ProfileLemmas.{complete_with}
-use Rattle.nbd_laws.specs.Profiles.{with_profile}
-use Rattle.nbd_laws.proofs.runs.TraceLemmas.{answered_by-within, length-complete}
-use Rattle.nbd_state.specs.Completions.{core_from}
-use Rattle.nbd_state.specs.Logs.{LogEntry, known_by, known_here, known_if, messages_of}
+use Rattle.nbd_state.proofs.Common.{◌≡◌, ℕ, ◌<◌, ◌≤◌, ◌==◌, List, [], ◌∷◌, ◌++◌, length, refl, ◌∙◌, ap, subst, inl, inr, Option, Some, None, Bool, true, false, arith, eq-eqb, eqb-true, ne_eqb, is_some, if◌then◌else◌, Message, Profile, request_of_reply, complete, Core, complete_with, with_profile, answered_by-within, length-complete, core_from, LogEntry, known_by, known_here, known_if, messages_of}
 
 abbrev pub known_or : Option ℕ → Option ℕ → Option ℕ
 known_or (Some n) later = Some n

@@ -1,3 +1,4 @@
+pub mod Common
 pub mod NotingLemmas
 pub mod CompletionLemmas
 pub mod FilterLemmas

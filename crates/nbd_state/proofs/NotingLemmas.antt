@@ -1,20 +1,6 @@
 -- What one more reply message notes.
-use Rattle.std.proofs.Common.{◌≡◌, ℕ, zero, suc, ◌+◌, List, [], ◌∷◌, ◌++◌, ◌==◌, ◌&&◌, append-nil, length, map, refl, sym, ◌∙◌, ap, Bool, true, false, not, if◌then◌else◌, Option, Some, None, is_some, length-append, arith, take, eqb-true, eq-eqb, ne_eqb, inl, inr, slice_get, slice_set}
+use Rattle.nbd_state.proofs.Common.{◌≡◌, ℕ, zero, suc, ◌+◌, List, [], ◌∷◌, ◌++◌, ◌==◌, ◌&&◌, append-nil, length, map, refl, sym, ◌∙◌, ap, Bool, true, false, not, if◌then◌else◌, Option, Some, None, is_some, length-append, arith, take, eqb-true, eq-eqb, ne_eqb, inl, inr, slice_get, slice_set, Message, Piece, Exporting, Operation, any, ends_reply, is_finished, is_proper, pieces, pieces_of, chunk_piece, piece_of, piece_offset, piece_size, noted, shown_with, Shown, with_reply, statuses_of, zeroes, zeroes_told, Exchange, shown_in, with_counts, IsShown, ended_if, shown_if, pieces-snoc, noted_none, same_number}
 use Rattle.nbd_wire.specs.declared.commands.TheConstants as commands
-use Rattle.nbd_wire.specs.declared.message.Message.{Message}
-use Rattle.nbd_wire.specs.declared.payloads.Piece.{Piece}
-use Rattle.nbd_wire.specs.protocol.Operations.{Exporting, Operation, any, ends_reply, is_finished, is_proper, pieces, pieces_of}
-use Rattle.nbd_wire.specs.protocol.Pieces.{chunk_piece, piece_of, piece_offset, piece_size}
-use Rattle.nbd_wire.specs.protocol.Rules.{noted, shown_with}
-use Rattle.nbd_wire.specs.protocol.States.{Shown, with_reply}
-use Rattle.nbd_wire.specs.protocol.Statuses.{statuses_of, zeroes, zeroes_told}
-use Rattle.nbd_state.specs.declared.asked.Exchange.{Exchange}
-use Rattle.nbd_state.specs.Moments.{shown_in, with_counts}
-use Rattle.nbd_state.specs.Showing.{IsShown}
-use Rattle.nbd_state.specs.Shows.{ended_if, shown_if}
-use Rattle.nbd_laws.proofs.requests.LaidLemmas.{pieces-snoc}
-use Rattle.nbd_laws.proofs.service.DueLemmas.{noted_none}
-use Rattle.nbd_laws.proofs.service.EntryLemmas.{same_number}
 
 -- the range of a piece, with a count
 abbrev pub span_at : ℕ → Piece → Shown

@@ -1,26 +1,8 @@
 -- What a state shows once a message of the negotiation has completed.
-use Rattle.std.proofs.Common.{◌≡◌, ℕ, ◌<◌, ◌||◌, ◌&&◌, ◌==◌, List, length, refl, sym, ◌∙◌, ap, subst, Option, Some, None, Bool}
-use Rattle.std.proofs.lemmas.Option.{slice_get_within}
-use Rattle.nbd_state.specs.Places.{place_at}
-use Rattle.nbd_laws.proofs.judge.AllowLemmas.{ask_allow, extended_ask_allow}
-use Rattle.nbd_laws.specs.Allowed.{MayAsk}
+use Rattle.nbd_state.proofs.Common.{◌≡◌, ℕ, ◌<◌, ◌||◌, ◌&&◌, ◌==◌, List, length, refl, sym, ◌∙◌, ap, subst, Option, Some, None, Bool, slice_get_within, place_at, ask_allow, extended_ask_allow, MayAsk, Message, Greeting, ClientFlags, Choice, Answer, Exported, Request, ExtendedRequest, Simple, Chunk, ExtendedChunk, Sizing, sizing_after, sizing_at, agrees, reply_phase, choice_phase, is_proper_option, next_phase, selection_after, selection_at, takes_contexts, Exporting, AnswersOne, MayComplete, complete, grants_extended, grants_structured, Core, Phase, Greet, Flags, Choosing, Naming, Aborting, Answering, Ended, Transmission, export_in, has_contexts, Chosen, State, MayTake, IsTransmitting, Selection, HasSelection, Shows, export_shown, export_shown_if, phase_shown}
 use Rattle.nbd_wire.specs.declared.commands.TheConstants as commands
-use Rattle.nbd_wire.specs.declared.message.Message.{Message}
-use Rattle.nbd_wire.specs.declared.message.Message.TheVariants.{Greeting, ClientFlags, Choice, Answer, Exported, Request, ExtendedRequest, Simple, Chunk, ExtendedChunk}
-use Rattle.nbd_wire.specs.declared.sizes.Sizing.{Sizing}
-use Rattle.nbd_wire.specs.protocol.Sizes.{sizing_after, sizing_at}
-use Rattle.nbd_wire.specs.protocol.Options.{agrees, reply_phase, choice_phase, is_proper_option, next_phase, selection_after, selection_at, takes_contexts}
-use Rattle.nbd_wire.specs.protocol.Operations.{Exporting}
-use Rattle.nbd_wire.specs.protocol.Rules.{AnswersOne, MayComplete, complete, grants_extended, grants_structured}
-use Rattle.nbd_wire.specs.protocol.States.{Core, Phase, Greet, Flags, Choosing, Naming, Aborting, Answering, Ended, Transmission, export_in, has_contexts}
-use Rattle.nbd_state.specs.declared.state.Chosen.{Chosen}
 use Rattle.nbd_state.specs.declared.state.Phase as states
 use Rattle.nbd_state.specs.declared.state.Phase.TheVariants as shown
-use Rattle.nbd_state.specs.declared.state.State.{State}
-use Rattle.nbd_state.specs.Completions.{MayTake}
-use Rattle.nbd_state.specs.internal.Completing.{IsTransmitting}
-use Rattle.nbd_state.specs.declared.selection.Selection.{Selection}
-use Rattle.nbd_state.specs.Shows.{HasSelection, Shows, export_shown, export_shown_if, phase_shown}
 use Rattle.nbd_state.proofs.PlacedLemmas.{place_shows_operation}
 use Rattle.nbd_state.proofs.CompletionLemmas.{negotiation_is_shown}
 

@@ -1,7 +1,6 @@
 -- The places of a row of requests that grows.
-use Rattle.std.proofs.Common.{◌≡◌, ℕ, zero, suc, ◌+◌, ◌-◌, ◌==◌, ◌&&◌, List, [], ◌∷◌, ◌++◌, length, get_or, Bool, true, false, nat_le, if◌then◌else◌, Some, None, refl, sym, ap, arith, eq-eqb, eqb-true}
-use Rattle.std.proofs.lemmas.Bool.{eqb-false, leb-false, leb-true, ne_eqb}
-use Rattle.std.proofs.lemmas.List.{get_or_push}
+use Rattle.nbd_state.proofs.Common.{◌≡◌, ℕ, zero, suc, ◌+◌, ◌-◌, ◌==◌, ◌&&◌, List, [], ◌∷◌, ◌++◌, length, get_or, Bool, true, false, nat_le, if◌then◌else◌, Some, None, refl, sym, ap, arith, eq-eqb, eqb-true, eqb-false, leb-false, leb-true, get_or_push}
+use Rattle.std.proofs.lemmas.Bool.{ne_eqb}
 
 -- one more at the end is not seen elsewhere
 elsewhere : (xs : List Bool) (i : ℕ) → (length xs ≡ i → ⊥) → get_or (xs ++ true ∷ []) i false ≡ get_or xs i false

@@ -1,14 +1,6 @@
 -- The exchanges of a state, and the requests that they show.
-use Rattle.std.proofs.Common.{◌≡◌, ℕ, zero, suc, ◌-◌, List, [], ◌∷◌, length, refl, sym, ◌∙◌, ap, subst, Option, Some, None, arith, slice_get}
-use Rattle.nbd_state.specs.Places.{place_at}
-use Rattle.nbd_wire.specs.protocol.Operations.{Operation, Exporting}
+use Rattle.nbd_state.proofs.Common.{◌≡◌, ℕ, zero, suc, ◌-◌, List, [], ◌∷◌, length, refl, sym, ◌∙◌, ap, subst, Option, Some, None, arith, slice_get, place_at, Operation, Exporting, Core, Transmission, operation, target, export_in, IsFound, find, Exchange, State, IsShown, AreShown, Shows, place_of}
 use Rattle.nbd_wire.specs.protocol.States as definitions
-use Rattle.nbd_wire.specs.protocol.States.{Core, Transmission, operation, target, export_in}
-use Rattle.nbd_laws.proofs.requests.OutstandingLemmas.{IsFound, find}
-use Rattle.nbd_state.specs.declared.asked.Exchange.{Exchange}
-use Rattle.nbd_state.specs.declared.state.State.{State}
-use Rattle.nbd_state.specs.Showing.{IsShown}
-use Rattle.nbd_state.specs.Shows.{AreShown, Shows, place_of}
 
 pub shown_length : (o : Option Exporting) (es : List Operation) (xs : List Exchange) → AreShown o es xs → length es ≡ length xs
 shown_length o [] [] s = refl

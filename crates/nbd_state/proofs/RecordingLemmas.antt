@@ -1,28 +1,9 @@
 -- An exchange after one more reply message.
-use Rattle.std.proofs.Common.{◌≡◌, ℕ, List, [], ◌∷◌, ◌++◌, ◌==◌, append_assoc, append-nil, refl, sym, ◌∙◌, ap, Bool, true, false, not, ◌&&◌, ◌||◌, if◌then◌else◌, Option, Some, None, is_some, Result, Ok, Err, IfOk, nat_lt, Equal, eqb-true, Less, ltb-true, Greater, ltb-false, arith, take}
-use Rattle.nbd_wire.specs.declared.message.Message.{Message}
-use Rattle.nbd_wire.specs.protocol.Operations.{Operation, Exporting, ends_reply, has_failed, is_failing, is_finished, is_proper, outcome, pieces, pieces_of}
+use Rattle.nbd_state.proofs.Common.{◌≡◌, ℕ, List, [], ◌∷◌, ◌++◌, ◌==◌, append_assoc, append-nil, refl, sym, ◌∙◌, ap, Bool, true, false, not, ◌&&◌, ◌||◌, if◌then◌else◌, Option, Some, None, is_some, Result, Ok, Err, IfOk, nat_lt, Equal, eqb-true, Less, Greater, arith, take, Message, Operation, Exporting, ends_reply, has_failed, is_failing, is_finished, is_proper, outcome, pieces, pieces_of, Piece, is_at, nat_cmp_is, is_eq, nat_cmp, eqb-false, Status, has_id, is_left_out, piece_of, is_allocation, is_settled, status_in, statuses, statuses_of, tells, zeroes, zeroes_in, zeroes_told, with_reply, Exchange, Outcome, Success, Failure, is_none_yet, AreCounted, IsShown, outcome_of, is_settled_by, TellsThese, Telling, pieces-snoc}
+use Rattle.std.proofs.Common.{ltb-true, ltb-false}
 use Rattle.nbd_wire.specs.declared.commands.TheConstants as commands
-use Rattle.nbd_wire.specs.declared.payloads.Piece.{Piece}
-use Rattle.std.specs.BTreeMap.{is_at}
-use Rattle.std.specs.Cmp.{nat_cmp_is}
-use Rattle.std.specs.Ordering.{is_eq, nat_cmp}
-use Rattle.std.proofs.lemmas.Bool.{eqb-false}
-use Rattle.nbd_wire.specs.protocol.Contexts.{Status, has_id, is_left_out}
-use Rattle.nbd_wire.specs.protocol.Pieces.{piece_of}
-use Rattle.nbd_wire.specs.protocol.Statuses.{is_allocation, is_settled, status_in, statuses, statuses_of, tells, zeroes, zeroes_in, zeroes_told}
 use Rattle.nbd_wire.specs.protocol.Operations as definitions
-use Rattle.nbd_wire.specs.protocol.States.{with_reply}
-use Rattle.nbd_state.specs.declared.asked.Exchange.{Exchange}
-use Rattle.nbd_state.specs.declared.asked.Outcome.{Outcome}
-use Rattle.nbd_state.specs.declared.asked.Outcome.TheVariants.{Success, Failure}
-use Rattle.nbd_wire.specs.protocol.Transmission.{is_none_yet}
-use Rattle.nbd_state.specs.Showing.{AreCounted, IsShown, outcome_of}
-use Rattle.nbd_state.specs.Filters.{is_settled_by}
-use Rattle.nbd_state.specs.Shows.{TellsThese}
-use Rattle.nbd_state.specs.declared.asking.Telling.{Telling}
 use Rattle.nbd_state.proofs.ReplyLemmas.{any-snoc, proper-same}
-use Rattle.nbd_laws.proofs.requests.LaidLemmas.{pieces-snoc}
 
 -- what stays as it was
 pub record IsKept (x y : Exchange) : Type 0 where

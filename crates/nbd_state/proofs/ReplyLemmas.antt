@@ -1,8 +1,5 @@
 -- A request with one more reply message.
-use Rattle.std.proofs.Common.{◌≡◌, List, [], ◌∷◌, ◌++◌, refl, Bool, true, false, ◌||◌}
-use Rattle.nbd_wire.specs.declared.message.Message.{Message}
-use Rattle.nbd_wire.specs.protocol.Operations.{Operation, Exporting, any, is_proper}
-use Rattle.nbd_wire.specs.protocol.States.{with_reply}
+use Rattle.nbd_state.proofs.Common.{◌≡◌, List, [], ◌∷◌, ◌++◌, refl, Bool, true, false, ◌||◌, Message, Operation, Exporting, any, is_proper, with_reply}
 
 pub or-false : (b : Bool) → (b || false) ≡ b
 or-false true = refl

@@ -1,18 +1,7 @@
 -- Whether contexts were selected.
-use Rattle.std.proofs.Common.{◌≡◌, ℕ, ◌==◌, ◌&&◌, ◌||◌, List, [], ◌∷◌, length, refl, sym, ◌∙◌, ap, subst, Bool, true, false, not, IsTrue, arith, Option}
+use Rattle.nbd_state.proofs.Common.{◌≡◌, ℕ, ◌==◌, ◌&&◌, ◌||◌, List, [], ◌∷◌, length, refl, sym, ◌∙◌, ap, subst, Bool, true, false, not, IsTrue, arith, Option, All-set_contains, is_at, BTreeSet, btree_set_len, contains, list_all, list_any, TellsThese, is_this, nat_cmp, nat_cmp_total, and_true, Context, has_id, are_settled}
 use Rattle.std.proofs.lemmas.Bool.{eq-eqb, eqb-true, ne_eqb}
-use Rattle.std.proofs.lemmas.Map.Views.{All-set_contains}
-use Rattle.std.specs.BTreeMap.{is_at}
-use Rattle.std.specs.BTreeSet.{BTreeSet, btree_set_len, contains}
-use Rattle.std.specs.List.{list_all, list_any}
-use Rattle.nbd_state.specs.Shows.{TellsThese}
-use Rattle.nbd_wire.specs.protocol.Rules.{is_this}
 use Rattle.nbd_state.proofs.RecordingLemmas.{at-same}
-use Rattle.std.specs.Ordering.{nat_cmp}
-use Rattle.std.proofs.lemmas.Cmp.{nat_cmp_total}
-use Rattle.nbd_laws.proofs.judge.BoolLemmas.{and_true}
-use Rattle.nbd_wire.specs.protocol.Contexts.{Context, has_id}
-use Rattle.nbd_wire.specs.protocol.Statuses.{are_settled}
 
 head_id : (c : Context) (contexts : List Context) → has_id (c ∷ contexts) c.id ≡ true
 head_id c contexts = ap (λ b. b || has_id contexts c.id) (eq-eqb c.id c.id refl)

@@ -1,11 +1,6 @@
 -- What a cookie finds once a request or a reply has completed.
-use Rattle.std.proofs.Common.{◌≡◌, ℕ, zero, suc, ◌+◌, ◌==◌, ◌&&◌, ◌||◌, not, List, [], ◌∷◌, ◌++◌, length, refl, sym, ◌∙◌, ap, subst, Some, None, Bool, true, false, if◌then◌else◌, arith, eqb-true}
-use Rattle.nbd_wire.specs.declared.message.Message.{Message}
-use Rattle.nbd_wire.specs.protocol.Operations.{Operation, ends_reply, is_finished}
-use Rattle.nbd_wire.specs.protocol.States.{Core, with_reply_at, operation, is_awaiting, target, target_from, with_reply}
-use Rattle.nbd_laws.specs.Reached.{IsReached, at_start, after_message}
+use Rattle.nbd_state.proofs.Common.{◌≡◌, ℕ, zero, suc, ◌+◌, ◌==◌, ◌&&◌, ◌||◌, not, List, [], ◌∷◌, ◌++◌, length, refl, sym, ◌∙◌, ap, subst, Some, None, Bool, true, false, if◌then◌else◌, arith, eqb-true, Message, Operation, ends_reply, is_finished, Core, with_reply_at, operation, is_awaiting, target, target_from, with_reply, IsReached, at_start, after_message, AreDistinct, Free, IsFound, both_true, distinct_complete, find, free_at, not_true_is_false}
 use Rattle.nbd_state.proofs.ReplyLemmas.{any-snoc}
-use Rattle.nbd_laws.proofs.requests.OutstandingLemmas.{AreDistinct, Free, IsFound, both_true, distinct_complete, find, free_at, not_true_is_false}
 
 pub distinct_reached : {core : Core} → IsReached core → AreDistinct core.entries
 distinct_reached at_start = tt

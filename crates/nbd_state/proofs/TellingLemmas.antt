@@ -1,22 +1,7 @@
 -- What the exchanges know once a message has completed, against the log.
-use Rattle.std.proofs.Common.{◌≡◌, ℕ, zero, suc, ◌+◌, ◌-◌, ◌<◌, ◌≤◌, ◌⊎◌, inl, inr, List, [], ◌∷◌, ◌++◌, length, refl, sym, ◌∙◌, ap, subst, Option, Some, None, arith, slice_get, slice_set}
-use Rattle.nbd_state.specs.Places.{place_at}
-use Rattle.nbd_wire.specs.declared.message.Message.{Message}
-use Rattle.nbd_wire.specs.declared.profile.Profile.{Profile}
-use Rattle.nbd_wire.specs.declared.profile.Profile.TheVariants.{Base}
-use Rattle.nbd_wire.specs.protocol.Rules.{request_of_reply, cookie_of, target_of}
-use Rattle.nbd_wire.specs.protocol.States.{Core, start, start_of, target, export_in}
-use Rattle.nbd_state.specs.declared.asked.Exchange.{Exchange}
-use Rattle.nbd_state.specs.declared.state.State.{State}
-use Rattle.nbd_state.specs.internal.Completing.{AddsUnanswered, TellsOne, known_first}
-use Rattle.nbd_state.specs.Completions.{core_from}
-use Rattle.nbd_state.specs.Logs.{LogEntry, known_by, known_here, messages_of}
-use Rattle.nbd_state.specs.Shows.{AreKnown, Shows, place_of}
+use Rattle.nbd_state.proofs.Common.{◌≡◌, ℕ, zero, suc, ◌+◌, ◌-◌, ◌<◌, ◌≤◌, ◌⊎◌, inl, inr, List, [], ◌∷◌, ◌++◌, length, refl, sym, ◌∙◌, ap, subst, Option, Some, None, arith, slice_get, slice_set, place_at, Message, Profile, Base, request_of_reply, cookie_of, target_of, Core, start, start_of, target, export_in, Exchange, State, AddsUnanswered, TellsOne, known_first, core_from, LogEntry, known_by, known_here, messages_of, AreKnown, Shows, place_of, same_number, with_profile, find}
 use Rattle.nbd_state.proofs.PlacedLemmas.{shown_length, no_entry}
-use Rattle.nbd_laws.proofs.service.EntryLemmas.{same_number}
-use Rattle.nbd_laws.specs.Profiles.{with_profile}
 use Rattle.nbd_state.proofs.KnownLemmas.{core_from_with, known_by-within, known_by-snoc, known_here-other, known_here-same, known_or, or_is, or_none}
-use Rattle.nbd_laws.proofs.requests.OutstandingLemmas.{find}
 
 -- an element of a list with another at one place
 set_at : (xs : List Exchange) (i p : ℕ) (x y : Exchange) → slice_get (slice_set xs i y) p ≡ Some x → ((p ≡ i) × (x ≡ y)) ⊎ ((p ≡ i → ⊥) × (slice_get xs p ≡ Some x))

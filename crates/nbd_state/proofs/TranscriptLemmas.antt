@@ -1,9 +1,5 @@
 -- What a transcript says of one request.
-use Rattle.std.proofs.Common.{◌≡◌, ℕ, zero, suc, ◌-◌, ◌<◌, ◌≤◌, List, [], ◌∷◌, map, length, slice_get, slice_index_or, refl, sym, ◌∙◌, ap, arith, Option, Some, None, SomeIff, nat_lt, true}
-use Rattle.std.proofs.lemmas.Bool.{ltb-true}
-use Rattle.nbd_wire.specs.protocol.Reports.{asked_at}
-use Rattle.nbd_state.specs.declared.asked.Exchange.{Exchange}
-use Rattle.nbd_state.specs.Transcripts.{report_of_request}
+use Rattle.nbd_state.proofs.Common.{◌≡◌, ℕ, zero, suc, ◌-◌, ◌<◌, ◌≤◌, List, [], ◌∷◌, map, length, slice_get, slice_index_or, refl, sym, ◌∙◌, ap, arith, Option, Some, None, SomeIff, nat_lt, true, ltb-true, asked_at, Exchange, report_of_request}
 
 told_place : (xs : List Exchange) (place : ℕ) (d : Exchange) → place < length xs → Some (report_of_request (slice_index_or xs place d).asked) ≡ slice_get (map (λ (x : Exchange). report_of_request x.asked) xs) place
 told_place [] place d l = absurd (omega (arith, l))

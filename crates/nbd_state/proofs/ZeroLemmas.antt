@@ -1,12 +1,7 @@
 -- What descriptors call zero, one after the other.
-use Rattle.std.proofs.Common.{◌≡◌, ℕ, ◌+◌, ◌-◌, ◌<◌, ◌≤◌, ◌^◌, ◌==◌, ◌&&◌, List, [], min, refl, sym, ◌∙◌, ap, Bool, true, false, if◌then◌else◌, nat_le, arith, leb-true, leb-false}
-use Rattle.nbd_wire.specs.declared.payloads.Piece.{Piece}
-use Rattle.nbd_wire.specs.protocol.Contexts.{Extent, Status}
-use Rattle.nbd_wire.specs.protocol.Statuses.{is_allocation, zeroes_in}
+use Rattle.nbd_state.proofs.Common.{◌≡◌, ℕ, ◌+◌, ◌-◌, ◌<◌, ◌≤◌, ◌^◌, ◌==◌, ◌&&◌, List, [], min, refl, sym, ◌∙◌, ap, Bool, true, false, if◌then◌else◌, nat_le, arith, Piece, Extent, Status, is_allocation, zeroes_in, Exporting, Operation, has_range, is_proper, proper_range, none_of_none}
+use Rattle.std.proofs.Common.{leb-true, leb-false}
 use Rattle.nbd_wire.specs.declared.commands.TheConstants as commands
-use Rattle.nbd_wire.specs.protocol.Operations.{Exporting, Operation, has_range, is_proper}
-use Rattle.nbd_laws.proofs.requests.SoundnessLemmas.{proper_range}
-use Rattle.nbd_laws.proofs.requests.ZeroLemmas.{none_of_none}
 
 -- what is left of the range is gone on with
 pub next_zeroes : (offset length left : ℕ) (x : Extent) (xs : List Extent) → left ≤ length →

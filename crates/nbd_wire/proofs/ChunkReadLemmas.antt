@@ -1,16 +1,7 @@
 -- What `content_of` and `failure_of` of the specification give, from what the readers saw.
-use Rattle.std.proofs.Common.{◌≡◌, ℕ, ◌+◌, ◌<◌, ◌≤◌, ◌==◌, List, length, drop, Option, Some, None, true, false, not, nat_le, ◌&&◌, refl, sym, ◌∙◌, ap, arith, subst, get_or}
-use Rattle.std.proofs.lemmas.Bool.{cond_both, cond-true, cond-false, eqb-true, eqb-false, eq-eqb, ne_eqb, not-true, leb-true, le-leb, lt-leb, and_parts, and_from, and_left}
-use Rattle.std.specs.Option.{option_map}
-use Rattle.nbd_wire.specs.declared.chunks.TheConstants.{OFFSET_DATA, OFFSET_HOLE, ERROR, ERROR_OFFSET}
-use Rattle.nbd_wire.specs.declared.payloads.Piece.{Piece}
-use Rattle.nbd_wire.specs.declared.payloads.Piece.TheVariants.{Bytes, Hole}
-use Rattle.nbd_wire.specs.declared.payloads.Failure.{Failure}
+use Rattle.nbd_wire.proofs.Common.{◌≡◌, ℕ, ◌+◌, ◌<◌, ◌≤◌, ◌==◌, List, length, drop, Option, Some, None, true, false, not, nat_le, ◌&&◌, refl, sym, ◌∙◌, ap, arith, subst, get_or, cond_both, cond-true, cond-false, eqb-true, eqb-false, eq-eqb, ne_eqb, not-true, leb-true, le-leb, lt-leb, and_parts, and_from, and_left, option_map, OFFSET_DATA, OFFSET_HOLE, ERROR, ERROR_OFFSET, Piece, Bytes, Hole, Failure, HasContentForm, HasFailureForm, number_at, content_of, failure_of, Reads, ReadsAs}
 use Rattle.nbd_wire.proofs.ChunkFormLemmas.{content_of-reads, failure_of-reads}
-use Rattle.nbd_wire.specs.protocol.Forms.{HasContentForm, HasFailureForm}
 use Rattle.nbd_wire.proofs.NumberLemmas.{AreBytes-from_places}
-use Rattle.nbd_wire.specs.protocol.Payloads.{number_at, content_of, failure_of}
-use Rattle.nbd_wire.specs.codec.Reads.{Reads, ReadsAs}
 
 pub data-short : (bytes : List ℕ) → length bytes ≤ 8 → None ≡ content_of OFFSET_DATA bytes
 unfolding content_of

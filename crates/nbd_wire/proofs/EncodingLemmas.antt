@@ -1,13 +1,6 @@
 -- What is known of the parts of an encoding.
-use Rattle.std.proofs.Common.{◌<◌, ◌^◌, length, true, false, arith}
-use Rattle.nbd_wire.specs.declared.message.Message.{Message}
-use Rattle.nbd_wire.specs.declared.message.Message.TheVariants.{Greeting, ClientFlags, Choice, Answer, Exported, Request, Simple, Chunk, ExtendedRequest, ExtendedChunk}
-use Rattle.nbd_wire.specs.protocol.Encoding.{tail}
-use Rattle.nbd_wire.specs.protocol.Sendable.{IsSendable}
-use Rattle.nbd_wire.specs.declared.commands.TheConstants.{WRITE}
-use Rattle.std.proofs.lemmas.Bool.{cond_both}
+use Rattle.nbd_wire.proofs.Common.{◌<◌, ◌^◌, length, true, false, arith, Message, Greeting, ClientFlags, Choice, Answer, Exported, Request, Simple, Chunk, ExtendedRequest, ExtendedChunk, tail, IsSendable, WRITE, cond_both, FitsItsHead}
 use Rattle.std.specs.Prelude.{if◌then◌else◌, ◌==◌}
-use Rattle.nbd_wire.specs.codec.Fits.{FitsItsHead}
 
 -- four bytes hold the length of what follows a head
 pub length-tail : (m : Message) → FitsItsHead m → length (tail m) < 2 ^ 32

@@ -1,12 +1,5 @@
 -- What stands at the places of an encoding.
-use Rattle.std.proofs.Common.{◌≡◌, ℕ, ◌+◌, ◌<◌, ◌≤◌, ◌^◌, List, ◌++◌, length, drop, refl, ◌∙◌, ap, arith, length-drop}
-use Rattle.std.proofs.lemmas.List.{drop-append-le}
-use Rattle.byteorder.specs.Numbers.{big_from-append, big_number-reads_back}
-use Rattle.byteorder.specs.Endian.{big_bytes, big_from}
-use Rattle.nbd_wire.specs.declared.magics.TheConstants.{EXTENDED_CHUNK_MAGIC, EXTENDED_REQUEST_MAGIC}
-use Rattle.nbd_wire.specs.declared.message.Message.TheVariants.{Request, Simple, Chunk, ExtendedRequest, ExtendedChunk}
-use Rattle.nbd_wire.specs.protocol.Encoding.{enc, head, tail}
-use Rattle.nbd_wire.specs.protocol.Payloads.{number_at}
+use Rattle.nbd_wire.proofs.Common.{◌≡◌, ℕ, ◌+◌, ◌<◌, ◌≤◌, ◌^◌, List, ◌++◌, length, drop, refl, ◌∙◌, ap, arith, length-drop, drop-append-le, big_from-append, big_number-reads_back, big_bytes, big_from, EXTENDED_CHUNK_MAGIC, EXTENDED_REQUEST_MAGIC, Request, Simple, Chunk, ExtendedRequest, ExtendedChunk, enc, head, tail, number_at}
 
 -- a number that stands whole in the first bytes
 pub number_at-append : (p n : ℕ) (xs ys : List ℕ) → p + n ≤ length xs → number_at p n (xs ++ ys) ≡ number_at p n xs

@@ -1,11 +1,6 @@
 -- Numbers that stand in bytes one behind the other, each in its width.
-use Rattle.std.proofs.Common.{◌≡◌, ℕ, ◌+◌, ◌<◌, ◌^◌, List, [], ◌∷◌, ◌++◌, length, drop, refl, sym, ◌∙◌, ap, subst, arith, length-drop, append-nil}
-use Rattle.std.proofs.lemmas.List.{append_assoc, drop_all, drop-drop}
-use Rattle.std.proofs.Math.Seq.{drop-append_seam}
-use Rattle.byteorder.specs.Endian.{big_bytes, big_number}
-use Rattle.byteorder.specs.Numbers.{big_number-reads_back, length-bytes_high_first}
-use Rattle.nbd_wire.specs.protocol.Encoding.{AreBytes}
-use Rattle.nbd_wire.specs.protocol.Payloads.{number_at}
+use Rattle.nbd_wire.proofs.Common.{◌≡◌, ℕ, ◌+◌, ◌<◌, ◌^◌, List, [], ◌∷◌, ◌++◌, length, drop, refl, sym, ◌∙◌, ap, subst, arith, length-drop, append-nil, drop_all, drop-drop, drop-append_seam, big_bytes, big_number, big_number-reads_back, length-bytes_high_first, AreBytes, number_at}
+use Rattle.std.proofs.lemmas.List.{append_assoc}
 use Rattle.nbd_wire.proofs.NumberLemmas.{with_number, number_at-lt}
 
 -- a width in bytes, and a number

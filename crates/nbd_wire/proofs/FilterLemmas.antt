@@ -1,17 +1,5 @@
 -- A filter's payload: `filter_of` gives exactly what has the form.
-use Rattle.std.proofs.Common.{◌≡◌, ℕ, zero, suc, ◌*◌, ◌/◌, ◌%◌, ◌<◌, ◌≤◌, ◌^◌, ◌==◌, ◌||◌, List, [], ◌∷◌, ◌++◌, length, drop, not, Option, Some, None, Bool, true, false, nat_le, if◌then◌else◌, refl, sym, ◌∙◌, ap, arith, length-drop, subst}
-use Rattle.std.specs.Prelude.{All}
-use Rattle.std.specs.Option.{option_map}
-use Rattle.std.proofs.lemmas.Bool.{eqb-false, eqb-true, leb-false, leb-true}
-use Rattle.std.proofs.lemmas.List.Elements.{All-cons, All-head, All-nil, All-tail}
-use Rattle.std.proofs.lemmas.Option.{none-some, same_Some}
-use Rattle.byteorder.specs.Endian.{big_bytes}
-use Rattle.byteorder.specs.Numbers.{big_number-reads_back}
-use Rattle.nbd_wire.specs.protocol.Encoding.{AreBytes}
-use Rattle.nbd_wire.specs.protocol.Contexts.{Filter}
-use Rattle.nbd_wire.specs.protocol.Forms.{HasFilterForm, with_ids}
-use Rattle.nbd_wire.specs.protocol.Payloads.{filter_of, ids_in, ids_of, number_at}
-use Rattle.nbd_wire.specs.codec.Reads.{ReadsAs}
+use Rattle.nbd_wire.proofs.Common.{◌≡◌, ℕ, zero, suc, ◌*◌, ◌/◌, ◌%◌, ◌<◌, ◌≤◌, ◌^◌, ◌==◌, ◌||◌, List, [], ◌∷◌, ◌++◌, length, drop, not, Option, Some, None, Bool, true, false, nat_le, if◌then◌else◌, refl, sym, ◌∙◌, ap, arith, length-drop, subst, All, option_map, eqb-false, eqb-true, leb-false, leb-true, All-cons, All-head, All-nil, All-tail, none-some, same_Some, big_bytes, big_number-reads_back, AreBytes, Filter, HasFilterForm, with_ids, filter_of, ids_in, ids_of, number_at, ReadsAs}
 use Rattle.nbd_wire.proofs.HeadLemmas.{with_next}
 use Rattle.nbd_wire.proofs.NumberLemmas.{AreBytes-drop, number_at-lt}
 use Rattle.nbd_wire.proofs.ReadLemmas.{Reads-found, Reads-none}

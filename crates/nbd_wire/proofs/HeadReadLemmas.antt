@@ -1,16 +1,6 @@
 -- What the readers of heads answer, from what they read at the places.
-use Rattle.std.proofs.Common.{◌≡◌, ℕ, List, Some, None, length, true, false}
-use Rattle.nbd_wire.specs.declared.magics.TheConstants.{GREETING_MAGIC, OPTION_MAGIC, ANSWER_MAGIC, REQUEST_MAGIC, SIMPLE_MAGIC, CHUNK_MAGIC, EXTENDED_REQUEST_MAGIC, EXTENDED_CHUNK_MAGIC}
-use Rattle.nbd_wire.specs.declared.heads.negotiation.ChoiceHead.{ChoiceHead}
-use Rattle.nbd_wire.specs.declared.heads.negotiation.AnswerHead.{AnswerHead}
-use Rattle.nbd_wire.specs.declared.heads.transmission.RequestHead.{RequestHead}
-use Rattle.nbd_wire.specs.declared.heads.transmission.SimpleHead.{SimpleHead}
-use Rattle.nbd_wire.specs.declared.heads.transmission.ChunkHead.{ChunkHead}
-use Rattle.nbd_wire.specs.protocol.Encoding.{AreBytes}
-use Rattle.nbd_wire.specs.codec.Heads.{IsGreetingHead, IsClientFlagsHead, IsChoiceHead, IsAnswerHead, IsExportHead, IsRequestHead, IsSimpleHead, IsChunkHead, IsExtendedRequestHead, IsExtendedChunkHead}
-use Rattle.nbd_wire.specs.protocol.Payloads.{number_at}
+use Rattle.nbd_wire.proofs.Common.{◌≡◌, ℕ, List, Some, None, length, true, false, GREETING_MAGIC, OPTION_MAGIC, ANSWER_MAGIC, REQUEST_MAGIC, SIMPLE_MAGIC, CHUNK_MAGIC, EXTENDED_REQUEST_MAGIC, EXTENDED_CHUNK_MAGIC, ChoiceHead, AnswerHead, RequestHead, SimpleHead, ChunkHead, AreBytes, IsGreetingHead, IsClientFlagsHead, IsChoiceHead, IsAnswerHead, IsExportHead, IsRequestHead, IsSimpleHead, IsChunkHead, IsExtendedRequestHead, IsExtendedChunkHead, number_at, Reads}
 use Rattle.nbd_wire.proofs.HeadLemmas.{greeting-found, greeting-only, client_flags-found, client_flags-only, choice-found, choice-only, answer-found, answer-only, export-found, export-only, request-found, request-only, simple-found, simple-only, chunk-found, chunk-only, extended_request-found, extended_request-only, extended_chunk-found, extended_chunk-only}
-use Rattle.nbd_wire.specs.codec.Reads.{Reads}
 use Rattle.nbd_wire.proofs.ReadLemmas.{Reads-found, Reads-none}
 
 -- a greeting

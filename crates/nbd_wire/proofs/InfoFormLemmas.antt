@@ -1,18 +1,7 @@
 -- `info_of` gives exactly what has the form of an INFO payload.
-use Rattle.std.proofs.Common.{◌≡◌, ◌≢◌, ℕ, ◌≤◌, ◌==◌, List, [], ◌++◌, length, drop, Option, Some, None, not, nat_le, refl, sym, ◌∙◌, ap, arith, subst}
-use Rattle.std.proofs.lemmas.Bool.{cond_both, cond-false, eqb-true, eqb-false, ne_eqb, not-false, leb-true, le-leb}
-use Rattle.std.proofs.lemmas.Option.{same_Some, none-some}
-use Rattle.byteorder.specs.Endian.{big_bytes}
-use Rattle.byteorder.specs.Numbers.{big_number-reads_back}
-use Rattle.nbd_wire.specs.declared.infos.TheConstants.{EXPORT, BLOCK_SIZE}
-use Rattle.nbd_wire.specs.declared.payloads.Info.{Info}
-use Rattle.nbd_wire.specs.declared.payloads.Info.TheVariants.{Export, BlockSize, Other}
-use Rattle.nbd_wire.specs.protocol.Encoding.{AreBytes}
-use Rattle.nbd_wire.specs.protocol.Forms.{HasInfoForm}
+use Rattle.nbd_wire.proofs.Common.{◌≡◌, ◌≢◌, ℕ, ◌≤◌, ◌==◌, List, [], ◌++◌, length, drop, Option, Some, None, not, nat_le, refl, sym, ◌∙◌, ap, arith, subst, cond_both, cond-false, eqb-true, eqb-false, ne_eqb, not-false, leb-true, le-leb, same_Some, none-some, big_bytes, big_number-reads_back, EXPORT, BLOCK_SIZE, Info, Export, BlockSize, Other, AreBytes, HasInfoForm, number_at, info_of, Reads}
 use Rattle.nbd_wire.proofs.NumberLemmas.{number_at-lt}
-use Rattle.nbd_wire.specs.protocol.Payloads.{number_at, info_of}
 use Rattle.nbd_wire.proofs.HeadLemmas.{with_known, with_next, with_last}
-use Rattle.nbd_wire.specs.codec.Reads.{Reads}
 
 export-found : (bytes : List ℕ) → AreBytes bytes → number_at 0 2 bytes ≡ EXPORT → length bytes ≡ 12 → HasInfoForm (Export (number_at 2 8 bytes) (number_at 10 2 bytes)) bytes
 unfolding HasInfoForm

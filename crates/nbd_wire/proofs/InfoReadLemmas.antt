@@ -1,14 +1,7 @@
 -- What `info_of` of the specification gives, from what the reader saw.
-use Rattle.std.proofs.Common.{◌≡◌, ℕ, ◌<◌, ◌≤◌, ◌==◌, List, length, Option, Some, None, false, not, nat_le, sym, ◌∙◌, ap, subst, get_or}
-use Rattle.std.proofs.lemmas.Bool.{cond-true, cond-false, eq-eqb, ne_eqb, le-leb, lt-leb}
-use Rattle.nbd_wire.specs.declared.infos.TheConstants.{EXPORT, BLOCK_SIZE}
-use Rattle.nbd_wire.specs.declared.payloads.Info.{Info}
-use Rattle.nbd_wire.specs.declared.payloads.Info.TheVariants.{Export, BlockSize, Other}
-use Rattle.nbd_wire.specs.protocol.Forms.{HasInfoForm}
+use Rattle.nbd_wire.proofs.Common.{◌≡◌, ℕ, ◌<◌, ◌≤◌, ◌==◌, List, length, Option, Some, None, false, not, nat_le, sym, ◌∙◌, ap, subst, get_or, cond-true, cond-false, eq-eqb, ne_eqb, le-leb, lt-leb, EXPORT, BLOCK_SIZE, Info, Export, BlockSize, Other, HasInfoForm, number_at, info_of, Reads}
 use Rattle.nbd_wire.proofs.InfoFormLemmas.{info_of-reads}
 use Rattle.nbd_wire.proofs.NumberLemmas.{AreBytes-from_places}
-use Rattle.nbd_wire.specs.protocol.Payloads.{number_at, info_of}
-use Rattle.nbd_wire.specs.codec.Reads.{Reads}
 
 pub info-short : (bytes : List ℕ) → length bytes < 2 → None ≡ info_of bytes
 unfolding info_of

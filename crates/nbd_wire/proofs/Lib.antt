@@ -1,3 +1,4 @@
+pub mod Common
 pub mod ChunkFormLemmas
 pub mod ChunkReadLemmas
 pub mod EncodingLemmas

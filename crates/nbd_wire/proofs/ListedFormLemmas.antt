@@ -1,15 +1,6 @@
 -- What stands after a length of four bytes, and `is_listed` and `is_go`, which test for it.
-use Rattle.std.proofs.Common.{◌≡◌, ℕ, ◌+◌, ◌*◌, ◌<◌, ◌≤◌, ◌^◌, ◌==◌, List, ◌++◌, length, take, drop, Bool, true, nat_le, IsTrue, refl, sym, ◌∙◌, ap, arith, length-drop, length-append, append_assoc, subst}
-use Rattle.std.specs.Prelude.{◌↔◌}
-use Rattle.std.proofs.Math.Seq.{take-append_seam, drop-append_seam}
-use Rattle.std.proofs.lemmas.Bool.{eqb-true, eq-eqb, leb-true, le-leb, and_parts, and_from}
-use Rattle.std.proofs.lemmas.List.{take-append-drop, length-take-le}
-use Rattle.byteorder.specs.Endian.{big_bytes}
-use Rattle.byteorder.specs.Numbers.{big_number-reads_back}
-use Rattle.nbd_wire.specs.protocol.Encoding.{AreBytes}
-use Rattle.nbd_wire.specs.protocol.Forms.{HasListedForm, HasGoForm}
+use Rattle.nbd_wire.proofs.Common.{◌≡◌, ℕ, ◌+◌, ◌*◌, ◌<◌, ◌≤◌, ◌^◌, ◌==◌, List, ◌++◌, length, take, drop, Bool, true, nat_le, IsTrue, refl, sym, ◌∙◌, ap, arith, length-drop, length-append, append_assoc, subst, ◌↔◌, take-append_seam, drop-append_seam, eqb-true, eq-eqb, leb-true, le-leb, and_parts, and_from, take-append-drop, length-take-le, big_bytes, big_number-reads_back, AreBytes, HasListedForm, HasGoForm, number_at, is_listed, is_go}
 use Rattle.nbd_wire.proofs.NumberLemmas.{AreBytes-drop, number_at-drop, number_at-lt}
-use Rattle.nbd_wire.specs.protocol.Payloads.{number_at, is_listed, is_go}
 use Rattle.nbd_wire.proofs.HeadLemmas.{with_next}
 
 -- a length that is not too large counts out a name and leaves a rest

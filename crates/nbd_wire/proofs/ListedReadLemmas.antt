@@ -1,17 +1,7 @@
 -- What the readers of names answer.
-use Rattle.std.proofs.Common.{◌≡◌, ℕ, ◌+◌, ◌-◌, ◌*◌, ◌<◌, ◌≤◌, List, length, take, drop, Option, Some, None, Bool, false, IsTrue, nat_le, refl, sym, ◌∙◌, ap, arith, length-drop, subst}
-use Rattle.std.specs.Prelude.{is_some}
-use Rattle.std.specs.List.{IsSplitAt}
-use Rattle.std.specs.Option.{MatchOption}
-use Rattle.std.proofs.lemmas.Bool.{false_from_ne_true, and_left, lt-leb}
-use Rattle.std.proofs.lemmas.Option.{none-some}
-use Rattle.std.proofs.lemmas.List.{take_all}
-use Rattle.nbd_wire.specs.protocol.Encoding.{AreBytes}
-use Rattle.nbd_wire.specs.protocol.Forms.{HasListedForm, HasGoForm}
+use Rattle.nbd_wire.proofs.Common.{◌≡◌, ℕ, ◌+◌, ◌-◌, ◌*◌, ◌<◌, ◌≤◌, List, length, take, drop, Option, Some, None, Bool, false, IsTrue, nat_le, refl, sym, ◌∙◌, ap, arith, length-drop, subst, is_some, IsSplitAt, MatchOption, false_from_ne_true, and_left, lt-leb, none-some, take_all, AreBytes, HasListedForm, HasGoForm, number_at, is_listed, is_go, Reads, ReadsAs}
 use Rattle.nbd_wire.proofs.ListedFormLemmas.{Counted, listed-found, listed-only, counted-one, is_listed-exact, is_go-exact, go-found, go-only}
 use Rattle.nbd_wire.proofs.NumberLemmas.{AreBytes-drop}
-use Rattle.nbd_wire.specs.protocol.Payloads.{number_at, is_listed, is_go}
-use Rattle.nbd_wire.specs.codec.Reads.{Reads, ReadsAs}
 use Rattle.nbd_wire.proofs.ReadLemmas.{Reads-found, Reads-none}
 
 pub same_pair : {A B : Type 0} (a x : A) (b y : B) → a ≡ x → b ≡ y → ◌≡◌ {A = A × B} (a, b) (x, y)

@@ -1,13 +1,5 @@
 -- Bytes are the bytes of the numbers that stand in them.
-use Rattle.std.proofs.Common.{◌≡◌, ℕ, zero, suc, ◌+◌, ◌*◌, ◌/◌, ◌%◌, ◌<◌, ◌≤◌, ◌^◌, List, [], ◌∷◌, ◌++◌, length, take, drop, slice_index, refl, sym, ◌∙◌, ap, arith}
-use Rattle.std.proofs.Math.Nat.{div-one, mod-eq_of_lt, mul-add-div_right, one-le-pow, pow-succ', mul_assoc, mul-add-mod_self_right}
-use Rattle.std.proofs.lemmas.Nat.{div-mul-add}
-use Rattle.std.proofs.lemmas.List.{take-append-drop, drop-drop}
-use Rattle.std.specs.Int.{byte_at, bytes_high_first}
-use Rattle.byteorder.specs.Endian.{big_from, big_bytes, big_number}
-use Rattle.byteorder.specs.Numbers.{big_from-cons, big_from-lt}
-use Rattle.nbd_wire.specs.protocol.Encoding.{AreBytes}
-use Rattle.nbd_wire.specs.protocol.Payloads.{number_at}
+use Rattle.nbd_wire.proofs.Common.{◌≡◌, ℕ, zero, suc, ◌+◌, ◌*◌, ◌/◌, ◌%◌, ◌<◌, ◌≤◌, ◌^◌, List, [], ◌∷◌, ◌++◌, length, take, drop, slice_index, refl, sym, ◌∙◌, ap, arith, div-one, mod-eq_of_lt, mul-add-div_right, one-le-pow, pow-succ', mul_assoc, mul-add-mod_self_right, div-mul-add, take-append-drop, drop-drop, byte_at, bytes_high_first, big_from, big_bytes, big_number, big_from-cons, big_from-lt, AreBytes, number_at}
 
 byte_at-pow : (k x : ℕ) → byte_at k x ≡ x / 256 ^ k % 256
 byte_at-pow zero x = ap (λ (y : ℕ). y % 256) (sym (div-one x))

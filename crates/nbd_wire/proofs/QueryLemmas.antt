@@ -1,17 +1,5 @@
 -- The data of LIST_META_CONTEXT and SET_META_CONTEXT: `queries_of` gives exactly what has the form.
-use Rattle.std.proofs.Common.{◌≡◌, ℕ, zero, suc, ◌-◌, ◌<◌, ◌≤◌, ◌^◌, ◌==◌, ◌&&◌, List, [], ◌∷◌, ◌++◌, length, take, drop, Option, Some, None, Bool, true, false, nat_le, if◌then◌else◌, refl, sym, ◌∙◌, ap, arith, append_assoc, subst}
-use Rattle.std.specs.Prelude.{All, IfSome}
-use Rattle.std.specs.Option.{option_map}
-use Rattle.std.proofs.lemmas.Bool.{and_parts, eqb-true, le-leb, leb-false, leb-true, lt-leb}
-use Rattle.std.proofs.lemmas.List.Elements.{All-cons, All-head, All-nil, All-tail}
-use Rattle.std.proofs.lemmas.Option.{none-some, same_Some}
-use Rattle.byteorder.specs.Endian.{big_bytes}
-use Rattle.byteorder.specs.Numbers.{big_number-reads_back}
-use Rattle.nbd_wire.specs.protocol.Encoding.{AreBytes}
-use Rattle.nbd_wire.specs.protocol.Contexts.{Context}
-use Rattle.nbd_wire.specs.protocol.Forms.{HasContextForm, HasListedForm, HasQueriesForm, with_lengths}
-use Rattle.nbd_wire.specs.protocol.Payloads.{are_queries, behind_name, context_of, is_listed, name_in, number_at, queries_of}
-use Rattle.nbd_wire.specs.codec.Reads.{ReadsAs}
+use Rattle.nbd_wire.proofs.Common.{◌≡◌, ℕ, zero, suc, ◌-◌, ◌<◌, ◌≤◌, ◌^◌, ◌==◌, ◌&&◌, List, [], ◌∷◌, ◌++◌, length, take, drop, Option, Some, None, Bool, true, false, nat_le, if◌then◌else◌, refl, sym, ◌∙◌, ap, arith, append_assoc, subst, All, IfSome, option_map, and_parts, eqb-true, le-leb, leb-false, leb-true, lt-leb, All-cons, All-head, All-nil, All-tail, none-some, same_Some, big_bytes, big_number-reads_back, AreBytes, Context, HasContextForm, HasListedForm, HasQueriesForm, with_lengths, are_queries, behind_name, context_of, is_listed, name_in, number_at, queries_of, ReadsAs}
 use Rattle.nbd_wire.proofs.HeadLemmas.{with_next}
 use Rattle.nbd_wire.proofs.ListedFormLemmas.{Counted, is_listed-exact, listed-only}
 use Rattle.nbd_wire.proofs.ListedReadLemmas.{same_pair}

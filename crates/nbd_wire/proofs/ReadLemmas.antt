@@ -1,7 +1,5 @@
 use Rattle.std.specs.Prelude.{◌≡◌, Some, None}
-use Rattle.std.proofs.Common.{sym, ap, subst}
-use Rattle.std.proofs.lemmas.Option.{same_Some, none-some}
-use Rattle.nbd_wire.specs.codec.Reads.{Reads}
+use Rattle.nbd_wire.proofs.Common.{sym, ap, subst, same_Some, none-some, Reads}
 
 -- an answer that has the form, where no other value has it
 pub Reads-found : {A : Type 0} (Form : A → Type 0) (answer value : A) → answer ≡ value → Form value → ((other : A) → Form other → value ≡ other) → Reads (Some answer) Form

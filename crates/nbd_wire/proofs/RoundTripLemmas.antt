@@ -1,11 +1,5 @@
 use Rattle.std.specs.Prelude.{◌≡◌}
-use Rattle.std.proofs.Common.{ℕ, ◌<◌, ◌^◌, arith, take, drop, refl, true, false}
-use Rattle.nbd_wire.specs.declared.message.Message.{Message}
-use Rattle.nbd_wire.specs.declared.message.Message.TheVariants.{Greeting, ClientFlags, Choice, Answer, Exported, Request, Simple, Chunk, ExtendedRequest, ExtendedChunk}
-use Rattle.nbd_wire.specs.protocol.Encoding.{enc, head, tail}
-use Rattle.nbd_wire.specs.codec.Heads.{IsGreetingHead, IsClientFlagsHead, IsChoiceHead, IsAnswerHead, IsExportHead, IsRequestHead, IsSimpleHead, IsChunkHead, IsExtendedRequestHead, IsExtendedChunkHead}
-use Rattle.nbd_wire.specs.protocol.Sendable.{IsSendable}
-use Rattle.nbd_wire.specs.codec.RoundTrip.{head_length, IsHeadOf}
+use Rattle.nbd_wire.proofs.Common.{ℕ, ◌<◌, ◌^◌, arith, take, drop, refl, true, false, Message, Greeting, ClientFlags, Choice, Answer, Exported, Request, Simple, Chunk, ExtendedRequest, ExtendedChunk, enc, head, tail, IsGreetingHead, IsClientFlagsHead, IsChoiceHead, IsAnswerHead, IsExportHead, IsRequestHead, IsSimpleHead, IsChunkHead, IsExtendedRequestHead, IsExtendedChunkHead, IsSendable, head_length, IsHeadOf}
 
 -- an encoding is read back
 pub read_back : (m : Message) → IsSendable m → IsHeadOf m (take (head_length m) (enc m)) × (drop (head_length m) (enc m) ≡ tail m)

@@ -1,8 +1,6 @@
 -- The numbers of two bytes that GO names.
-use Rattle.std.proofs.Common.{◌≡◌, ℕ, zero, suc, ◌-◌, ◌<◌, ◌==◌, ◌||◌, ◌+◌, ◌*◌, List, length, drop, Bool, true, false, refl, sym, ◌∙◌, ap, arith, eq-eqb, eqb-true}
-use Rattle.nbd_wire.specs.protocol.Forms.{HasGoForm, HasListedForm}
-use Rattle.nbd_wire.specs.protocol.Payloads.{behind_name, number_at}
-use Rattle.nbd_wire.specs.protocol.Sizes.{has_number}
+use Rattle.nbd_wire.proofs.Common.{◌≡◌, ℕ, zero, suc, ◌-◌, ◌<◌, ◌==◌, ◌||◌, ◌+◌, ◌*◌, List, length, drop, Bool, true, false, refl, sym, ◌∙◌, ap, arith, HasGoForm, HasListedForm, behind_name, number_at, has_number}
+use Rattle.std.proofs.Common.{eq-eqb, eqb-true}
 use Rattle.nbd_wire.proofs.ListedFormLemmas.{go-only}
 use Rattle.nbd_wire.proofs.QueryLemmas.{behind}
 

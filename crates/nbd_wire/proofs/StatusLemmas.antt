@@ -1,17 +1,5 @@
 -- A status chunk's payload: `status_of` gives exactly what has the form.
-use Rattle.std.proofs.Common.{◌≡◌, ℕ, zero, suc, ◌+◌, ◌-◌, ◌*◌, ◌/◌, ◌%◌, ◌<◌, ◌≤◌, ◌^◌, ◌==◌, ◌||◌, List, [], ◌∷◌, ◌++◌, length, drop, not, Option, Some, None, Bool, true, false, nat_le, if◌then◌else◌, refl, sym, ◌∙◌, ap, arith, length-drop, append_assoc, subst}
-use Rattle.std.specs.Prelude.{All}
-use Rattle.std.specs.Option.{option_map}
-use Rattle.std.proofs.lemmas.Bool.{eqb-false, eqb-true, leb-false, leb-true, ne_eqb}
-use Rattle.std.proofs.lemmas.List.Elements.{All-cons, All-head, All-nil, All-tail}
-use Rattle.std.proofs.lemmas.Option.{none-some, same_Some}
-use Rattle.byteorder.specs.Endian.{big_bytes}
-use Rattle.byteorder.specs.Numbers.{big_number-reads_back}
-use Rattle.nbd_wire.specs.protocol.Encoding.{AreBytes}
-use Rattle.nbd_wire.specs.protocol.Contexts.{Extent, Status}
-use Rattle.nbd_wire.specs.protocol.Forms.{HasStatusForm, with_extents}
-use Rattle.nbd_wire.specs.protocol.Payloads.{extents_in, extents_of, has_empty, number_at, status_of}
-use Rattle.nbd_wire.specs.codec.Reads.{ReadsAs}
+use Rattle.nbd_wire.proofs.Common.{◌≡◌, ℕ, zero, suc, ◌+◌, ◌-◌, ◌*◌, ◌/◌, ◌%◌, ◌<◌, ◌≤◌, ◌^◌, ◌==◌, ◌||◌, List, [], ◌∷◌, ◌++◌, length, drop, not, Option, Some, None, Bool, true, false, nat_le, if◌then◌else◌, refl, sym, ◌∙◌, ap, arith, length-drop, append_assoc, subst, All, option_map, eqb-false, eqb-true, leb-false, leb-true, ne_eqb, All-cons, All-head, All-nil, All-tail, none-some, same_Some, big_bytes, big_number-reads_back, AreBytes, Extent, Status, HasStatusForm, with_extents, extents_in, extents_of, has_empty, number_at, status_of, ReadsAs}
 use Rattle.nbd_wire.proofs.HeadLemmas.{with_known, with_next}
 use Rattle.nbd_wire.proofs.NumberLemmas.{AreBytes-drop, number_at-lt}
 use Rattle.nbd_wire.proofs.ReadLemmas.{Reads-found, Reads-none}

@@ -1,18 +1,6 @@
 -- What an entry that is served compares and changes.
-use Rattle.std.proofs.Common.{◌≡◌, ℕ, ◌+◌, ◌<◌, ◌≤◌, inl, inr, List, [], ◌∷◌, ◌++◌, sym, ◌∙◌, ap, subst, Option, Some, arith, true, slice_get, take, ◌⊎◌}
+use Rattle.nbd_judge.proofs.Common.{◌≡◌, ℕ, ◌+◌, ◌<◌, ◌≤◌, inl, inr, List, [], ◌∷◌, ◌++◌, sym, ◌∙◌, ap, subst, Option, Some, arith, true, slice_get, take, ◌⊎◌, Entry, in_part, Effect, IsWrong, IsWrongIn, IsWrongOf, byte_before, effect, effects, is_success, is_in, Asked, Report, AreSameBelow, IsLeast, contents_with_effect, contents_after, IsServable, HasWrongFrom, take_more, get_or_from_slice_get, slice_get_within, and_parts, cases_eq}
 use Rattle.nbd_wire.specs.declared.commands.TheConstants as commands
-use Rattle.nbd_wire.specs.declared.entry.Entry.{Entry}
-use Rattle.nbd_wire.specs.protocol.Entries.{in_part}
-use Rattle.nbd_wire.specs.protocol.ExportBytes.{Effect, IsWrong, IsWrongIn, IsWrongOf, byte_before, effect, effects, is_success}
-use Rattle.nbd_wire.specs.protocol.Pieces.{is_in}
-use Rattle.nbd_wire.specs.protocol.Reports.{Asked, Report}
-use Rattle.nbd_export.specs.Ranges.{AreSameBelow, IsLeast}
-use Rattle.nbd_judge.specs.Folding.{contents_with_effect, contents_after}
-use Rattle.nbd_judge.specs.internal.Servable.{IsServable}
-use Rattle.nbd_judge.specs.Verdicts.{HasWrongFrom}
-use Rattle.std.proofs.lemmas.List.{take_more}
-use Rattle.std.proofs.lemmas.Option.{get_or_from_slice_get, slice_get_within}
-use Rattle.std.proofs.lemmas.Bool.{and_parts, cases_eq}
 use Rattle.nbd_judge.proofs.contents.CompareLemmas.{from_in, least_as, wrong_of, wrong_there}
 use Rattle.nbd_judge.proofs.contents.ForwardLemmas.{after_push, applied_same, folding}
 

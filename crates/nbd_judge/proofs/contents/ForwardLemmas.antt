@@ -1,10 +1,5 @@
 -- The contents taken forward are the bytes looked up backwards.
-use Rattle.std.proofs.Common.{◌≡◌, ℕ, List, [], ◌∷◌, ◌++◌, refl, ◌∙◌, ap, Option, Some, None, Bool, true, false, if◌then◌else◌, take}
-use Rattle.nbd_wire.specs.declared.entry.Entry.{Entry}
-use Rattle.nbd_wire.specs.declared.entry.Part.{Part}
-use Rattle.nbd_wire.specs.protocol.ExportBytes.{Effect, last_touch, later, effect_byte, byte_or_start, touches, touch_of}
-use Rattle.nbd_export.specs.Ranges.{AreSameBelow}
-use Rattle.nbd_judge.specs.Folding.{Folding, contents_with_effect, contents_after}
+use Rattle.nbd_judge.proofs.Common.{◌≡◌, ℕ, List, [], ◌∷◌, ◌++◌, refl, ◌∙◌, ap, Option, Some, None, Bool, true, false, if◌then◌else◌, take, Entry, Part, Effect, last_touch, later, effect_byte, byte_or_start, touches, touch_of, AreSameBelow, Folding, contents_with_effect, contents_after}
 
 one_applied : (p : Option Part) (e : Option Effect) (old : ℕ → Option ℕ) (x : ℕ) → contents_with_effect p e old x ≡ byte_or_start (touch_of p e x) old x
 one_applied p None old x = refl

@@ -1,15 +1,6 @@
 -- A part that may be served lies in its request's range.
-use Rattle.std.proofs.Common.{◌≡◌, ℕ, ◌+◌, ◌-◌, ◌<◌, ◌≤◌, ◌&&◌, inl, inr, List, refl, sym, ◌∙◌, ap, subst, take, Option, Some, None, Bool, true, false, arith, nat_lt, slice_get, ◌||◌, not, ◌==◌}
-use Rattle.std.proofs.lemmas.Bool.{and_parts, cases_eq}
-use Rattle.nbd_wire.specs.declared.entry.Entry.{Entry}
-use Rattle.nbd_wire.specs.declared.entry.Part.{Part}
-use Rattle.nbd_wire.specs.protocol.Entries.{IsMisplaced, inside, inside_of}
-use Rattle.nbd_wire.specs.protocol.Operations.{Exporting, has_range}
-use Rattle.nbd_wire.specs.protocol.Orders.{IsBadPart}
+use Rattle.nbd_judge.proofs.Common.{◌≡◌, ℕ, ◌+◌, ◌-◌, ◌<◌, ◌≤◌, ◌&&◌, inl, inr, List, refl, sym, ◌∙◌, ap, subst, take, Option, Some, None, Bool, true, false, arith, nat_lt, slice_get, ◌||◌, not, ◌==◌, and_parts, cases_eq, Entry, Part, IsMisplaced, inside, inside_of, Exporting, has_range, IsBadPart, is_in, Asked, Report, asked_at, inside_asked, inside_in, IsPartIn}
 use Rattle.nbd_wire.specs.declared.commands.TheConstants as commands
-use Rattle.nbd_wire.specs.protocol.Pieces.{is_in}
-use Rattle.nbd_wire.specs.protocol.Reports.{Asked, Report, asked_at, inside_asked, inside_in}
-use Rattle.nbd_judge.specs.internal.Servable.{IsPartIn}
 use Rattle.nbd_judge.proofs.contents.CompareLemmas.{from_in, in_from}
 
 -- what lies inside a request lies in its range

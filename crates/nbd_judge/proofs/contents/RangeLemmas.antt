@@ -1,22 +1,6 @@
 -- Bytes of a range, taken out of a list of bytes.
-use Rattle.std.proofs.Common.{◌≡◌, ℕ, zero, suc, ◌+◌, ◌-◌, ◌<◌, ◌≤◌, ◌&&◌, ◌⊎◌, inl, inr, List, [], ◌∷◌, length, refl, sym, ◌∙◌, ap, subst, Option, Some, None, Bool, true, false, if◌then◌else◌, arith, le_refl, max, min, slice_get, slice_range, take, drop}
+use Rattle.nbd_judge.proofs.Common.{◌≡◌, ℕ, zero, suc, ◌+◌, ◌-◌, ◌<◌, ◌≤◌, ◌&&◌, ◌⊎◌, inl, inr, List, [], ◌∷◌, length, refl, sym, ◌∙◌, ap, subst, Option, Some, None, Bool, true, false, if◌then◌else◌, arith, le_refl, max, min, slice_get, slice_range, take, drop, Part, Piece, Bytes, Hole, effect, effect_byte, is_success, new_byte, serves, is_change, is_in, piece_byte, piece_offset, piece_size, Asked, lesser_of, DiffersIn, IsLeast, bytes_from, overlay, zeroes, contents_with_effect, Span, DiffersInOneWithin, DiffersWithin, length-drop, length-take-le, nat_tests, and-true, slice_get-get_or, IsPartIn, served_span}
 use Rattle.nbd_wire.specs.declared.commands.TheConstants as commands
-use Rattle.nbd_wire.specs.declared.entry.Part.{Part}
-use Rattle.nbd_wire.specs.declared.payloads.Piece.{Piece}
-use Rattle.nbd_wire.specs.declared.payloads.Piece.TheVariants.{Bytes, Hole}
-use Rattle.nbd_wire.specs.protocol.ExportBytes.{effect, effect_byte, is_success, new_byte, serves}
-use Rattle.nbd_wire.specs.protocol.Operations.{is_change}
-use Rattle.nbd_wire.specs.protocol.Pieces.{is_in, piece_byte, piece_offset, piece_size}
-use Rattle.nbd_wire.specs.protocol.Reports.{Asked, lesser_of}
-use Rattle.nbd_export.specs.Ranges.{DiffersIn, IsLeast, bytes_from, overlay, zeroes}
-use Rattle.nbd_judge.specs.Folding.{contents_with_effect}
-use Rattle.nbd_state.specs.declared.span.Span.{Span}
-use Rattle.nbd_judge.specs.internal.Pieces.{DiffersInOneWithin, DiffersWithin}
-use Rattle.std.proofs.lemmas.List.{length-drop, length-take-le}
-use Rattle.std.proofs.lemmas.Bool.Decides.{nat_tests}
-use Rattle.std.proofs.Math.Bool.{and-true}
-use Rattle.std.proofs.lemmas.Option.{slice_get-get_or}
-use Rattle.nbd_judge.specs.internal.Servable.{IsPartIn, served_span}
 use Rattle.nbd_judge.proofs.contents.CompareLemmas.{from_in, from_more, in_from, least_as, least_lesser, to_more}
 
 pub drop_get : {A : Type 0} (xs : List A) (a i : ℕ) → slice_get (drop a xs) i ≡ slice_get xs (a + i)

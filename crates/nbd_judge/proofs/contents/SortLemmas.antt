@@ -1,22 +1,5 @@
 -- Pieces in the order of their offsets, and those that meet a part.
-use Rattle.std.proofs.Common.{◌≡◌, ℕ, zero, suc, ◌+◌, ◌-◌, ◌<◌, ◌≤◌, inl, inr, List, [], ◌∷◌, length, max, refl, sym, ◌∙◌, ap, subst, Option, Some, None, Bool, true, false, arith, nat_le, nat_lt, cond, slice_get, slice_index_or, IsTrue, map, Bor, take, drop, filter, sum_by}
-use Rattle.std.proofs.lemmas.Bool.{leb-true, leb-false, lt-ltb, ltb-false, ltb-true, cases_eq}
-use Rattle.std.proofs.lemmas.List.{length-drop, length-map, length-take-le}
-use Rattle.std.proofs.lemmas.List.Sums.{sum_by-cons}
-use Rattle.std.proofs.lemmas.List.Sorted.{Contains-permutation, IsPermutation-map, IsPermutation-sym, sum_by-IsPermutation}
-use Rattle.std.proofs.lemmas.Option.{get_or_from_slice_get, slice_get_within, slice_get-get_or, slice_get-map}
-use Rattle.std.specs.Option.{option_map}
-use Rattle.std.specs.BTreeMap.{BTreeMap, get}
-use Rattle.std.specs.Ordering.{nat_cmp}
-use Rattle.std.specs.List.{Contains}
-use Rattle.std.specs.List.Sorted.{IsNonDecreasingBy, IsPartitionPoint, IsPermutation}
-use Rattle.std.specs.declared.vec.Vec.{Vec}
-use Rattle.nbd_wire.specs.declared.entry.Part.{Part}
-use Rattle.nbd_wire.specs.declared.payloads.Piece.{Piece}
-use Rattle.nbd_wire.specs.protocol.Pieces.{holds, is_in, piece_offset, piece_size}
-use Rattle.nbd_wire.specs.protocol.Reports.{Asked, asked_at}
-use Rattle.nbd_export.specs.Ranges.{IsLeast}
-use Rattle.nbd_judge.specs.internal.Pieces.{AddsSorted, AreApart, AreInOrder, AreInside, AreSorted, AreThose, DiffersInOneOf, DiffersInOneWithin, IsOneOf, IsSortedAt}
+use Rattle.nbd_judge.proofs.Common.{◌≡◌, ℕ, zero, suc, ◌+◌, ◌-◌, ◌<◌, ◌≤◌, inl, inr, List, [], ◌∷◌, length, max, refl, sym, ◌∙◌, ap, subst, Option, Some, None, Bool, true, false, arith, nat_le, nat_lt, cond, slice_get, slice_index_or, IsTrue, map, Bor, take, drop, filter, sum_by, leb-true, leb-false, lt-ltb, ltb-false, ltb-true, cases_eq, length-drop, length-map, length-take-le, sum_by-cons, Contains-permutation, IsPermutation-map, IsPermutation-sym, sum_by-IsPermutation, get_or_from_slice_get, slice_get_within, slice_get-get_or, slice_get-map, option_map, BTreeMap, get, nat_cmp, Contains, IsNonDecreasingBy, IsPartitionPoint, IsPermutation, Vec, Part, Piece, holds, is_in, piece_offset, piece_size, Asked, asked_at, IsLeast, AddsSorted, AreApart, AreInOrder, AreInside, AreSorted, AreThose, DiffersInOneOf, DiffersInOneWithin, IsOneOf, IsSortedAt}
 use Rattle.nbd_judge.proofs.contents.CompareLemmas.{contained, from_in, in_from, least_as}
 use Rattle.nbd_judge.proofs.contents.RangeLemmas.{drop_get, take_get}
 

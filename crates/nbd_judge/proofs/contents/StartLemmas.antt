@@ -1,27 +1,11 @@
 -- A verdict depends on the bytes at first only below the export's size.
-use Rattle.std.proofs.Common.{◌≡◌, ℕ, ◌+◌, ◌<◌, ◌≤◌, List, refl, sym, ◌∙◌, ap, arith, Option, Some, None, Result, Ok, Err, IfOk, take, inl, inr, ◌⊎◌}
-use Rattle.std.proofs.lemmas.Bool.{and_parts}
+use Rattle.nbd_judge.proofs.Common.{◌≡◌, ℕ, ◌+◌, ◌<◌, ◌≤◌, List, refl, sym, ◌∙◌, ap, arith, Option, Some, None, Result, Ok, Err, IfOk, take, inl, inr, ◌⊎◌, and_parts, Profile, Entry, in_part, is_in, Effect, IsWrong, effect, effect_if, effects, last_touch, byte_or_start, byte_before, FitsImage, Start, start_byte, Asked, Report, asked_at, Exporting, AreSameBelow, IsSoundReport, size_and_flags, Verdict, image_length, initial_of, size_of, HasWrongFrom, IsJudged, IsVerdict, FirstWrongFrom}
 use Rattle.nbd_wire.specs.declared.commands.TheConstants as commands
-use Rattle.nbd_wire.specs.declared.profile.Profile.{Profile}
-use Rattle.nbd_wire.specs.declared.entry.Entry.{Entry}
-use Rattle.nbd_wire.specs.protocol.Entries.{in_part}
-use Rattle.nbd_wire.specs.protocol.Pieces.{is_in}
-use Rattle.nbd_wire.specs.protocol.ExportBytes.{Effect, IsWrong, effect, effect_if, effects, last_touch, byte_or_start, byte_before}
-use Rattle.nbd_wire.specs.protocol.Explains.{FitsImage, Start, Image, start_byte}
-use Rattle.nbd_wire.specs.protocol.Reports.{Asked, Report, asked_at}
-use Rattle.nbd_wire.specs.protocol.Operations.{Exporting}
-use Rattle.nbd_export.specs.Ranges.{AreSameBelow}
+use Rattle.nbd_wire.specs.protocol.Explains.{Image}
 use Rattle.nbd_export.specs.Starts as contents
 use Rattle.nbd_export.specs.declared.start.Start as contents_start
 use Rattle.nbd_export.specs.declared.start.Start.TheVariants as contents_starts
-use Rattle.nbd_laws.specs.Soundness.{IsSoundReport}
-use Rattle.nbd_state.specs.Transcripts.{size_and_flags}
-use Rattle.nbd_judge.specs.declared.verdict.Verdict.{Verdict}
 use Rattle.nbd_judge.specs.declared.verdict.Verdict.TheVariants as verdict
-use Rattle.nbd_judge.specs.internal.Beginnings.{image_length}
-use Rattle.nbd_judge.specs.Beginnings.{initial_of}
-use Rattle.nbd_judge.specs.Servable.{size_of}
-use Rattle.nbd_judge.specs.Verdicts.{HasWrongFrom, IsJudged, IsVerdict, FirstWrongFrom}
 use Rattle.nbd_judge.proofs.contents.CompareLemmas.{from_in, wrong_of, wrong_there}
 use Rattle.nbd_judge.proofs.orders.FirstLemmas.{first_of}
 use Rattle.nbd_judge.proofs.verdicts.SoundLemmas.{servable}

@@ -1,15 +1,5 @@
 -- When what an entry serves was due.
-use Rattle.std.proofs.Common.{◌≡◌, ℕ, ◌⊎◌, inl, inr, refl, sym, ◌∙◌, ap, subst, Option, Some, None, arith, Bool, true, false, IsTrue, if◌then◌else◌}
-use Rattle.nbd_export.specs.Ranges.{IsLeast}
-use Rattle.nbd_state.specs.declared.span.Span.{Span}
-use Rattle.nbd_wire.specs.declared.entry.Entry.{Entry}
-use Rattle.nbd_wire.specs.declared.entry.Part.{Part}
-use Rattle.nbd_wire.specs.declared.profile.Profile.{Profile}
-use Rattle.nbd_wire.specs.protocol.Entries.{in_part}
-use Rattle.nbd_wire.specs.protocol.Pieces.{is_in}
-use Rattle.nbd_wire.specs.protocol.Reports.{Asked, Report, asked_at, due_by_chunk, due_in, due_of, first_shown, inside_in, lesser_of}
-use Rattle.nbd_judge.specs.internal.Dues.{IsFair, IsLeastDue, ServesDue, ShowsIn}
-use Rattle.nbd_wire.specs.protocol.Operations.{is_chunked}
+use Rattle.nbd_judge.proofs.Common.{◌≡◌, ℕ, ◌⊎◌, inl, inr, refl, sym, ◌∙◌, ap, subst, Option, Some, None, arith, Bool, true, false, IsTrue, if◌then◌else◌, IsLeast, Span, Entry, Part, Profile, in_part, is_in, Asked, Report, asked_at, due_by_chunk, due_in, due_of, first_shown, inside_in, lesser_of, IsFair, IsLeastDue, ServesDue, ShowsIn, is_chunked}
 use Rattle.nbd_judge.proofs.contents.CompareLemmas.{in_from, itself, least_as, least_lesser, one_least}
 
 -- by whether the profile serves the request by chunk

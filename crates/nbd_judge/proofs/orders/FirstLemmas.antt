@@ -1,9 +1,5 @@
 -- What was read at an index, and least numbers.
-use Rattle.std.proofs.Common.{◌≡◌, ℕ, suc, ◌<◌, ◌≤◌, inl, inr, List, ◌∷◌, length, refl, sym, ◌∙◌, Some, None, arith, get_or, slice_get, take}
-use Rattle.std.proofs.lemmas.Option.{slice_get_cases, slice_get_read}
-use Rattle.nbd_wire.specs.declared.entry.Entry.{Entry}
-use Rattle.nbd_wire.specs.protocol.Entries.{Names}
-use Rattle.nbd_wire.specs.protocol.Orders.{IsFirst}
+use Rattle.nbd_judge.proofs.Common.{◌≡◌, ℕ, suc, ◌<◌, ◌≤◌, inl, inr, List, ◌∷◌, length, refl, sym, ◌∙◌, Some, None, arith, get_or, slice_get, take, slice_get_cases, slice_get_read, Entry, Names, IsFirst}
 
 -- what was read at an index
 pub read_at : {A : Type 0} (xs : List A) (i : ℕ) (x : A) → i < length xs → x ≡ get_or xs i x → slice_get xs i ≡ Some x

@@ -1,15 +1,5 @@
 -- The pass from the end that keeps the least count at which something was due.
-use Rattle.std.proofs.Common.{◌≡◌, ℕ, suc, ◌+◌, ◌<◌, ◌≤◌, ◌⊎◌, ◌==◌, ◌&&◌, ◌||◌, inl, inr, List, ◌∷◌, refl, sym, ◌∙◌, ap, subst, Option, Some, None, arith, true, false, IsTrue, MatchOption, add-one, drop, drop-cons, eq-eqb, eqb-true, slice_get}
-use Rattle.std.proofs.lemmas.Option.{get_or_from_slice_get, slice_get_within}
-use Rattle.std.proofs.Math.Bool.{or-true}
-use Rattle.std.proofs.lemmas.Bool.{or_cases, and_parts, ltb-true, ltb-false, cases_eq}
-use Rattle.nbd_export.specs.Ranges.{IsLeast}
-use Rattle.nbd_wire.specs.declared.entry.Entry.{Entry}
-use Rattle.nbd_wire.specs.protocol.Entries.{in_part, is_served}
-use Rattle.nbd_wire.specs.protocol.Orders.{IsFirst, IsLate}
-use Rattle.nbd_wire.specs.protocol.Reports.{lesser_of}
-use Rattle.nbd_judge.specs.internal.Dues.{ServesDue}
-use Rattle.nbd_judge.specs.internal.Lesser.{is_above}
+use Rattle.nbd_judge.proofs.Common.{◌≡◌, ℕ, suc, ◌+◌, ◌<◌, ◌≤◌, ◌⊎◌, ◌==◌, ◌&&◌, ◌||◌, inl, inr, List, ◌∷◌, refl, sym, ◌∙◌, ap, subst, Option, Some, None, arith, true, false, IsTrue, MatchOption, add-one, drop, drop-cons, eq-eqb, eqb-true, slice_get, get_or_from_slice_get, slice_get_within, or-true, or_cases, and_parts, ltb-true, ltb-false, cases_eq, IsLeast, Entry, in_part, is_served, IsFirst, IsLate, lesser_of, ServesDue, is_above}
 use Rattle.nbd_judge.proofs.contents.CompareLemmas.{least_as, least_lesser}
 
 -- an offset that one of the entries from i on serves was due when so many requests had completed

@@ -1,23 +1,7 @@
 -- What of a READ the messages before the last one showed, and the least count at which a span was shown.
-use Rattle.std.proofs.Common.{◌≡◌, ℕ, zero, suc, ◌+◌, ◌<◌, ◌≤◌, ◌⊎◌, ◌&&◌, ◌==◌, Bor, inl, inr, List, [], ◌∷◌, length, refl, sym, ◌∙◌, ap, Option, Some, None, arith, Bool, true, false, IsTrue, if◌then◌else◌, slice_get}
-use Rattle.std.proofs.lemmas.Bool.{and_from, and_parts, cases_eq}
-use Rattle.std.proofs.lemmas.Option.{slice_get_past, slice_get_read, slice_get_within}
-use Rattle.nbd_export.specs.Ranges.{IsLeast}
-use Rattle.nbd_state.specs.declared.span.Span.{Span}
-use Rattle.nbd_state.specs.Moments.{shown_in, with_counts}
+use Rattle.nbd_judge.proofs.Common.{◌≡◌, ℕ, zero, suc, ◌+◌, ◌<◌, ◌≤◌, ◌⊎◌, ◌&&◌, ◌==◌, Bor, inl, inr, List, [], ◌∷◌, length, refl, sym, ◌∙◌, ap, Option, Some, None, arith, Bool, true, false, IsTrue, if◌then◌else◌, slice_get, and_from, and_parts, cases_eq, slice_get_past, slice_get_read, slice_get_within, IsLeast, Span, shown_in, with_counts, option_copied, IsItemAt, Piece, is_in, piece_offset, piece_size, first_shown, lesser_of, Shown, Entry, OrderFault, Missing, NotCovered, AreApart, IsFaultOfService, IsShownAt}
 use Rattle.nbd_state.specs.declared.asked.Asked.{Asked}
 use Rattle.nbd_wire.specs.declared.commands.TheConstants as commands
-use Rattle.std.specs.Option.{option_copied}
-use Rattle.std.specs.Slice.{IsItemAt}
-use Rattle.nbd_wire.specs.declared.payloads.Piece.{Piece}
-use Rattle.nbd_wire.specs.protocol.Pieces.{is_in, piece_offset, piece_size}
-use Rattle.nbd_wire.specs.protocol.Reports.{first_shown, lesser_of}
-use Rattle.nbd_wire.specs.protocol.States.{Shown}
-use Rattle.nbd_wire.specs.declared.entry.Entry.{Entry}
-use Rattle.nbd_judge.specs.declared.verdict.OrderFault.{OrderFault}
-use Rattle.nbd_judge.specs.declared.verdict.OrderFault.TheVariants.{Missing, NotCovered}
-use Rattle.nbd_judge.specs.internal.Pieces.{AreApart}
-use Rattle.nbd_judge.specs.internal.Services.{IsFaultOfService, IsShownAt}
 use Rattle.nbd_judge.proofs.contents.CompareLemmas.{from_in, in_from, least_as, least_lesser}
 
 -- the range of a piece, with a count

@@ -1,33 +1,7 @@
 -- The table of what an order serves of each request.
-use Rattle.std.proofs.lemmas.List.{get_or-replicate, length-replicate}
-use Rattle.std.proofs.lemmas.Option.{get_or_from_slice_get, slice_get_within}
-use Rattle.std.proofs.Math.Seq.{take-length}
-use Rattle.nbd_wire.specs.protocol.Verdicts.{IsFaultless}
-use Rattle.std.proofs.Common.{MatchOption, is_some, ◌≡◌, ℕ, zero, suc, ◌+◌, ◌-◌, ◌<◌, ◌≤◌, ◌==◌, ◌&&◌, inl, inr, List, [], ◌∷◌, ◌++◌, length, refl, sym, ◌∙◌, ap, subst, Option, Some, None, Result, Ok, Err, Bool, true, false, if◌then◌else◌, arith, nat_le, nat_lt, min, eqb-true, slice_get, slice_set, take, replicate, ◌||◌, not, IsTrue}
-use Rattle.std.proofs.lemmas.Bool.{ltb-true, ltb-false, cases_eq}
-use Rattle.nbd_wire.specs.declared.entry.Entry.{Entry}
-use Rattle.nbd_wire.specs.protocol.Entries.{HasBadPart, IsTwice, MayServe, NamesWhole, inside_of}
+use Rattle.nbd_judge.proofs.Common.{get_or-replicate, length-replicate, get_or_from_slice_get, slice_get_within, take-length, IsFaultless, MatchOption, is_some, ◌≡◌, ℕ, zero, suc, ◌+◌, ◌-◌, ◌<◌, ◌≤◌, ◌==◌, ◌&&◌, inl, inr, List, [], ◌∷◌, ◌++◌, length, refl, sym, ◌∙◌, ap, subst, Option, Some, None, Result, Ok, Err, Bool, true, false, if◌then◌else◌, arith, nat_le, nat_lt, min, eqb-true, slice_get, slice_set, take, replicate, ◌||◌, not, IsTrue, ltb-true, ltb-false, cases_eq, Entry, HasBadPart, IsTwice, MayServe, NamesWhole, inside_of, Exporting, has_range, is_chunked, IsBad, IsDue, IsLate, IsUnserved, NamesNone, Part, Profile, is_in, Asked, Report, asked_at, due_in, due_of, first_shown, inside_asked, inside_in, lesser_of, Names-left, Names-push_cases, NamesWhole-left, total, Span, IsIndex, sizes_of, Service, Unnamed, Whole, InParts, OrderFault, NoSuchRequest, Twice, Missing, BadPart, NotCovered, IsOrderFault, has_inside, AreServices, IsAllServed, IsBadAt, IsFaultAfter, IsFaultOfService, IsFirstBad, IsNext, IsServiceAfter, IsServiceOf, IsShownAt, IsSpanOf, IsUnservedBy, LieApart, TellsFaultOf, TellsUnserved, part_pieces, parts_of, span_if, span_of_asked, IsFair, nat_tests, and-false, and_assoc}
 use Rattle.nbd_wire.specs.declared.commands.TheConstants as commands
-use Rattle.nbd_wire.specs.protocol.Operations.{Exporting, has_range, is_chunked}
-use Rattle.nbd_wire.specs.protocol.Orders.{IsBad, IsDue, IsLate, IsUnserved, NamesNone}
-use Rattle.nbd_wire.specs.declared.entry.Part.{Part}
-use Rattle.nbd_wire.specs.declared.profile.Profile.{Profile}
-use Rattle.nbd_wire.specs.protocol.Pieces.{is_in}
-use Rattle.nbd_wire.specs.protocol.Reports.{Asked, Report, asked_at, due_in, due_of, first_shown, inside_asked, inside_in, lesser_of}
-use Rattle.nbd_laws.proofs.service.EntryLemmas.{Names-left, Names-push_cases, NamesWhole-left}
-use Rattle.nbd_wire.specs.protocol.Transmission.{total}
-use Rattle.nbd_state.specs.declared.span.Span.{Span}
-use Rattle.nbd_state.specs.Indexes.{IsIndex}
-use Rattle.nbd_state.specs.Sizes.{sizes_of}
-use Rattle.nbd_judge.specs.declared.service.Service.{Service}
-use Rattle.nbd_judge.specs.declared.service.Service.TheVariants.{Unnamed, Whole, InParts}
-use Rattle.nbd_judge.specs.declared.verdict.OrderFault.{OrderFault}
-use Rattle.nbd_judge.specs.declared.verdict.OrderFault.TheVariants.{NoSuchRequest, Twice, Missing, BadPart, NotCovered}
-use Rattle.nbd_judge.specs.Orders.{IsOrderFault}
-use Rattle.nbd_judge.specs.internal.Services.{has_inside, AreServices, IsAllServed, IsBadAt, IsFaultAfter, IsFaultOf, IsFaultOfService, IsFirstBad, IsNext, IsServiceAfter, IsServiceOf, IsShownAt, IsSpanOf, IsUnservedBy, LieApart, TellsFaultOf, TellsUnserved, part_pieces, parts_of, span_if, span_of_asked}
-use Rattle.nbd_judge.specs.internal.Dues.{IsFair}
-use Rattle.std.proofs.lemmas.Bool.Decides.{nat_tests}
-use Rattle.std.proofs.Math.Bool.{and-false, and_assoc}
+use Rattle.nbd_judge.specs.internal.Services.{IsFaultOf}
 use Rattle.nbd_judge.proofs.orders.DueLemmas.{due_chunked, due_none, due_whole}
 use Rattle.nbd_judge.proofs.contents.EffectLemmas.{taken_one}
 

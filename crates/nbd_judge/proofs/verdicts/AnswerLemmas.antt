@@ -1,21 +1,6 @@
 -- What a verdict on the report of a run says of the run's bytes.
-use Rattle.std.proofs.Common.{◌≡◌, ℕ, List, sym, ◌∙◌, ap, subst}
-use Rattle.nbd_wire.specs.declared.profile.Profile.{Profile}
-use Rattle.nbd_wire.specs.declared.entry.Entry.{Entry}
-use Rattle.nbd_wire.specs.protocol.Explains.{Start, start_byte}
-use Rattle.nbd_wire.specs.protocol.Marks.{Item, pairs}
-use Rattle.nbd_wire.specs.protocol.Reports.{Report, report}
-use Rattle.nbd_wire.specs.protocol.Rules.{IsRunOf}
-use Rattle.nbd_wire.specs.protocol.Verdicts.{IsFaultless, Passes, answered_count, improper_count, request_count}
-use Rattle.nbd_laws.specs.Explaining.{ExplainedPasses, IsNoOf, PassingIsExplained}
-use Rattle.nbd_laws.specs.Moments.{OrdersAreFaultless}
-use Rattle.nbd_laws.specs.Sameness.{SameReports}
-use Rattle.nbd_judge.specs.declared.verdict.Verdict.TheVariants.{Yes, Wire, Image, Order, Content, Status}
-use Rattle.nbd_laws.proofs.service.MomentLemmas.{orders_are_faultless}
-use Rattle.nbd_laws.proofs.service.ServiceLemmas.{same_reports}
-use Rattle.nbd_judge.specs.Conclusions.{IsUnserved, VerdictsAnswerRuns}
-use Rattle.nbd_judge.specs.Orders.{IsOrderFault}
-use Rattle.nbd_judge.specs.declared.verdict.OrderFault.{OrderFault}
+use Rattle.nbd_judge.proofs.Common.{◌≡◌, ℕ, List, sym, ◌∙◌, ap, subst, Profile, Entry, Start, start_byte, Item, pairs, Report, report, IsRunOf, IsFaultless, Passes, answered_count, improper_count, request_count, ExplainedPasses, IsNoOf, PassingIsExplained, OrdersAreFaultless, SameReports, Yes, Wire, Image, Order, Content, Status, orders_are_faultless, same_reports, VerdictsAnswerRuns, IsOrderFault, OrderFault}
+use Rattle.nbd_judge.specs.Conclusions.{IsUnserved}
 use Rattle.nbd_judge.proofs.verdicts.SingleLemmas.{fits_not, has_fault, has_wrong}
 
 -- where an order has a fault, no run with these bytes is served in it

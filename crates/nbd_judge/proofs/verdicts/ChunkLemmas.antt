@@ -1,26 +1,6 @@
 -- Chunks that a session has taken.
-use Rattle.std.proofs.Common.{◌≡◌, ℕ, ◌+◌, ◌<◌, ◌≤◌, List, [], ◌∷◌, ◌++◌, length, refl, sym, ◌∙◌, ap, subst, arith, take, drop, get_or, length-append, append-nil, append_assoc, Result, Ok, Err, IfOk, IfErr, IsErrAnd}
-use Rattle.std.proofs.lemmas.List.{take-append-drop, take_more}
-use Rattle.std.specs.declared.alloc.Global.{Global}
-use Rattle.std.specs.declared.vec.Vec.{Vec}
-use Rattle.nbd_wire.specs.declared.profile.Profile.{Profile}
-use Rattle.nbd_wire.specs.declared.entry.Entry.{Entry}
-use Rattle.nbd_wire.specs.declared.message.Side.{Side}
-use Rattle.nbd_wire.specs.protocol.Explains.{Start}
-use Rattle.nbd_wire.specs.protocol.Marks.{Item, pairs}
-use Rattle.nbd_wire.specs.protocol.Captures.{Pair, flat, side_pairs}
-use Rattle.nbd_wire.specs.protocol.Reports.{Report}
-use Rattle.nbd_wire.specs.protocol.Rules.{IsRunOf}
-use Rattle.nbd_session.proofs.judge.PieceLemmas.{length-sent}
-use Rattle.nbd_session.specs.declared.fault.SessionFault.{SessionFault}
+use Rattle.nbd_judge.proofs.Common.{◌≡◌, ℕ, ◌+◌, ◌<◌, ◌≤◌, List, [], ◌∷◌, ◌++◌, length, refl, sym, ◌∙◌, ap, subst, arith, take, drop, get_or, length-append, append-nil, append_assoc, Result, Ok, Err, IfOk, IfErr, IsErrAnd, take-append-drop, take_more, Global, Vec, Profile, Entry, Side, Start, Item, pairs, Pair, flat, side_pairs, Report, IsRunOf, length-sent, SessionFault, IsReported, SessionView, pairs_of, Verdict, Wire, HasVerdict, IsChecked, IsFaultOf, records_of, HasReport, Answers, IsConclusion, IsReportOf, IsVerdict}
 use Rattle.nbd_session.specs.declared.fault.SessionFault.TheVariants as session
-use Rattle.nbd_session.specs.Sessions.{IsReported, SessionView, pairs_of}
-use Rattle.nbd_judge.specs.declared.verdict.Verdict.{Verdict}
-use Rattle.nbd_judge.specs.declared.verdict.Verdict.TheVariants.{Wire}
-use Rattle.nbd_judge.specs.Captures.{HasVerdict, IsChecked, IsFaultOf, records_of}
-use Rattle.nbd_judge.specs.internal.Captures.{HasReport}
-use Rattle.nbd_judge.specs.Conclusions.{Answers, IsConclusion, IsReportOf}
-use Rattle.nbd_judge.specs.Verdicts.{IsVerdict}
 
 pub joined : (xs ys : List (Side × Vec ℕ Global)) → flat (records_of (xs ++ ys)) ≡ flat (records_of xs) ++ flat (records_of ys)
 joined [] ys = refl

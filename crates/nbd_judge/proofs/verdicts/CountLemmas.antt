@@ -1,8 +1,5 @@
 -- One more request of those that are counted.
-use Rattle.std.proofs.Common.{◌≡◌, ℕ, ◌+◌, ◌<◌, List, length, sym, ◌∙◌, ap, arith, add-one, Option, Some, None, Bool, true, false, take, slice_get, count_by}
-use Rattle.std.proofs.lemmas.List.Sums.{count_by_more_no, count_by_more_yes}
-use Rattle.std.proofs.lemmas.Option.{get_or_from_slice_get, slice_get_within}
-use Rattle.nbd_wire.specs.protocol.Reports.{Asked, asked_at}
+use Rattle.nbd_judge.proofs.Common.{◌≡◌, ℕ, ◌+◌, ◌<◌, List, length, sym, ◌∙◌, ap, arith, add-one, Option, Some, None, Bool, true, false, take, slice_get, count_by, count_by_more_no, count_by_more_yes, get_or_from_slice_get, slice_get_within, Asked, asked_at}
 use Rattle.nbd_judge.proofs.orders.FirstLemmas.{past}
 
 -- request number i + 1 of these stands at i

@@ -1,49 +1,9 @@
 -- A capture in which no answer of success on metadata contexts comes has the same verdict in both profiles.
-use Rattle.std.proofs.Common.{◌≡◌, ℕ, zero, suc, ◌<◌, ◌/◌, ◌^◌, List, [], ◌∷◌, ◌++◌, length, replicate, if◌then◌else◌, Bool, true, false, refl, sym, ◌∙◌, ap, subst, inl, inr, arith}
-use Rattle.std.proofs.Math.Nat.{mod-lt}
-use Rattle.std.specs.Int.{byte_at, bytes_high_first}
-use Rattle.nbd_wire.specs.declared.entry.Entry.{Entry}
-use Rattle.nbd_wire.specs.declared.fault.WireFault.{WireFault}
+use Rattle.nbd_judge.proofs.Common.{◌≡◌, ℕ, zero, suc, ◌<◌, ◌/◌, ◌^◌, List, [], ◌∷◌, ◌++◌, length, replicate, if◌then◌else◌, Bool, true, false, refl, sym, ◌∙◌, ap, subst, inl, inr, arith, mod-lt, bytes_high_first, Entry, WireFault, Message, Greeting, ClientFlags, Choice, Answer, Exported, Request, Simple, Chunk, ExtendedRequest, ExtendedChunk, Side, Client, Server, Profile, ArePairs, Pair, AreBytes, enc, head, tail, Start, Item, pairs, without_service, Report, report, due_in, inside_in, IsRunOf, Obeys, IsSendable, IsPlaceOf, IsUnderWayOf, State, start_of, NothingParts, by_tests, Both, fresh_of, reads, Busy, Idle, Loose, Open, Walk, ended, final, loose, middle, opening, serving, dues_agree, nothing_before, places_agree, runs_agree, under_way_in, pairs_unserved, each_with, FirstLate, HasNoOrderFault, LeastMissing, LeastNotCovered, IsFaultless, improper_count, IsOrderFault, OrderFault, Late, Missing, NotCovered, but_last, places_begin_no_run, read_no_place, walk_of, explained_passes, passing_is_explained, orders_are_faultless, reports_ignore_service, same_reports, IsOpenEndOf, IsRefusalOf, IsWireFaultOf, LeavesOpen, CompletesExactlyOf, completes_exactly, Verdict, Yes, Wire, Image, Order, HasVerdict, Answers, AnswersAtOnceIn, NothingPartsIn, with_improper, VerdictsAgree, IsVerdict}
+use Rattle.std.specs.Int.{byte_at}
 use Rattle.nbd_wire.specs.declared.head_lengths.TheConstants as head_lengths
 use Rattle.nbd_wire.specs.declared.magics.TheConstants as magics
-use Rattle.nbd_wire.specs.declared.message.Message.{Message}
-use Rattle.nbd_wire.specs.declared.message.Message.TheVariants.{Greeting, ClientFlags, Choice, Answer, Exported, Request, Simple, Chunk, ExtendedRequest, ExtendedChunk}
-use Rattle.nbd_wire.specs.declared.message.Side.{Side}
-use Rattle.nbd_wire.specs.declared.message.Side.TheVariants.{Client, Server}
-use Rattle.nbd_wire.specs.declared.profile.Profile.{Profile}
-use Rattle.nbd_wire.specs.protocol.Captures.{ArePairs, Pair}
-use Rattle.nbd_wire.specs.protocol.Encoding.{AreBytes, enc, head, tail}
-use Rattle.nbd_wire.specs.protocol.Explains.{Start}
-use Rattle.nbd_wire.specs.protocol.Marks.{Item, pairs, without_service}
-use Rattle.nbd_wire.specs.protocol.Reports.{Report, report, due_in, inside_in}
-use Rattle.nbd_wire.specs.protocol.Rules.{IsRunOf, Obeys}
-use Rattle.nbd_wire.specs.protocol.Sendable.{IsSendable}
-use Rattle.nbd_wire.specs.protocol.Places.{IsPlaceOf, IsUnderWayOf}
-use Rattle.nbd_wire.specs.protocol.States.{State, start_of}
-use Rattle.nbd_laws.specs.Profiles.{NothingParts}
-use Rattle.nbd_wire.specs.protocol.Reading.{by_tests, Both, fresh_of, get, reads}
-use Rattle.nbd_laws.proofs.reading.ReaderLemmas.{Busy, Idle, Loose, Open, Walk, ended, final, loose, middle, opening, serving}
-use Rattle.nbd_laws.proofs.runs.AgreeLemmas.{dues_agree, nothing_before, places_agree, runs_agree, under_way_in}
-use Rattle.nbd_laws.proofs.runs.FollowLemmas.{pairs_unserved, each_with}
-use Rattle.nbd_wire.specs.protocol.Orders.{FirstLate, HasNoOrderFault, LeastMissing, LeastNotCovered}
-use Rattle.nbd_wire.specs.protocol.Verdicts.{IsFaultless, improper_count}
-use Rattle.nbd_judge.specs.Orders.{IsOrderFault}
-use Rattle.nbd_judge.specs.declared.verdict.OrderFault.{OrderFault}
-use Rattle.nbd_judge.specs.declared.verdict.OrderFault.TheVariants.{Late, Missing, NotCovered}
-use Rattle.nbd_laws.proofs.runs.PlaceLemmas.{but_last, places_begin_no_run, read_no_place}
-use Rattle.nbd_laws.proofs.runs.RunLemmas.{walk_of}
-use Rattle.nbd_laws.proofs.service.ExplainingLemmas.{explained_passes, passing_is_explained}
-use Rattle.nbd_laws.proofs.service.MomentLemmas.{orders_are_faultless}
-use Rattle.nbd_laws.proofs.service.ServiceLemmas.{reports_ignore_service, same_reports}
-use Rattle.nbd_session.specs.Refusals.{IsOpenEndOf, IsRefusalOf, IsWireFaultOf, LeavesOpen}
-use Rattle.nbd_wire.specs.protocol.Within.{CompletesExactlyOf}
-use Rattle.nbd_session.proofs.judge.RefusalLemmas.{completes_exactly}
-use Rattle.nbd_judge.specs.declared.verdict.Verdict.{Verdict}
-use Rattle.nbd_judge.specs.declared.verdict.Verdict.TheVariants.{Yes, Wire, Image, Order}
-use Rattle.nbd_judge.specs.Captures.{HasVerdict}
-use Rattle.nbd_judge.specs.Conclusions.{Answers}
-use Rattle.nbd_judge.specs.Profiles.{AnswersAtOnceIn, NothingPartsIn, with_improper, VerdictsAgree}
-use Rattle.nbd_judge.specs.Verdicts.{IsVerdict}
+use Rattle.nbd_wire.specs.protocol.Reading.{get}
 use Rattle.nbd_judge.proofs.verdicts.AnswerLemmas.{answers_runs}
 
 both : (xs ys : List ℕ) → AreBytes xs → AreBytes ys → AreBytes (xs ++ ys)

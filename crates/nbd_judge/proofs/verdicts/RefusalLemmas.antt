@@ -1,23 +1,9 @@
 -- A session over chunks that ends in a fault.
-use Rattle.std.proofs.Common.{◌≡◌, ℕ, suc, ◌<◌, List, ◌∷◌, ◌++◌, length, sym, ◌∙◌, ap, subst, take, drop, drop-cons, get_or, append_assoc, inl, Result, Ok, Err, IfOk, IfErr, Vec}
-use Rattle.std.proofs.lemmas.List.{take-append-drop}
-use Rattle.std.specs.declared.alloc.Global.{Global}
-use Rattle.nbd_wire.specs.declared.profile.Profile.{Profile}
-use Rattle.nbd_wire.specs.declared.entry.Entry.{Entry}
-use Rattle.nbd_wire.specs.declared.message.Side.{Side}
-use Rattle.nbd_wire.specs.protocol.Explains.{IsExplainedOf, Start}
-use Rattle.nbd_wire.specs.protocol.Captures.{Pair, flat, side_pairs}
-use Rattle.nbd_session.specs.declared.fault.SessionFault.{SessionFault}
-use Rattle.nbd_session.specs.declared.fault.SessionFault.TheVariants.{Memory, Wire}
-use Rattle.nbd_session.specs.Refusals.{EndsIn, IsRefusalOf, IsWireFaultOf, Refuses}
-use Rattle.nbd_session.specs.Sessions.{AddsPrefix, IsAtEnd, SessionView, pairs_of}
-use Rattle.nbd_session.proofs.pushed.PushLemmas.{sent-append}
-use Rattle.nbd_session.proofs.judge.RefusalLemmas.{no_run_of}
-use Rattle.nbd_judge.specs.declared.verdict.Verdict.{Verdict}
+use Rattle.nbd_judge.proofs.Common.{◌≡◌, ℕ, suc, ◌<◌, List, ◌∷◌, ◌++◌, length, sym, ◌∙◌, ap, subst, take, drop, drop-cons, get_or, append_assoc, inl, Result, Ok, Err, IfOk, IfErr, take-append-drop, Global, Profile, Entry, Side, IsExplainedOf, Start, Pair, flat, side_pairs, SessionFault, Memory, EndsIn, IsRefusalOf, IsWireFaultOf, Refuses, AddsPrefix, IsAtEnd, SessionView, pairs_of, sent-append, no_run_of, Verdict, IsChecked, IsFaultOf, SaysYes, records_of, ◌↔◌}
+use Rattle.std.proofs.Common.{Vec}
+use Rattle.nbd_session.specs.declared.fault.SessionFault.TheVariants.{Wire}
 use Rattle.nbd_judge.specs.declared.verdict.Verdict.TheVariants as verdict
 use Rattle.nbd_judge.proofs.verdicts.ChunkLemmas.{joined}
-use Rattle.nbd_judge.specs.Captures.{IsChecked, IsFaultOf, SaysYes, records_of}
-use Rattle.std.specs.Prelude.{◌↔◌}
 
 -- before a chunk, the chunk, and after it
 split_at : (cs : List (Side × Vec ℕ Global)) (i : ℕ) (c : Side × Vec ℕ Global) → i < length cs → c ≡ get_or cs i c →

@@ -1,25 +1,6 @@
 -- The cases of the definitions of a verdict exclude each other.
-use Rattle.std.proofs.Common.{◌≡◌, ℕ, ◌+◌, ◌<◌, ◌⊎◌, inl, inr, List, length, refl, sym, ◌∙◌, ap, subst, Option, Some, None, slice_get, take, arith}
-use Rattle.nbd_wire.specs.declared.entry.Entry.{Entry}
-use Rattle.nbd_wire.specs.declared.entry.Part.{Part}
-use Rattle.nbd_wire.specs.protocol.Entries.{IsAgain, Names}
-use Rattle.nbd_laws.proofs.service.EntryLemmas.{whole_names}
-use Rattle.nbd_wire.specs.protocol.ExportBytes.{IsWrong, effects}
-use Rattle.nbd_wire.specs.protocol.Explains.{FitsImage, Start, start_byte}
+use Rattle.nbd_judge.proofs.Common.{◌≡◌, ℕ, ◌+◌, ◌<◌, ◌⊎◌, inl, inr, List, length, refl, sym, ◌∙◌, ap, subst, Option, Some, None, slice_get, take, arith, Entry, Part, IsAgain, Names, whole_names, IsWrong, effects, FitsImage, Start, start_byte, IsBad, IsFirst, IsLate, IsUnserved, NamesAgain, NamesNone, Report, due_in, inside_in, asked_at, Asked, Profile, Exporting, IsFaultless, OrderFault, NoSuchRequest, Twice, Late, Missing, BadPart, NotCovered, Verdict, Yes, Wire, Image, Order, Content, Status, IsOtherSize, IsOrderFault, OneJudgement, OneVerdict, FirstWrongFrom, HasNoneWrongFrom, HasWrongFrom, FirstWrongOf, IsJudged, IsVerdict}
 use Rattle.nbd_wire.specs.protocol.Explains as starts
-use Rattle.nbd_wire.specs.protocol.Orders.{IsBad, IsFirst, IsLate, IsUnserved, NamesAgain, NamesNone}
-use Rattle.nbd_wire.specs.protocol.Reports.{Report, due_in, inside_in, asked_at, Asked}
-use Rattle.nbd_wire.specs.declared.profile.Profile.{Profile}
-use Rattle.nbd_wire.specs.protocol.Operations.{Exporting}
-use Rattle.nbd_wire.specs.protocol.Verdicts.{IsFaultless}
-use Rattle.nbd_judge.specs.declared.verdict.OrderFault.{OrderFault}
-use Rattle.nbd_judge.specs.declared.verdict.OrderFault.TheVariants.{NoSuchRequest, Twice, Late, Missing, BadPart, NotCovered}
-use Rattle.nbd_judge.specs.declared.verdict.Verdict.{Verdict}
-use Rattle.nbd_judge.specs.declared.verdict.Verdict.TheVariants.{Yes, Wire, Image, Order, Content, Status}
-use Rattle.nbd_judge.specs.Images.{IsOtherSize}
-use Rattle.nbd_judge.specs.Orders.{IsOrderFault}
-use Rattle.nbd_judge.specs.Uniqueness.{OneJudgement, OneVerdict}
-use Rattle.nbd_judge.specs.Verdicts.{FirstWrongFrom, HasNoneWrongFrom, HasWrongFrom, FirstWrongOf, IsJudged, IsVerdict}
 use Rattle.nbd_judge.proofs.orders.FirstLemmas.{one_first, place_before}
 
 module _ (profile : Profile) (r : Report) (order : List Entry) where

@@ -1,11 +1,5 @@
 -- What every report has, of a request that an order can name.
-use Rattle.std.proofs.Common.{◌≡◌, ℕ, zero, suc, ◌+◌, ◌≤◌, [], length, sym, ◌∙◌, ap, refl, Option, Some, None, true, false, inl, inr}
-use Rattle.nbd_wire.specs.protocol.ExportBytes.{is_success}
-use Rattle.nbd_wire.specs.protocol.Reports.{Asked, Report, asked_at}
-use Rattle.nbd_wire.specs.protocol.Operations.{Exporting, Outcome, Success, Failure, Pending, has_range}
-use Rattle.nbd_laws.specs.Soundness.{IsSoundAsked, IsSoundReport}
-use Rattle.nbd_judge.specs.internal.Servable.{IsServable}
-use Rattle.nbd_judge.specs.Servable.{size_of}
+use Rattle.nbd_judge.proofs.Common.{◌≡◌, ℕ, zero, suc, ◌+◌, ◌≤◌, [], length, sym, ◌∙◌, ap, refl, Option, Some, None, true, false, inl, inr, is_success, Asked, Report, asked_at, Exporting, Outcome, Success, Failure, Pending, has_range, IsSoundAsked, IsSoundReport, IsServable, size_of}
 
 success_of : (o : Outcome) → is_success o ≡ true → o ≡ Success
 success_of Success e = refl

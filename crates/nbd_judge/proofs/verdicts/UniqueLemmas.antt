@@ -1,21 +1,6 @@
 -- A capture is refused in one way at most, and has one answer at most.
-use Rattle.std.proofs.Common.{◌≡◌, ℕ, List, [], ◌∷◌, ◌++◌, ◌⊎◌, length, refl, sym, ◌∙◌, ap, subst, inl, inr, append-nil}
-use Rattle.nbd_wire.specs.declared.profile.Profile.{Profile}
-use Rattle.nbd_wire.specs.declared.entry.Entry.{Entry}
-use Rattle.nbd_wire.specs.declared.fault.WireFault.{WireFault}
-use Rattle.nbd_wire.specs.declared.message.Message.{Message}
-use Rattle.nbd_wire.specs.protocol.Captures.{Pair}
-use Rattle.nbd_wire.specs.protocol.Explains.{Start}
-use Rattle.nbd_wire.specs.protocol.Reports.{report}
-use Rattle.nbd_wire.specs.protocol.Places.{IsPlaceOf}
-use Rattle.nbd_laws.proofs.runs.PlaceLemmas.{one_place, prefixes_have_no_place, under_way_agree}
+use Rattle.nbd_judge.proofs.Common.{◌≡◌, ℕ, List, [], ◌∷◌, ◌++◌, ◌⊎◌, length, refl, sym, ◌∙◌, ap, subst, inl, inr, append-nil, Profile, Entry, WireFault, Message, Pair, Start, report, IsPlaceOf, one_place, prefixes_have_no_place, under_way_agree, IsOpenEndOf, IsRefusedAtOf, no_run_of, Verdict, Wire, HasVerdict, IsChecked, IsFaultOf, OneAnswer, OneWireFault}
 use Rattle.nbd_session.specs.declared.fault.SessionFault.TheVariants as session
-use Rattle.nbd_session.specs.Refusals.{IsOpenEndOf, IsRefusedAtOf}
-use Rattle.nbd_session.proofs.judge.RefusalLemmas.{no_run_of}
-use Rattle.nbd_judge.specs.declared.verdict.Verdict.{Verdict}
-use Rattle.nbd_judge.specs.declared.verdict.Verdict.TheVariants.{Wire}
-use Rattle.nbd_judge.specs.Captures.{HasVerdict, IsChecked, IsFaultOf}
-use Rattle.nbd_judge.specs.Uniqueness.{OneAnswer, OneWireFault}
 use Rattle.nbd_judge.proofs.verdicts.SingleLemmas.{one_verdict}
 
 -- of two prefixes of a list one begins with the other

@@ -1,39 +1,14 @@
 -- What the lists of tests say, where none holds: in the words of relations.
 use Rattle.nbd_laws.proofs.requests.LaidLemmas.{AreApart, AreInside}
-use Rattle.nbd_laws.specs.Allowed.{AreClientFlags, FitsLimit, IsChunk, IsContent, IsFreshFor, IsInfo, IsSimpleReply, IsStatus, MayAcknowledge, MayAnswer, MayAsk, MayEnd, MayTell}
-use Rattle.nbd_wire.specs.protocol.Decisions.{answer}
-use Rattle.nbd_wire.specs.protocol.Negotiation.{answer_fault, answer_head_fault, client_flags_fault, greeting_fault, export_fault, ack_fault, abort_fault, answers_option, is_followed, info_fault, success_fault, is_good_info, is_bad_payload, payload_fault, extends, earlier_to, is_good_context, is_wide, answer_last_fault}
-use Rattle.nbd_wire.specs.protocol.Tests.{fault_if}
-use Rattle.nbd_wire.specs.protocol.Transmission.{cookie_fault, extended_request_fault, request_fault, is_none_yet, chunk_fault, content_fault, done_fault, fits_failure, fits_read, is_no_piece, total, fits_status, status_if, read_as, status_kind}
-use Rattle.nbd_wire.specs.declared.message.Message.TheVariants.{Chunk, ExtendedChunk, Simple}
-use Rattle.std.proofs.Common.{◌≡◌, ◌≢◌, ℕ, ◌≤◌, ◌⊎◌, ◌==◌, List, [], ◌∷◌, length, refl, sym, ◌∙◌, ap, subst, inl, inr, Option, Some, None, Bool, true, false, not, ◌&&◌, ◌||◌, nat_le, nat_lt, eqb-true, is_some, arith, IsTrue, if◌then◌else◌}
-use Rattle.std.proofs.lemmas.Bool.{ltb-false, eq-eqb, leb-true, leb-false, ltb-true, ne_eqb}
+use Rattle.nbd_laws.proofs.Common.{AreClientFlags, FitsLimit, IsChunk, IsContent, IsFreshFor, IsInfo, IsSimpleReply, IsStatus, MayAcknowledge, MayAnswer, MayAsk, MayEnd, MayTell, answer, answer_fault, answer_head_fault, client_flags_fault, greeting_fault, export_fault, ack_fault, abort_fault, answers_option, is_followed, info_fault, success_fault, is_good_info, is_bad_payload, payload_fault, extends, earlier_to, is_good_context, is_wide, answer_last_fault, fault_if, cookie_fault, extended_request_fault, request_fault, is_none_yet, chunk_fault, content_fault, done_fault, fits_failure, fits_read, is_no_piece, total, fits_status, status_if, read_as, status_kind, Chunk, ExtendedChunk, Simple, ◌≡◌, ◌≢◌, ℕ, ◌≤◌, ◌⊎◌, ◌==◌, List, [], ◌∷◌, length, refl, sym, ◌∙◌, ap, subst, inl, inr, Option, Some, None, Bool, true, false, not, ◌&&◌, ◌||◌, nat_le, nat_lt, eqb-true, is_some, arith, IsTrue, if◌then◌else◌, ltb-false, leb-true, leb-false, ltb-true, ne_eqb, EXPORT_SIZE, Message, Info, Other, is_error, is_proper_option, takes_contexts, info_of, is_listed, context_of, content_of, failure_of, status_of, Exporting, Covers, Operation, has_failed, is_proper, pieces, has, Core, target, with_reply, WireFault, NotFixedNewstyle, WrongOption, BadReplyKind, SuccessOfImproper, BadContent, CookieInUse, BadDisconnect, OutOfProfile, Profile, Selection, Context, has_id, Status, Wide, Base, are_settled, is_settled, Failure, Piece, MayReply, is_in}
+use Rattle.std.proofs.lemmas.Bool.{eq-eqb}
 use Rattle.nbd_wire.specs.declared.answers.TheConstants as answers
 use Rattle.nbd_wire.specs.declared.handshake.TheConstants as handshake
-use Rattle.nbd_wire.specs.declared.limits.TheConstants.{EXPORT_SIZE}
-use Rattle.nbd_wire.specs.declared.message.Message.{Message}
 use Rattle.nbd_wire.specs.declared.options.TheConstants as options
-use Rattle.nbd_wire.specs.declared.payloads.Info.{Info}
-use Rattle.nbd_wire.specs.declared.payloads.Info.TheVariants.{Other}
 use Rattle.nbd_wire.specs.declared.transmission.TheConstants as transmission
-use Rattle.nbd_wire.specs.protocol.Options.{is_error, is_proper_option, takes_contexts}
-use Rattle.nbd_wire.specs.protocol.Payloads.{info_of, is_listed, context_of, content_of, failure_of, status_of}
-use Rattle.nbd_wire.specs.protocol.Operations.{Exporting, Covers, Operation, has_failed, is_proper, pieces}
-use Rattle.nbd_wire.specs.protocol.Flags.{has}
-use Rattle.nbd_wire.specs.protocol.States.{Core, target, with_reply}
-use Rattle.nbd_wire.specs.declared.fault.WireFault.{WireFault}
-use Rattle.nbd_wire.specs.declared.fault.WireFault.TheVariants.{NotFixedNewstyle, WrongOption, BadReplyKind, SuccessOfImproper, BadContent, CookieInUse, BadDisconnect, OutOfProfile}
 use Rattle.nbd_laws.proofs.judge.BoolLemmas.{not_false, or_false, or_true, and_true, and_false, fault_none, not_true}
-use Rattle.nbd_wire.specs.declared.profile.Profile.{Profile}
-use Rattle.nbd_wire.specs.protocol.Contexts.{Selection, Context, has_id, Status}
-use Rattle.nbd_wire.specs.declared.profile.Profile.TheVariants.{Wide, Base}
-use Rattle.nbd_wire.specs.protocol.Statuses.{are_settled, is_settled}
 use Rattle.nbd_wire.specs.declared.chunks.TheConstants as chunks
 use Rattle.nbd_wire.specs.declared.commands.TheConstants as commands
-use Rattle.nbd_wire.specs.declared.payloads.Failure.{Failure}
-use Rattle.nbd_wire.specs.declared.payloads.Piece.{Piece}
-use Rattle.nbd_wire.specs.protocol.Rules.{MayReply}
-use Rattle.nbd_wire.specs.protocol.Pieces.{is_in}
 use Rattle.nbd_laws.proofs.judge.KindLemmas.{kind_content, kind_status}
 use Rattle.nbd_laws.proofs.judge.CoverLemmas.{full_total_covers, apart_from-shares}
 

@@ -1,15 +1,6 @@
 -- The length at which something is decided next: below it the judge lets a side's bytes go on,
 -- also where the other side's messages complete meanwhile.
-use Rattle.std.proofs.Common.{◌≡◌, ℕ, ◌+◌, ◌<◌, ◌≤◌, ◌≢◌, ◌⊎◌, ◌==◌, List, [], ◌∷◌, ◌++◌, length, refl, sym, ◌∙◌, ap, subst, inl, inr, Option, Some, None, Ok, Bool, true, false, nat_lt, if◌then◌else◌, arith, length-append, append-nil}
-use Rattle.std.proofs.lemmas.Bool.{lt-ltb, le-ltb, ltb-true, ltb-false, eqb-false, ne_eqb}
-use Rattle.nbd_wire.specs.declared.message.Side.{Side}
-use Rattle.nbd_wire.specs.declared.message.Message.{Message}
-use Rattle.nbd_wire.specs.protocol.Captures.{side_pairs}
-use Rattle.nbd_wire.specs.protocol.States.{Core}
-use Rattle.nbd_wire.specs.declared.fault.WireFault.{WireFault}
-use Rattle.nbd_laws.specs.Awaited.{awaited_length_by, awaited_length}
-use Rattle.nbd_wire.specs.protocol.Decisions.{Decision}
-use Rattle.nbd_wire.specs.protocol.Reading.{decision, by_tests, last_reading, reading_by_decision, read_by, staged_reading_by, IsFilled, Reader, More, Rest, get, old_of, reads}
+use Rattle.nbd_laws.proofs.Common.{◌≡◌, ℕ, ◌+◌, ◌<◌, ◌≤◌, ◌≢◌, ◌⊎◌, ◌==◌, List, [], ◌∷◌, ◌++◌, length, refl, sym, ◌∙◌, ap, subst, inl, inr, Option, Some, None, Ok, Bool, true, false, nat_lt, if◌then◌else◌, arith, length-append, append-nil, lt-ltb, le-ltb, ltb-true, ltb-false, eqb-false, ne_eqb, Side, Message, side_pairs, Core, WireFault, awaited_length_by, awaited_length, Decision, decision, by_tests, last_reading, reading_by_decision, read_by, staged_reading_by, IsFilled, Reader, More, Rest, get, old_of, reads}
 use Rattle.nbd_laws.proofs.judge.BlockLemmas.{Awaits, GoesOn, extended, judged_at_once, reads_at_once, reads_short, with_rest}
 use Rattle.nbd_laws.proofs.reading.ReaderLemmas.{AreHeld, Held, Kept, Later, Later-trans, at_once, begun, kept, none_held, old-filled, some_held}
 use Rattle.nbd_laws.proofs.judge.SoundLemmas.{kept_later}

@@ -1,11 +1,5 @@
 -- Bytes of one side, taken at once: over any judge, what a reader reads of them is one append and one judgement.
-use Rattle.std.proofs.Common.{◌≡◌, ℕ, ◌<◌, ◌≤◌, List, [], ◌∷◌, ◌++◌, length, refl, sym, ◌∙◌, ap, subst, Result, Ok, Err, append_assoc, length-append, arith}
-use Rattle.nbd_wire.specs.declared.message.Side.{Side}
-use Rattle.nbd_wire.specs.declared.message.Side.TheVariants.{Client, Server}
-use Rattle.nbd_wire.specs.protocol.Captures.{Pair, side_pairs}
-use Rattle.nbd_wire.specs.protocol.States.{Core}
-use Rattle.nbd_wire.specs.declared.fault.WireFault.{WireFault}
-use Rattle.nbd_wire.specs.protocol.Reading.{Both, get, put, Rest, Reader, Reading, More, Whole, Bad, old_of, IsFilled, settle, Judge, step, reads, on_ok}
+use Rattle.nbd_laws.proofs.Common.{◌≡◌, ℕ, ◌<◌, ◌≤◌, List, [], ◌∷◌, ◌++◌, length, refl, sym, ◌∙◌, ap, subst, Result, Ok, Err, append_assoc, length-append, arith, Side, Client, Server, Pair, side_pairs, Core, WireFault, Both, get, put, Rest, Reader, Reading, More, Whole, Bad, old_of, IsFilled, settle, Judge, step, reads, on_ok}
 use Rattle.nbd_laws.proofs.reading.ReaderLemmas.{get-put_same, old-filled, IsFilled-snoc, Later}
 
 -- no longer list of these bytes and more is judged before it has n of them

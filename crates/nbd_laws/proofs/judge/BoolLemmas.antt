@@ -1,10 +1,5 @@
 -- Tests, and what their answers say.
-use Rattle.std.proofs.Common.{◌≡◌, ℕ, zero, suc, ◌⊎◌, ◌+◌, ◌==◌, List, [], ◌∷◌, length, replicate, refl, ◌∙◌, ap, inl, inr, Option, Some, None, Bool, true, false, not, ◌&&◌, ◌||◌, nat_lt, eqb-true, arith}
-use Rattle.nbd_wire.specs.declared.message.Message.{Message}
-use Rattle.nbd_wire.specs.declared.fault.WireFault.{WireFault}
-use Rattle.nbd_wire.specs.protocol.Negotiation.{are_zeroes}
-use Rattle.nbd_wire.specs.protocol.Reading.{staged_reading_by, staged_reading, last_reading, Reading, Whole}
-use Rattle.nbd_wire.specs.protocol.Tests.{fault_if}
+use Rattle.nbd_laws.proofs.Common.{◌≡◌, ℕ, zero, suc, ◌⊎◌, ◌+◌, ◌==◌, List, [], ◌∷◌, length, replicate, refl, ◌∙◌, ap, inl, inr, Option, Some, None, Bool, true, false, not, ◌&&◌, ◌||◌, nat_lt, eqb-true, arith, Message, WireFault, are_zeroes, staged_reading_by, staged_reading, last_reading, Reading, Whole, fault_if}
 
 pub not_false : (c : Bool) → not c ≡ false → c ≡ true
 not_false true e = refl

@@ -1,9 +1,6 @@
 -- Pieces inside a range that share no offset cover it exactly where their sizes add up to its length.
-use Rattle.std.proofs.Common.{◌≡◌, ℕ, zero, suc, ◌<◌, ◌≤◌, ◌≢◌, ◌+◌, ◌-◌, ◌==◌, List, [], ◌∷◌, min, max, refl, sym, ◌∙◌, ap, subst, Some, Bool, true, false, ◌&&◌, if◌then◌else◌, nat_le, nat_lt, is_some, arith, IsTrue}
-use Rattle.std.proofs.lemmas.Bool.{lt-ltb, eqb-true, eqb-false, le-ltb, ltb-false, leb-false, leb-true, ltb-true, le-leb, lt-leb}
-use Rattle.nbd_wire.specs.declared.payloads.Piece.{Piece}
-use Rattle.nbd_wire.specs.protocol.Pieces.{piece_offset, piece_size, piece_byte, byte_at, holds, is_in, SharesNone}
-use Rattle.nbd_wire.specs.protocol.Transmission.{total, is_apart, is_apart_from}
+use Rattle.nbd_laws.proofs.Common.{◌≡◌, ℕ, zero, suc, ◌<◌, ◌≤◌, ◌≢◌, ◌+◌, ◌-◌, ◌==◌, List, [], ◌∷◌, min, max, refl, sym, ◌∙◌, ap, subst, Some, Bool, true, false, ◌&&◌, if◌then◌else◌, nat_le, nat_lt, is_some, arith, IsTrue, lt-ltb, eqb-false, le-ltb, ltb-false, leb-false, leb-true, ltb-true, le-leb, lt-leb, Piece, piece_offset, piece_size, piece_byte, byte_at, holds, is_in, SharesNone, total, is_apart, is_apart_from}
+use Rattle.std.proofs.lemmas.Bool.{eqb-true}
 use Rattle.nbd_laws.proofs.requests.LaidLemmas.{AreApart, AreInside}
 use Rattle.nbd_laws.proofs.judge.BoolLemmas.{or_true, or_false, and_true}
 

@@ -1,24 +1,5 @@
 -- The judge is exact: it takes each message that the rules allow, at its last byte and not before.
-use Rattle.std.proofs.Common.{◌≡◌, ℕ, ◌+◌, ◌⊎◌, ◌==◌, List, [], ◌++◌, length, refl, sym, ◌∙◌, ap, subst, inl, inr, Option, Some, None, Err, Bool, true, false, nat_lt, is_some, IsTrue, eq-eqb, arith, length-append}
-use Rattle.std.proofs.lemmas.Bool.{le-ltb, ltb-false, ltb-true}
-use Rattle.nbd_wire.specs.declared.profile.Profile.{Profile}
-use Rattle.nbd_wire.specs.declared.message.Side.{Side}
-use Rattle.nbd_wire.specs.declared.message.Side.TheVariants.{Client, Server}
-use Rattle.nbd_wire.specs.declared.message.Message.{Message}
-use Rattle.nbd_wire.specs.declared.message.Message.TheVariants.{Greeting, ClientFlags, Choice, Answer, Exported, Request, Simple, Chunk, ExtendedRequest, ExtendedChunk}
-use Rattle.nbd_wire.specs.protocol.Encoding.{enc}
-use Rattle.nbd_wire.specs.protocol.Captures.{ArePairs, Pair}
-use Rattle.nbd_wire.specs.protocol.Marks.{Item, pairs}
-use Rattle.nbd_wire.specs.protocol.Options.{turn}
-use Rattle.nbd_wire.specs.protocol.Payloads.{number_at}
-use Rattle.nbd_wire.specs.protocol.Operations.{Operation, Exporting}
-use Rattle.nbd_wire.specs.protocol.Rules.{IsRunOf, MayComplete, MayStart, MayStartIn, is_extended, request_of_reply}
-use Rattle.nbd_wire.specs.protocol.Sendable.{IsSendable}
-use Rattle.nbd_wire.specs.protocol.Sides.{side}
-use Rattle.nbd_wire.specs.protocol.States.{Core, Phase, Greet, Flags, Choosing, Naming, Aborting, Answering, Transmission, operation, target}
-use Rattle.nbd_wire.specs.declared.fault.WireFault.{WireFault}
-use Rattle.nbd_wire.specs.protocol.Decisions.{Decision, abort_answer, choice, client_flags, greeting, chunk_to, extended_chunk_to, operation_of, reply, reply_in, request, request_by, simple_to}
-use Rattle.nbd_wire.specs.protocol.Reading.{decision, request_unless, by_tests, last_reading, reading_by_decision, read_by, staged_reading_by, IsFilled, More, Whole, reads, fresh_of}
+use Rattle.nbd_laws.proofs.Common.{◌≡◌, ℕ, ◌+◌, ◌⊎◌, ◌==◌, List, [], ◌++◌, length, refl, sym, ◌∙◌, ap, subst, inl, inr, Option, Some, None, Err, Bool, true, false, nat_lt, is_some, IsTrue, eq-eqb, arith, length-append, le-ltb, ltb-false, ltb-true, Profile, Side, Client, Server, Message, Greeting, ClientFlags, Choice, Answer, Exported, Request, Simple, Chunk, ExtendedRequest, ExtendedChunk, enc, ArePairs, Pair, Item, pairs, turn, number_at, Operation, Exporting, IsRunOf, MayComplete, MayStart, MayStartIn, is_extended, request_of_reply, IsSendable, side, Core, Phase, Greet, Flags, Choosing, Naming, Aborting, Answering, Transmission, operation, target, WireFault, Decision, abort_answer, choice, client_flags, greeting, chunk_to, extended_chunk_to, operation_of, reply, reply_in, request, request_by, simple_to, decision, request_unless, by_tests, last_reading, reading_by_decision, read_by, staged_reading_by, IsFilled, More, Whole, reads, fresh_of}
 use Rattle.nbd_laws.proofs.judge.AwaitedLemmas.{in_head, in_payload}
 use Rattle.nbd_laws.proofs.judge.ExactNegotiationLemmas.{Accepts, HasHead, HasLast, abort_accepts, answer_accepts, choice_accepts, exported_accepts, flags_accepts, greeting_accepts}
 use Rattle.nbd_laws.proofs.judge.ExactTransmissionLemmas.{chunk_accepts, chunk_begins, cookie_of_chunk, cookie_of_extended, cookie_of_simple, extended_accepts, extended_begins, extended_request_accepts, request_accepts, simple_accepts, simple_begins}

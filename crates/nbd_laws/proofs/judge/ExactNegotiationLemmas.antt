@@ -1,20 +1,6 @@
 -- The judge takes each message of the negotiation that the rules allow.
-use Rattle.std.proofs.Common.{◌≡◌, ℕ, ◌<◌, ◌+◌, ◌^◌, ◌==◌, List, [], length, drop, refl, sym, ◌∙◌, ap, Option, None, Bool, true, false, not, ◌&&◌, arith}
-use Rattle.byteorder.specs.Numbers.{big_number-reads_back}
-use Rattle.nbd_wire.specs.declared.magics.TheConstants.{GREETING_MAGIC, OPTION_MAGIC, ANSWER_MAGIC}
-use Rattle.nbd_wire.specs.declared.message.Message.{Message}
-use Rattle.nbd_wire.specs.declared.message.Message.TheVariants.{Greeting, ClientFlags, Choice, Answer, Exported}
+use Rattle.nbd_laws.proofs.Common.{◌≡◌, ℕ, ◌<◌, ◌+◌, ◌^◌, ◌==◌, List, [], length, drop, refl, sym, ◌∙◌, ap, Option, None, Bool, true, false, not, ◌&&◌, arith, big_number-reads_back, GREETING_MAGIC, OPTION_MAGIC, ANSWER_MAGIC, Message, Greeting, ClientFlags, Choice, Answer, Exported, enc, head, tail, number_at, Exporting, WireFault, BadMagic, BadExport, Decision, abort_answer, answer, choice, client_flags, export_answer, greeting, answer_head_fault, answer_last_fault, abort_fault, answer_fault, are_zeroes, client_flags_fault, export_fault, greeting_fault, padding_fault, fault_if, Profile, Selection}
 use Rattle.nbd_wire.specs.declared.options.TheConstants as options
-use Rattle.nbd_wire.specs.protocol.Encoding.{enc, head, tail}
-use Rattle.nbd_wire.specs.protocol.Payloads.{number_at}
-use Rattle.nbd_wire.specs.protocol.Operations.{Exporting}
-use Rattle.nbd_wire.specs.declared.fault.WireFault.{WireFault}
-use Rattle.nbd_wire.specs.declared.fault.WireFault.TheVariants.{BadMagic, BadExport}
-use Rattle.nbd_wire.specs.protocol.Decisions.{Decision, abort_answer, answer, choice, client_flags, export_answer, greeting}
-use Rattle.nbd_wire.specs.protocol.Negotiation.{answer_head_fault, answer_last_fault, abort_fault, answer_fault, are_zeroes, client_flags_fault, export_fault, greeting_fault, padding_fault}
-use Rattle.nbd_wire.specs.protocol.Tests.{fault_if}
-use Rattle.nbd_wire.specs.declared.profile.Profile.{Profile}
-use Rattle.nbd_wire.specs.protocol.Contexts.{Selection}
 
 -- the head of an encoding has no fault and states its length
 pub record HasHead (d : Decision) (m : Message) : Type 0 where

@@ -1,23 +1,6 @@
 -- The judge takes each message of transmission that the rules allow.
-use Rattle.std.proofs.Common.{◌≡◌, ℕ, ◌<◌, ◌≤◌, ◌+◌, ◌^◌, ◌==◌, List, length, drop, refl, sym, ◌∙◌, ap, Some, None, Bool, true, false, not, ◌&&◌, eq-eqb, arith}
-use Rattle.std.proofs.lemmas.Bool.{le-leb, le-ltb}
-use Rattle.byteorder.specs.Numbers.{big_number-reads_back}
+use Rattle.nbd_laws.proofs.Common.{◌≡◌, ℕ, ◌<◌, ◌≤◌, ◌+◌, ◌^◌, ◌==◌, List, length, drop, refl, sym, ◌∙◌, ap, Some, None, Bool, true, false, not, ◌&&◌, eq-eqb, arith, le-leb, le-ltb, big_number-reads_back, EXTENDED_CHUNK_MAGIC, EXTENDED_REQUEST_MAGIC, REQUEST_MAGIC, SIMPLE_MAGIC, CHUNK_MAGIC, LONGEST_PAYLOAD, Message, Request, Simple, Chunk, ExtendedRequest, ExtendedChunk, enc, head, tail, chunk-cookie, chunk-flags, chunk-kind, chunk-length, chunk-magic, drop-chunk, length-chunk, length-request, extended_chunk_fields, extended_request_fields, request-command, request-cookie, request-length, request-magic, simple-cookie, simple-magic, number_at, begins, chunk_of, chunk_to, extended_chunk_of, extended_chunk_to, extended_request, short_request, simple_to, fault_if, simple_length, chunk_fault, cookie_fault, request_fault, request_payload_length, simple_fault, simple_last_fault, read_as, chunk_head_fault, extended_head_fault, extended_payload_length, extended_request_fault, is_too_large, offset_fault, MayReply, Operation, Exporting, IsSendable, Core, target, with_reply, BadMagic, BadReplyOffset, OutOfProfile}
 use Rattle.nbd_wire.specs.declared.chunks.TheConstants as chunks
-use Rattle.nbd_wire.specs.declared.magics.TheConstants.{EXTENDED_CHUNK_MAGIC, EXTENDED_REQUEST_MAGIC, REQUEST_MAGIC, SIMPLE_MAGIC, CHUNK_MAGIC}
-use Rattle.nbd_wire.specs.declared.limits.TheConstants.{LONGEST_PAYLOAD}
-use Rattle.nbd_wire.specs.declared.message.Message.{Message}
-use Rattle.nbd_wire.specs.declared.message.Message.TheVariants.{Request, Simple, Chunk, ExtendedRequest, ExtendedChunk}
-use Rattle.nbd_wire.specs.protocol.Encoding.{enc, head, tail}
-use Rattle.nbd_wire.proofs.FieldLemmas.{chunk-cookie, chunk-flags, chunk-kind, chunk-length, chunk-magic, drop-chunk, length-chunk, length-request, extended_chunk_fields, extended_request_fields, request-command, request-cookie, request-length, request-magic, simple-cookie, simple-magic}
-use Rattle.nbd_wire.specs.protocol.Payloads.{number_at}
-use Rattle.nbd_wire.specs.protocol.Decisions.{begins, chunk_of, chunk_to, extended_chunk_of, extended_chunk_to, extended_request, short_request, simple_to}
-use Rattle.nbd_wire.specs.protocol.Tests.{fault_if}
-use Rattle.nbd_wire.specs.protocol.Transmission.{simple_length, chunk_fault, cookie_fault, request_fault, request_payload_length, simple_fault, simple_last_fault, read_as, chunk_head_fault, extended_head_fault, extended_payload_length, extended_request_fault, is_too_large, offset_fault}
-use Rattle.nbd_wire.specs.protocol.Rules.{MayReply}
-use Rattle.nbd_wire.specs.protocol.Operations.{Operation, Exporting}
-use Rattle.nbd_wire.specs.protocol.Sendable.{IsSendable}
-use Rattle.nbd_wire.specs.protocol.States.{Core, target, with_reply}
-use Rattle.nbd_wire.specs.declared.fault.WireFault.TheVariants.{BadMagic, BadReplyOffset, OutOfProfile}
 use Rattle.nbd_laws.proofs.judge.ExactNegotiationLemmas.{Accepts}
 
 record IsRequest (flags command cookie offset len : ℕ) (payload bytes : List ℕ) : Type 0 where

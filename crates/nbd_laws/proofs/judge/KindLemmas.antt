@@ -1,13 +1,6 @@
 -- A chunk is read as one of its type, or both types are of errors.
-use Rattle.std.proofs.Common.{◌≡◌, ℕ, ◌≤◌, ◌⊎◌, ◌==◌, List, refl, inl, None, Bool, true, false, nat_le, arith}
-use Rattle.std.proofs.lemmas.Bool.{leb-true, ne_eqb}
+use Rattle.nbd_laws.proofs.Common.{◌≡◌, ℕ, ◌≤◌, ◌⊎◌, ◌==◌, List, refl, inl, None, Bool, true, false, nat_le, arith, leb-true, ne_eqb, Profile, Base, Wide, Context, is_error_chunk, content_of, read_as, status_if, status_kind}
 use Rattle.nbd_wire.specs.declared.chunks.TheConstants as chunks
-use Rattle.nbd_wire.specs.declared.profile.Profile.{Profile}
-use Rattle.nbd_wire.specs.declared.profile.Profile.TheVariants.{Base, Wide}
-use Rattle.nbd_wire.specs.protocol.Contexts.{Context}
-use Rattle.nbd_wire.specs.protocol.Operations.{is_error_chunk}
-use Rattle.nbd_wire.specs.protocol.Payloads.{content_of}
-use Rattle.nbd_wire.specs.protocol.Transmission.{read_as, status_if, status_kind}
 
 pub read_kind : (profile : Profile) (kind : ℕ) → (read_as profile kind ≡ kind) ⊎ (is_error_chunk kind ≡ true) × (read_as profile kind ≡ chunks.ERROR)
 read_kind Base kind = inl refl

@@ -1,15 +1,6 @@
 -- What the other side's messages leave as it was.
-use Rattle.std.proofs.Common.{◌≡◌, ℕ, zero, suc, ◌+◌, ◌⊎◌, ◌==◌, List, [], ◌∷◌, ◌++◌, refl, sym, ◌∙◌, ap, subst, inl, inr, Option, Some, None, Bool, true, false, not, ◌&&◌, if◌then◌else◌, append-nil, append_assoc, arith}
+use Rattle.nbd_laws.proofs.Common.{◌≡◌, ℕ, zero, suc, ◌+◌, ◌⊎◌, ◌==◌, List, [], ◌∷◌, ◌++◌, refl, sym, ◌∙◌, ap, subst, inl, inr, Option, Some, None, Bool, true, false, not, ◌&&◌, if◌then◌else◌, append-nil, append_assoc, arith, Side, Client, Server, Message, Greeting, ClientFlags, Choice, Answer, Exported, Request, turn, Operation, Exporting, is_finished, MayComplete, complete, core_with_request, reply_to, side, Phase, Greet, Flags, Choosing, Naming, Aborting, Answering, Transmission, Core, in_force, operation, is_awaiting, target, target_from}
 use Rattle.nbd_wire.specs.declared.commands.TheConstants as commands
-use Rattle.nbd_wire.specs.declared.message.Side.{Side}
-use Rattle.nbd_wire.specs.declared.message.Side.TheVariants.{Client, Server}
-use Rattle.nbd_wire.specs.declared.message.Message.{Message}
-use Rattle.nbd_wire.specs.declared.message.Message.TheVariants.{Greeting, ClientFlags, Choice, Answer, Exported, Request}
-use Rattle.nbd_wire.specs.protocol.Options.{turn}
-use Rattle.nbd_wire.specs.protocol.Operations.{Operation, Exporting, is_finished}
-use Rattle.nbd_wire.specs.protocol.Rules.{MayComplete, complete, core_with_request, reply_to}
-use Rattle.nbd_wire.specs.protocol.Sides.{side}
-use Rattle.nbd_wire.specs.protocol.States.{Phase, Greet, Flags, Choosing, Naming, Aborting, Answering, Transmission, Core, in_force, operation, is_awaiting, target, target_from}
 use Rattle.nbd_laws.proofs.reading.ReaderLemmas.{Later, at_once, behind}
 
 abbrev pub IsTransmitting : Phase → Type 0

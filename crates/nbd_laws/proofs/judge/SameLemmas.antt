@@ -1,19 +1,5 @@
 -- Of two messages of a side that may complete, neither's bytes are a proper prefix of the other's.
-use Rattle.std.proofs.Common.{◌≡◌, ℕ, ◌⊎◌, ◌==◌, ◌||◌, List, [], ◌∷◌, ◌++◌, refl, sym, ◌∙◌, ap, subst, inl, inr, Some, Bool, false, is_some, append-nil}
-use Rattle.nbd_wire.specs.declared.magics.TheConstants.{EXTENDED_REQUEST_MAGIC, EXTENDED_CHUNK_MAGIC}
-use Rattle.nbd_wire.specs.declared.message.Side.{Side}
-use Rattle.nbd_wire.specs.declared.message.Message.{Message}
-use Rattle.nbd_wire.specs.declared.message.Message.TheVariants.{Greeting, ClientFlags, Choice, Answer, Exported, Request, Simple, Chunk, ExtendedRequest, ExtendedChunk}
-use Rattle.nbd_wire.specs.protocol.Encoding.{enc, head, tail}
-use Rattle.nbd_wire.specs.protocol.Operations.{Exporting}
-use Rattle.nbd_wire.specs.protocol.Options.{turn}
-use Rattle.nbd_wire.specs.protocol.Payloads.{number_at}
-use Rattle.nbd_wire.specs.protocol.Reading.{More, Whole, by_tests}
-use Rattle.nbd_wire.specs.protocol.Rules.{MayComplete, MayStartIn, is_extended}
-use Rattle.nbd_wire.specs.protocol.Sendable.{IsSendable}
-use Rattle.nbd_wire.specs.protocol.Sides.{side}
-use Rattle.nbd_wire.specs.protocol.States.{Core, Phase, Greet, Flags, Choosing, Naming, Aborting, Answering, Transmission}
-use Rattle.nbd_laws.specs.Prefixes.{NoProperPrefix}
+use Rattle.nbd_laws.proofs.Common.{◌≡◌, ℕ, ◌⊎◌, ◌==◌, ◌||◌, List, [], ◌∷◌, ◌++◌, refl, sym, ◌∙◌, ap, subst, inl, inr, Some, Bool, false, is_some, append-nil, EXTENDED_REQUEST_MAGIC, EXTENDED_CHUNK_MAGIC, Side, Message, Greeting, ClientFlags, Choice, Answer, Exported, Request, Simple, Chunk, ExtendedRequest, ExtendedChunk, enc, head, tail, Exporting, turn, number_at, More, Whole, by_tests, MayComplete, MayStartIn, is_extended, IsSendable, side, Core, Phase, Greet, Flags, Choosing, Naming, Aborting, Answering, Transmission, NoProperPrefix}
 use Rattle.nbd_laws.proofs.judge.ExactLemmas.{IsTakenBy, deciding_of, exact_more, exact_whole, taken_by}
 use Rattle.nbd_laws.proofs.judge.SteadyLemmas.{IsDeciding}
 use Rattle.nbd_laws.proofs.reading.ReaderLemmas.{Later, Later-trans, at_once}

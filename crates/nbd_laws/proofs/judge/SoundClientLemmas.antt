@@ -1,22 +1,6 @@
 -- What the judge takes for a request is one that the rules allow.
-use Rattle.std.proofs.Common.{◌≡◌, ℕ, ◌<◌, ◌≤◌, ◌+◌, ◌^◌, ◌&&◌, if◌then◌else◌, IsTrue, None, List, length, drop, refl, sym, subst, Bool, true, false, arith, length-drop}
-use Rattle.std.proofs.lemmas.Bool.{ltb-false}
-use Rattle.nbd_wire.specs.declared.fault.WireFault.TheVariants.{OutOfProfile}
-use Rattle.nbd_wire.specs.declared.limits.TheConstants.{LONGEST_PAYLOAD}
+use Rattle.nbd_laws.proofs.Common.{◌≡◌, ℕ, ◌<◌, ◌≤◌, ◌+◌, ◌^◌, ◌&&◌, if◌then◌else◌, IsTrue, None, List, length, drop, refl, sym, subst, Bool, true, false, arith, length-drop, ltb-false, OutOfProfile, LONGEST_PAYLOAD, EXTENDED_REQUEST_MAGIC, REQUEST_MAGIC, Client, Message, enc, head, tail, AreBytes, with_number, number_at-lt, AreBytes-drop, number_at, Exporting, MayComplete, is_extended, is_request, IsSendable, carries_payload, Transmission, Core, extended_request, extended_request_of, request_by, request_of, short_request, read_by, request_unless, reading_by_decision, Whole, extended_payload_length, extended_request_fault, is_too_large, request_payload_length}
 use Rattle.nbd_laws.proofs.judge.BoolLemmas.{fault_none}
-use Rattle.nbd_wire.specs.declared.magics.TheConstants.{EXTENDED_REQUEST_MAGIC, REQUEST_MAGIC}
-use Rattle.nbd_wire.specs.declared.message.Side.TheVariants.{Client}
-use Rattle.nbd_wire.specs.declared.message.Message.{Message}
-use Rattle.nbd_wire.specs.protocol.Encoding.{enc, head, tail, AreBytes}
-use Rattle.nbd_wire.proofs.NumberLemmas.{with_number, number_at-lt, AreBytes-drop}
-use Rattle.nbd_wire.specs.protocol.Payloads.{number_at}
-use Rattle.nbd_wire.specs.protocol.Operations.{Exporting}
-use Rattle.nbd_wire.specs.protocol.Rules.{MayComplete, is_extended, is_request}
-use Rattle.nbd_wire.specs.protocol.Sendable.{IsSendable, carries_payload}
-use Rattle.nbd_wire.specs.protocol.States.{Transmission, Core}
-use Rattle.nbd_wire.specs.protocol.Decisions.{extended_request, extended_request_of, request_by, request_of, short_request}
-use Rattle.nbd_wire.specs.protocol.Reading.{read_by, request_unless, reading_by_decision, Whole}
-use Rattle.nbd_wire.specs.protocol.Transmission.{extended_payload_length, extended_request_fault, is_too_large, request_payload_length}
 use Rattle.nbd_laws.proofs.judge.SoundNegotiationLemmas.{IsFit, IsWhole, whole, magic_there}
 
 request_is : (bytes : List ℕ) → AreBytes bytes → 28 ≤ length bytes → number_at 0 4 bytes ≡ REQUEST_MAGIC → bytes ≡ enc (request_of bytes)

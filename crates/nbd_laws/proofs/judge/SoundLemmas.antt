@@ -1,18 +1,6 @@
 -- The judge is sound: a message that it calls whole is one that the rules allow.
-use Rattle.std.proofs.Common.{◌≡◌, ℕ, ◌⊎◌, List, [], ◌∷◌, refl, sym, ◌∙◌, ap, subst, inl, inr, Some, false, is_some, IsTrue}
-use Rattle.nbd_wire.specs.declared.message.Side.{Side}
-use Rattle.nbd_wire.specs.declared.message.Side.TheVariants.{Client, Server}
-use Rattle.nbd_wire.specs.declared.message.Message.{Message}
-use Rattle.nbd_wire.specs.protocol.Encoding.{AreBytes}
-use Rattle.nbd_wire.specs.protocol.Options.{turn}
-use Rattle.nbd_wire.proofs.NumberLemmas.{AreBytes-snoc}
-use Rattle.nbd_wire.specs.protocol.Operations.{Exporting}
-use Rattle.nbd_wire.specs.protocol.Rules.{MayStartIn, MayComplete, request_of_reply, is_extended, is_request}
-use Rattle.nbd_wire.specs.protocol.States.{Phase, Greet, Flags, Choosing, Naming, Aborting, Answering, Transmission, Core}
-use Rattle.nbd_wire.specs.declared.fault.WireFault.TheVariants.{OutOfTurn}
-use Rattle.nbd_wire.specs.protocol.Reading.{judge_in, by_tests, Reading, More, Whole, Bad, Judge}
+use Rattle.nbd_laws.proofs.Common.{◌≡◌, ℕ, ◌⊎◌, List, [], ◌∷◌, refl, sym, ◌∙◌, ap, subst, inl, inr, Some, false, is_some, IsTrue, Side, Client, Server, Message, AreBytes, turn, AreBytes-snoc, Exporting, MayStartIn, MayComplete, request_of_reply, is_extended, is_request, Phase, Greet, Flags, Choosing, Naming, Aborting, Answering, Transmission, Core, OutOfTurn, judge_in, by_tests, Reading, More, Whole, Bad, Judge, IsReached}
 use Rattle.nbd_laws.proofs.reading.ReaderLemmas.{Kept, begun, kept, Later, at_once, Later-trans, IsSoundAt, IsSound}
-use Rattle.nbd_laws.specs.Reached.{IsReached}
 use Rattle.nbd_laws.proofs.judge.PhaseLemmas.{IsTransmitting, Later-disconnected, Later-transmission, Later-turn, Later-extended}
 use Rattle.nbd_laws.proofs.judge.SoundClientLemmas.{IsAsked, request_sound}
 use Rattle.nbd_laws.proofs.judge.SoundNegotiationLemmas.{IsFit, negotiation_sound}

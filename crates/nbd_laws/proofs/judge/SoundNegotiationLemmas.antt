@@ -1,28 +1,7 @@
 -- What the judge takes for a message of the negotiation is one that the rules allow.
-use Rattle.std.proofs.Common.{◌≡◌, ℕ, ◌<◌, ◌≤◌, ◌+◌, ◌^◌, ◌==◌, List, [], length, drop, refl, sym, ap, subst, Option, Some, None, Bool, true, false, not, ◌&&◌, eqb-true, arith, length-drop}
+use Rattle.nbd_laws.proofs.Common.{◌≡◌, ℕ, ◌<◌, ◌≤◌, ◌+◌, ◌^◌, ◌==◌, List, [], length, drop, refl, sym, ap, subst, Option, Some, None, Bool, true, false, not, ◌&&◌, eqb-true, arith, length-drop, GREETING_MAGIC, OPTION_MAGIC, ANSWER_MAGIC, Side, Client, Server, Message, Greeting, ClientFlags, Choice, Exported, enc, head, tail, AreBytes, is_proper_option, turn, takes_contexts, with_number, number_at-lt, AreBytes-drop, number_at, Exporting, has, MayComplete, IsSendable, side, Phase, Greet, Flags, Choosing, Naming, Aborting, Answering, Transmission, Core, WireFault, BadMagic, BadExport, Decision, greeting, client_flags, choice, export_answer, answer_of, abort_answer, answer, answer_fault, answer_head_fault, greeting_fault, are_zeroes, abort_fault, read_by, last_reading, judge_in, Whole, fault_if}
 use Rattle.nbd_wire.specs.declared.handshake.TheConstants as handshake
-use Rattle.nbd_wire.specs.declared.magics.TheConstants.{GREETING_MAGIC, OPTION_MAGIC, ANSWER_MAGIC}
-use Rattle.nbd_wire.specs.declared.message.Side.{Side}
-use Rattle.nbd_wire.specs.declared.message.Side.TheVariants.{Client, Server}
-use Rattle.nbd_wire.specs.declared.message.Message.{Message}
-use Rattle.nbd_wire.specs.declared.message.Message.TheVariants.{Greeting, ClientFlags, Choice, Exported}
 use Rattle.nbd_wire.specs.declared.options.TheConstants as options
-use Rattle.nbd_wire.specs.protocol.Encoding.{enc, head, tail, AreBytes}
-use Rattle.nbd_wire.specs.protocol.Options.{is_proper_option, turn, takes_contexts}
-use Rattle.nbd_wire.proofs.NumberLemmas.{with_number, number_at-lt, AreBytes-drop}
-use Rattle.nbd_wire.specs.protocol.Payloads.{number_at}
-use Rattle.nbd_wire.specs.protocol.Operations.{Exporting}
-use Rattle.nbd_wire.specs.protocol.Flags.{has}
-use Rattle.nbd_wire.specs.protocol.Rules.{MayComplete}
-use Rattle.nbd_wire.specs.protocol.Sendable.{IsSendable}
-use Rattle.nbd_wire.specs.protocol.Sides.{side}
-use Rattle.nbd_wire.specs.protocol.States.{Phase, Greet, Flags, Choosing, Naming, Aborting, Answering, Transmission, Core}
-use Rattle.nbd_wire.specs.declared.fault.WireFault.{WireFault}
-use Rattle.nbd_wire.specs.declared.fault.WireFault.TheVariants.{BadMagic, BadExport}
-use Rattle.nbd_wire.specs.protocol.Decisions.{Decision, greeting, client_flags, choice, export_answer, answer_of, abort_answer, answer}
-use Rattle.nbd_wire.specs.protocol.Negotiation.{answer_fault, answer_head_fault, greeting_fault, are_zeroes, abort_fault}
-use Rattle.nbd_wire.specs.protocol.Reading.{read_by, last_reading, judge_in, Whole}
-use Rattle.nbd_wire.specs.protocol.Tests.{fault_if}
 use Rattle.nbd_laws.proofs.judge.AllowLemmas.{no_length}
 use Rattle.nbd_laws.proofs.judge.BoolLemmas.{not_false, and_true, whole_at, fault_none, ended_whole, are_zeroes-replicate}
 

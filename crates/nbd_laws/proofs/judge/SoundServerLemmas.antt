@@ -1,23 +1,5 @@
 -- What the judge takes for a reply is one that the rules allow.
-use Rattle.std.proofs.Common.{◌≡◌, ℕ, ◌<◌, ◌≤◌, ◌+◌, ◌^◌, ◌==◌, List, length, drop, refl, sym, ◌∙◌, ap, subst, Option, Some, None, Bool, true, false, eqb-true, is_some, arith, length-drop, IsTrue, nat_le}
-use Rattle.std.proofs.lemmas.Bool.{leb-true, ltb-false}
-use Rattle.nbd_wire.specs.declared.magics.TheConstants.{EXTENDED_CHUNK_MAGIC, SIMPLE_MAGIC, CHUNK_MAGIC}
-use Rattle.nbd_wire.specs.declared.limits.TheConstants.{LONGEST_PAYLOAD}
-use Rattle.nbd_wire.specs.declared.fault.WireFault.{WireFault}
-use Rattle.nbd_wire.specs.declared.message.Side.TheVariants.{Server}
-use Rattle.nbd_wire.specs.declared.message.Message.{Message}
-use Rattle.nbd_wire.specs.protocol.Encoding.{enc, head, tail, AreBytes}
-use Rattle.nbd_wire.proofs.NumberLemmas.{with_number, number_at-lt, AreBytes-drop}
-use Rattle.nbd_wire.specs.protocol.Payloads.{number_at}
-use Rattle.nbd_wire.specs.protocol.Decisions.{extended_chunk_of, extended_chunk_to, extended_last_fault, extended_reply_by, reply_in, chunk_last_fault, begins, chunk_of, chunk_to, operation_if, operation_of, no_reply, reply, reply_by, simple_of, simple_to}
-use Rattle.nbd_wire.specs.protocol.Reading.{read_by, Whole}
-use Rattle.nbd_wire.specs.protocol.Transmission.{is_too_large, offset_fault, simple_length, chunk_head_fault, simple_fault, simple_last_fault}
-use Rattle.nbd_wire.specs.protocol.Rules.{MayReply, MayComplete, is_extended, request_of_reply}
-use Rattle.nbd_wire.specs.declared.profile.Profile.{Profile}
-use Rattle.nbd_wire.specs.protocol.Operations.{Operation, Exporting}
-use Rattle.nbd_wire.specs.protocol.Sendable.{IsSendable}
-use Rattle.nbd_wire.specs.protocol.States.{Transmission, Core, target, operation}
-use Rattle.nbd_wire.specs.declared.fault.WireFault.TheVariants.{BadMagic, BadReplyOffset, OutOfProfile, UnknownCookie}
+use Rattle.nbd_laws.proofs.Common.{◌≡◌, ℕ, ◌<◌, ◌≤◌, ◌+◌, ◌^◌, ◌==◌, List, length, drop, refl, sym, ◌∙◌, ap, subst, Option, Some, None, Bool, true, false, eqb-true, is_some, arith, length-drop, IsTrue, nat_le, leb-true, ltb-false, EXTENDED_CHUNK_MAGIC, SIMPLE_MAGIC, CHUNK_MAGIC, LONGEST_PAYLOAD, WireFault, Server, Message, enc, head, tail, AreBytes, with_number, number_at-lt, AreBytes-drop, number_at, extended_chunk_of, extended_chunk_to, extended_last_fault, extended_reply_by, reply_in, chunk_last_fault, begins, chunk_of, chunk_to, operation_if, operation_of, no_reply, reply, reply_by, simple_of, simple_to, read_by, Whole, is_too_large, offset_fault, simple_length, chunk_head_fault, simple_fault, simple_last_fault, MayReply, MayComplete, is_extended, request_of_reply, Profile, Operation, Exporting, IsSendable, Transmission, Core, target, operation, BadMagic, BadReplyOffset, OutOfProfile, UnknownCookie}
 use Rattle.nbd_laws.proofs.judge.BoolLemmas.{and_true, fault_none, not_false}
 use Rattle.nbd_laws.proofs.reading.ReaderLemmas.{Later}
 use Rattle.nbd_laws.proofs.judge.PhaseLemmas.{IsAppended, Later-appended, target-append}

@@ -1,28 +1,10 @@
 -- What is decided of a message does not change as its bytes come, nor where the other side's
 -- messages complete meanwhile.
-use Rattle.std.proofs.Common.{not, ◌≡◌, ℕ, zero, suc, ◌+◌, ◌<◌, ◌≤◌, ◌==◌, List, [], ◌∷◌, ◌++◌, length, refl, sym, ◌∙◌, ap, subst, Option, Some, None, Bool, true, false, ◌&&◌, eq-eqb, nat_le, arith, length-append}
-use Rattle.std.proofs.lemmas.Bool.{le-leb, lt-leb}
+use Rattle.nbd_laws.proofs.Common.{not, ◌≡◌, ℕ, zero, suc, ◌+◌, ◌<◌, ◌≤◌, ◌==◌, List, [], ◌∷◌, ◌++◌, length, refl, sym, ◌∙◌, ap, subst, Option, Some, None, Bool, true, false, ◌&&◌, eq-eqb, nat_le, arith, length-append, le-leb, lt-leb, SIMPLE_MAGIC, CHUNK_MAGIC, EXTENDED_CHUNK_MAGIC, EXTENDED_REQUEST_MAGIC, GREETING_MAGIC, OPTION_MAGIC, ANSWER_MAGIC, REQUEST_MAGIC, Side, Client, Server, number_at-append, is_proper_option, turn, takes_contexts, number_at, Operation, Exporting, has, Phase, Greet, Flags, Choosing, Naming, Aborting, Answering, Transmission, Core, operation, target, BadMagic, UnknownCookie, Decision, abort_answer, answer, choice, client_flags, export_answer, greeting, begins, chunk_to, operation_if, operation_of, no_reply, reply_by, reply_in, extended_reply_by, extended_chunk_to, short_request, extended_request, request_by, simple_to, answer_head_fault, abort_fault, answer_fault, client_flags_fault, export_fault, greeting_fault, decision, request_unless, fault_if, request_fault, request_payload_length, simple_payload_length, simple_fault, chunk_head_fault, extended_head_fault, extended_payload_length, extended_request_fault, Selection, Profile}
 use Rattle.nbd_wire.specs.declared.handshake.TheConstants as handshake
-use Rattle.nbd_wire.specs.declared.magics.TheConstants.{SIMPLE_MAGIC, CHUNK_MAGIC, EXTENDED_CHUNK_MAGIC, EXTENDED_REQUEST_MAGIC, GREETING_MAGIC, OPTION_MAGIC, ANSWER_MAGIC, REQUEST_MAGIC}
-use Rattle.nbd_wire.specs.declared.message.Side.{Side}
-use Rattle.nbd_wire.specs.declared.message.Side.TheVariants.{Client, Server}
-use Rattle.nbd_wire.proofs.FieldLemmas.{number_at-append}
-use Rattle.nbd_wire.specs.protocol.Options.{is_proper_option, turn, takes_contexts}
-use Rattle.nbd_wire.specs.protocol.Payloads.{number_at}
-use Rattle.nbd_wire.specs.protocol.Operations.{Operation, Exporting}
-use Rattle.nbd_wire.specs.protocol.Flags.{has}
-use Rattle.nbd_wire.specs.protocol.States.{Phase, Greet, Flags, Choosing, Naming, Aborting, Answering, Transmission, Core, operation, target}
-use Rattle.nbd_wire.specs.declared.fault.WireFault.TheVariants.{BadMagic, UnknownCookie}
-use Rattle.nbd_wire.specs.protocol.Decisions.{Decision, abort_answer, answer, choice, client_flags, export_answer, greeting, begins, chunk_to, operation_if, operation_of, no_reply, reply_by, reply_in, extended_reply_by, extended_chunk_to, short_request, extended_request, request_by, simple_to}
-use Rattle.nbd_wire.specs.protocol.Negotiation.{answer_head_fault, abort_fault, answer_fault, client_flags_fault, export_fault, greeting_fault}
-use Rattle.nbd_wire.specs.protocol.Reading.{decision, request_unless}
-use Rattle.nbd_wire.specs.protocol.Tests.{fault_if}
-use Rattle.nbd_wire.specs.protocol.Transmission.{request_fault, request_payload_length, simple_payload_length, simple_fault, chunk_head_fault, extended_head_fault, extended_payload_length, extended_request_fault}
 use Rattle.nbd_laws.proofs.reading.ReaderLemmas.{Later}
 use Rattle.nbd_laws.proofs.judge.SoundServerLemmas.{magic_of}
 use Rattle.nbd_laws.proofs.judge.PhaseLemmas.{IsAppended, Later-appended, Later-extended, Later-disconnected, Later-transmission, Later-turn, target_entry}
-use Rattle.nbd_wire.specs.protocol.Contexts.{Selection}
-use Rattle.nbd_wire.specs.declared.profile.Profile.{Profile}
 
 -- the same of a message's head and length
 pub record IsSameHead (c d : Decision) : Type 0 where

@@ -1,23 +1,8 @@
 -- What holds of each request of a core that completed messages lead to.
-use Rattle.std.proofs.Common.{◌≡◌, ℕ, zero, suc, ◌<◌, ◌≤◌, ◌⊎◌, ◌^◌, ◌==◌, List, [], ◌∷◌, ◌++◌, length, refl, sym, ◌∙◌, ap, subst, inl, inr, Option, Some, None, Bool, true, false, ◌&&◌, if◌then◌else◌, eqb-true, arith, append-nil, nat_le}
-use Rattle.nbd_laws.specs.Allowed.{IsChunk}
-use Rattle.nbd_wire.specs.declared.profile.Profile.{Profile}
-use Rattle.nbd_wire.specs.protocol.Transmission.{read_as, status_kind}
+use Rattle.nbd_laws.proofs.Common.{◌≡◌, ℕ, zero, suc, ◌<◌, ◌≤◌, ◌⊎◌, ◌^◌, ◌==◌, List, [], ◌∷◌, ◌++◌, length, refl, sym, ◌∙◌, ap, subst, inl, inr, Option, Some, None, Bool, true, false, ◌&&◌, if◌then◌else◌, eqb-true, arith, append-nil, nat_le, IsChunk, Profile, read_as, status_kind, Message, Greeting, ClientFlags, Choice, Answer, Exported, Request, Simple, Chunk, ExtendedRequest, ExtendedChunk, Failure, Piece, Bytes, content_of, failure_of, Operation, Exporting, pieces, pieces_of, chunk_piece, piece_of, MayComplete, MayReply, complete, core_with_request, reply_to, grants_extended, IsSendable, Phase, Transmission, Core, target, operation, with_reply_at, with_reply, IsReached, at_start, after_message}
 use Rattle.nbd_laws.proofs.judge.KindLemmas.{kind_content}
 use Rattle.nbd_wire.specs.declared.chunks.TheConstants as chunks
 use Rattle.nbd_wire.specs.declared.commands.TheConstants as commands
-use Rattle.nbd_wire.specs.declared.message.Message.{Message}
-use Rattle.nbd_wire.specs.declared.message.Message.TheVariants.{Greeting, ClientFlags, Choice, Answer, Exported, Request, Simple, Chunk, ExtendedRequest, ExtendedChunk}
-use Rattle.nbd_wire.specs.declared.payloads.Failure.{Failure}
-use Rattle.nbd_wire.specs.declared.payloads.Piece.{Piece}
-use Rattle.nbd_wire.specs.declared.payloads.Piece.TheVariants.{Bytes}
-use Rattle.nbd_wire.specs.protocol.Payloads.{content_of, failure_of}
-use Rattle.nbd_wire.specs.protocol.Operations.{Operation, Exporting, pieces, pieces_of}
-use Rattle.nbd_wire.specs.protocol.Pieces.{chunk_piece, piece_of}
-use Rattle.nbd_wire.specs.protocol.Rules.{MayComplete, MayReply, complete, core_with_request, reply_to, grants_extended}
-use Rattle.nbd_wire.specs.protocol.Sendable.{IsSendable}
-use Rattle.nbd_wire.specs.protocol.States.{Phase, Transmission, Core, target, operation, with_reply_at, with_reply}
-use Rattle.nbd_laws.specs.Reached.{IsReached, at_start, after_message}
 use Rattle.nbd_laws.proofs.requests.LaidLemmas.{AreApart, AreInside, apart_snoc, inside_snoc, pieces-snoc}
 use Rattle.nbd_laws.proofs.judge.BoolLemmas.{and_true, or_false}
 use Rattle.nbd_laws.proofs.judge.AllowLemmas.{chunk_allow, extended_allow, simple_allow}

@@ -1,18 +1,6 @@
 -- A run's pairs are read without a fault, and what completes is the run's.
-use Rattle.std.proofs.Common.{◌≡◌, ℕ, ◌<◌, List, [], ◌∷◌, ◌++◌, length, refl, sym, ◌∙◌, ap, subst, Ok, append_assoc, append-nil}
-use Rattle.nbd_wire.specs.declared.entry.Entry.{Entry}
-use Rattle.nbd_wire.specs.declared.message.Side.{Side}
-use Rattle.nbd_wire.specs.declared.message.Message.{Message}
-use Rattle.nbd_wire.specs.protocol.Encoding.{enc}
-use Rattle.nbd_wire.specs.protocol.Sides.{side}
-use Rattle.nbd_wire.specs.protocol.Marks.{Item, pairs}
-use Rattle.nbd_wire.specs.protocol.Captures.{Pair, ArePairs}
-use Rattle.nbd_wire.specs.protocol.States.{Core}
-use Rattle.nbd_wire.specs.protocol.Sendable.{IsSendable}
-use Rattle.nbd_wire.specs.protocol.Rules.{MayStart, MayComplete, complete, Obeys}
-use Rattle.nbd_wire.specs.protocol.Within.{within}
+use Rattle.nbd_laws.proofs.Common.{◌≡◌, ℕ, ◌<◌, List, [], ◌∷◌, ◌++◌, length, refl, sym, ◌∙◌, ap, subst, Ok, append_assoc, append-nil, Entry, Side, Message, enc, side, Item, pairs, Pair, ArePairs, Core, IsSendable, MayStart, MayComplete, complete, Obeys, within, Both, get, put, IsFilled, Rest, Reader, Reading, More, Whole, Bad, old_of, settle, Judge, rest_with, reads, on_ok}
 use Rattle.nbd_laws.proofs.reading.ReaderLemmas.{put_both, IsFilled-snoc, old-empty, old-filled, Kept, AreHeld, kept_next, held_more, held_whole, get-put_same, Open, Idle, Busy, Loose, Walk, ended, serving, opening, middle, final, loose, Later, at_once, behind, Later-trans, IsExact}
-use Rattle.nbd_wire.specs.protocol.Reading.{Both, get, put, IsFilled, Rest, Reader, Reading, More, Whole, Bad, old_of, settle, Judge, rest_with, reads, on_ok}
 use Rattle.nbd_laws.proofs.runs.FollowLemmas.{HasEnd, IsSidedOpen, completes_later, each_with, follows}
 use Rattle.nbd_laws.proofs.runs.TraceLemmas.{IsWithin}
 

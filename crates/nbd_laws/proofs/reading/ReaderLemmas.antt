@@ -1,17 +1,4 @@
-use Rattle.std.proofs.Common.{◌≡◌, ℕ, ◌<◌, ◌⊎◌, List, [], ◌∷◌, ◌++◌, refl, sym, ◌∙◌, ap, subst, inl, inr, Ok}
-use Rattle.nbd_wire.specs.declared.entry.Entry.{Entry}
-use Rattle.nbd_wire.specs.declared.message.Side.{Side}
-use Rattle.nbd_wire.specs.declared.message.Side.TheVariants.{Client, Server}
-use Rattle.nbd_wire.specs.declared.message.Message.{Message}
-use Rattle.nbd_wire.specs.protocol.Encoding.{enc}
-use Rattle.nbd_wire.specs.protocol.Sides.{side}
-use Rattle.nbd_wire.specs.protocol.Marks.{Item, Byte, Starts, Completes, Serves}
-use Rattle.nbd_wire.specs.protocol.Captures.{Pair, ArePairs}
-use Rattle.nbd_wire.specs.protocol.States.{Core}
-use Rattle.nbd_wire.specs.protocol.Sendable.{IsSendable}
-use Rattle.nbd_wire.specs.protocol.Rules.{MayStart, MayComplete, complete}
-use Rattle.nbd_wire.specs.protocol.Reading.{Both, get, put, IsFilled, Rest, Reader, Reading, old_by, old_of, settle, Judge, rest_with, on_ok, reads, More, Whole, Bad}
-use Rattle.nbd_laws.specs.Reached.{IsReached, after_message}
+use Rattle.nbd_laws.proofs.Common.{◌≡◌, ℕ, ◌<◌, ◌⊎◌, List, [], ◌∷◌, ◌++◌, refl, sym, ◌∙◌, ap, subst, inl, inr, Ok, Entry, Side, Client, Server, Message, enc, side, Item, Byte, Starts, Completes, Serves, Pair, ArePairs, Core, IsSendable, MayStart, MayComplete, complete, Both, get, put, IsFilled, Rest, Reader, Reading, old_by, old_of, settle, Judge, rest_with, on_ok, reads, More, Whole, Bad, IsReached, after_message}
 
 pub get-put_same : {A : Type 0} (p : Both A) (s : Side) (a : A) → get (put p s a) s ≡ a
 get-put_same p Client a = refl

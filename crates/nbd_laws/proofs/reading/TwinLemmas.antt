@@ -1,17 +1,7 @@
 -- Two runs with the same bytes have the same marks, but for those of service.
-use Rattle.std.proofs.Common.{◌≡◌, ℕ, List, [], ◌∷◌, ◌++◌, refl, sym, ◌∙◌, ap, subst, append_assoc, append-nil}
-use Rattle.nbd_wire.specs.declared.message.Side.{Side}
-use Rattle.nbd_wire.specs.declared.message.Side.TheVariants.{Client, Server}
-use Rattle.nbd_wire.specs.declared.message.Message.{Message}
-use Rattle.nbd_wire.specs.protocol.Encoding.{enc}
-use Rattle.nbd_wire.specs.protocol.Marks.{Item, Byte, Starts, Completes, pairs}
-use Rattle.nbd_wire.specs.protocol.Captures.{Pair}
-use Rattle.nbd_wire.specs.protocol.Rules.{MayComplete, complete}
-use Rattle.nbd_wire.specs.protocol.Sides.{side}
-use Rattle.nbd_wire.specs.protocol.States.{Core}
+use Rattle.nbd_laws.proofs.Common.{◌≡◌, ℕ, List, [], ◌∷◌, ◌++◌, refl, sym, ◌∙◌, ap, subst, append_assoc, append-nil, Side, Client, Server, Message, enc, Item, Byte, Starts, Completes, pairs, Pair, MayComplete, complete, side, Core, Both, get, put, IsFilled}
 use Rattle.nbd_laws.proofs.runs.FollowLemmas.{IsBegun, Follows, IsBare, HasEnd, IsSidedOpen, completes_later}
 use Rattle.nbd_laws.proofs.judge.SameLemmas.{IsSame, same_message}
-use Rattle.nbd_wire.specs.protocol.Reading.{Both, get, put, IsFilled}
 use Rattle.nbd_laws.proofs.reading.ReaderLemmas.{put_both, get-put_same, Open, Idle, Busy, Loose, IsNotBusy, Walk, ended, serving, opening, middle, final, loose, Later, Later-trans, at_once, behind}
 
 -- two messages that a side may be in, of which the same bytes have come

@@ -1,20 +1,9 @@
 -- Nothing of the client comes after a DISC.
-use Rattle.std.proofs.Common.{◌≡◌, ℕ, ◌==◌, List, [], ◌∷◌, ◌++◌, refl, sym, ◌∙◌, subst, Option, Some, None, Bool, true, false}
+use Rattle.nbd_laws.proofs.Common.{◌≡◌, ℕ, ◌==◌, List, [], ◌∷◌, ◌++◌, refl, sym, ◌∙◌, subst, Option, Some, None, Bool, true, false, MayAsk, Client, Message, Request, ExtendedRequest, Item, Starts, Completes, Serves, Operation, Exporting, IsRunOf, MayComplete, MayStartIn, Obeys, after, complete, ends_at, reply_to, core_with_request, Core, Phase, State, Transmission, start_of, DisconnectsAreEmpty, IsDisconnect, NothingAfterDisconnect, extended, short, Profile}
 use Rattle.nbd_laws.proofs.judge.AllowLemmas.{ask_allow, extended_ask_allow}
-use Rattle.nbd_laws.specs.Allowed.{MayAsk}
 use Rattle.nbd_wire.specs.declared.commands.TheConstants as commands
-use Rattle.nbd_wire.specs.declared.message.Side.TheVariants.{Client}
-use Rattle.nbd_wire.specs.declared.message.Message.{Message}
-use Rattle.nbd_wire.specs.declared.message.Message.TheVariants.{Request, ExtendedRequest}
-use Rattle.nbd_wire.specs.protocol.Marks.{Item, Starts, Completes, Serves}
-use Rattle.nbd_wire.specs.protocol.Operations.{Operation, Exporting}
-use Rattle.nbd_wire.specs.protocol.Rules.{IsRunOf, MayComplete, MayStartIn, Obeys, after, complete, ends_at, reply_to, core_with_request}
-use Rattle.nbd_wire.specs.protocol.States.{Core, Phase, State, Transmission, start_of}
 use Rattle.nbd_laws.proofs.runs.PrefixLemmas.{InTransmission, asks, phase-complete, transmission_row}
 use Rattle.nbd_laws.proofs.runs.PartLemmas.{obeys_back, obeys_prefix}
-use Rattle.nbd_laws.specs.Service.{DisconnectsAreEmpty, IsDisconnect, NothingAfterDisconnect}
-use Rattle.nbd_laws.specs.Service.IsDisconnect.{extended, short}
-use Rattle.nbd_wire.specs.declared.profile.Profile.{Profile}
 
 -- a DISC completes in transmission alone
 record IsAsked (core : Core) (phase : Phase) (cookie offset len : ℕ) : Type 0 where

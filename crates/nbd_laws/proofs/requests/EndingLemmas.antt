@@ -1,20 +1,9 @@
 -- A reply completes for the request for which it started.
-use Rattle.std.proofs.Common.{◌≡◌, ℕ, List, [], ◌∷◌, ◌++◌, refl, sym, ◌∙◌, ap, subst, inl, inr, Option, Some, None, IsTrue, is_some}
-use Rattle.nbd_wire.specs.declared.message.Side.{Side}
-use Rattle.nbd_wire.specs.declared.message.Side.TheVariants.{Client, Server}
-use Rattle.nbd_wire.specs.declared.message.Message.{Message}
-use Rattle.nbd_wire.specs.declared.profile.Profile.{Profile}
-use Rattle.nbd_wire.specs.protocol.Marks.{Item, Byte, Starts, Completes, Serves}
-use Rattle.nbd_wire.specs.protocol.Operations.{Exporting}
-use Rattle.nbd_wire.specs.protocol.Rules.{IsRunOf, MayStartIn, request_of_reply, complete, cookie_of, ends_at, target_of}
-use Rattle.nbd_wire.specs.protocol.Sides.{side}
-use Rattle.nbd_wire.specs.protocol.States.{Core, Transmission, start, start_of, target}
+use Rattle.nbd_laws.proofs.Common.{◌≡◌, ℕ, List, [], ◌∷◌, ◌++◌, refl, sym, ◌∙◌, ap, subst, inl, inr, Option, Some, None, IsTrue, is_some, Side, Client, Server, Message, Profile, Item, Byte, Starts, Completes, Serves, Exporting, IsRunOf, MayStartIn, request_of_reply, complete, cookie_of, ends_at, target_of, side, Core, Transmission, start, start_of, target, RepliesEndAsTheyStart, Both, get, put}
 use Rattle.nbd_laws.specs.Prefixes as prefixes
-use Rattle.nbd_laws.specs.Service.{RepliesEndAsTheyStart}
 use Rattle.nbd_laws.proofs.runs.FollowLemmas.{Follows, IsSidedOpen, each_with, follows}
 use Rattle.nbd_laws.proofs.runs.PrefixLemmas.{IsTarget, target_later}
 use Rattle.nbd_laws.proofs.service.InsideLemmas.{core_end}
-use Rattle.nbd_wire.specs.protocol.Reading.{Both, get, put}
 use Rattle.nbd_laws.proofs.reading.ReaderLemmas.{get-put_same, get-put_other, same_or_not, Open, Idle, Busy, Walk, ended, serving, opening, middle, final, loose, Later, at_once, behind}
 use Rattle.nbd_laws.proofs.requests.OutstandingLemmas.{IsFound, find, in_transmission}
 use Rattle.nbd_laws.proofs.runs.PartLemmas.{obeys_back}

@@ -1,28 +1,11 @@
 -- What a request keeps as replies to it complete.
-use Rattle.std.proofs.Common.{◌≡◌, Option, ℕ, zero, suc, ◌≤◌, ◌⊎◌, ◌==◌, List, [], ◌∷◌, ◌++◌, length, refl, sym, ◌∙◌, ap, subst, inl, inr, Some, None, Bool, true, false, ◌&&◌, if◌then◌else◌, eqb-true, eq-eqb, arith, IsTrue, append-nil, nat_le, nat_lt, le_refl}
-use Rattle.std.proofs.lemmas.Bool.{leb-true, ltb-true}
+use Rattle.nbd_laws.proofs.Common.{◌≡◌, Option, ℕ, zero, suc, ◌≤◌, ◌⊎◌, ◌==◌, List, [], ◌∷◌, ◌++◌, length, refl, sym, ◌∙◌, ap, subst, inl, inr, Some, None, Bool, true, false, ◌&&◌, if◌then◌else◌, eqb-true, eq-eqb, arith, IsTrue, append-nil, nat_le, nat_lt, le_refl, leb-true, ltb-true, IsChunk, Profile, read_as, status_kind, done_fault, simple_length, Message, Request, Simple, Chunk, ExtendedRequest, ExtendedChunk, Failure, Piece, Sizes, Context, length_by, content_of, failure_of, MayReply, filter_in, written, Covers, Operation, Exporting, Outcome, Success, Pending, any, ends_reply, has_failed, has_range, is_failing, is_finished, is_proper, outcome, pieces, pieces_of, chunk_piece, piece_of, simple_piece, has, IsSendable, with_reply_at, operation, with_reply}
 use Rattle.nbd_laws.proofs.judge.AllowLemmas.{chunk_allow, extended_allow, finish_allow, simple_allow, total_covers}
-use Rattle.nbd_laws.specs.Allowed.{IsChunk}
 use Rattle.nbd_laws.proofs.judge.KindLemmas.{kind_content}
-use Rattle.nbd_wire.specs.declared.profile.Profile.{Profile}
-use Rattle.nbd_wire.specs.protocol.Transmission.{read_as, status_kind, done_fault, simple_length}
 use Rattle.nbd_wire.specs.declared.chunks.TheConstants as chunks
 use Rattle.nbd_wire.specs.declared.command_flags.TheConstants as command_flags
 use Rattle.nbd_wire.specs.declared.commands.TheConstants as commands
-use Rattle.nbd_wire.specs.declared.message.Message.{Message}
-use Rattle.nbd_wire.specs.declared.message.Message.TheVariants.{Request, Simple, Chunk, ExtendedRequest, ExtendedChunk}
-use Rattle.nbd_wire.specs.declared.payloads.Failure.{Failure}
-use Rattle.nbd_wire.specs.declared.payloads.Piece.{Piece}
-use Rattle.nbd_wire.specs.declared.sizes.Sizes.{Sizes}
-use Rattle.nbd_wire.specs.protocol.Contexts.{Context, length_by}
-use Rattle.nbd_wire.specs.protocol.Payloads.{content_of, failure_of}
-use Rattle.nbd_wire.specs.protocol.Rules.{MayReply, filter_in, written}
-use Rattle.nbd_wire.specs.protocol.Operations.{Covers, Operation, Exporting, Outcome, Success, Pending, any, ends_reply, has_failed, has_range, is_failing, is_finished, is_proper, outcome, pieces, pieces_of}
-use Rattle.nbd_wire.specs.protocol.Pieces.{chunk_piece, piece_of, simple_piece}
-use Rattle.nbd_wire.specs.protocol.Flags.{has}
 use Rattle.nbd_wire.specs.protocol.Operations as requests
-use Rattle.nbd_wire.specs.protocol.Sendable.{IsSendable}
-use Rattle.nbd_wire.specs.protocol.States.{with_reply_at, operation, with_reply}
 use Rattle.nbd_laws.proofs.requests.LaidLemmas.{AreApart, AreInside, apart_snoc, inside_snoc, pieces-snoc}
 use Rattle.nbd_laws.proofs.requests.OutstandingLemmas.{both_true, not_true_is_false}
 

@@ -1,10 +1,5 @@
 -- Pieces that lie in a range and share no offset.
-use Rattle.std.proofs.Common.{◌≡◌, ℕ, zero, suc, ◌+◌, ◌≤◌, List, [], ◌∷◌, ◌++◌, refl, sym, ◌∙◌, ap, subst, Some, None, Bool, true, false, if◌then◌else◌, slice_get, append_assoc, append-nil}
-use Rattle.nbd_wire.specs.declared.message.Message.{Message}
-use Rattle.nbd_wire.specs.declared.payloads.Piece.{Piece}
-use Rattle.nbd_wire.specs.protocol.Pieces.{SharesNone, byte_at, holds, piece_byte, piece_of, piece_offset, piece_size}
-use Rattle.nbd_wire.specs.protocol.Operations.{pieces_of}
-use Rattle.nbd_laws.specs.Soundness.{AreLaid}
+use Rattle.nbd_laws.proofs.Common.{◌≡◌, ℕ, zero, suc, ◌+◌, ◌≤◌, List, [], ◌∷◌, ◌++◌, refl, sym, ◌∙◌, ap, subst, Some, None, Bool, true, false, if◌then◌else◌, slice_get, append_assoc, append-nil, Message, Piece, SharesNone, byte_at, holds, piece_byte, piece_of, piece_offset, piece_size, pieces_of, AreLaid}
 
 abbrev pub AreInside : ℕ → ℕ → List Piece → Type 0
 AreInside offset len [] = Unit {0}

@@ -1,21 +1,9 @@
 -- The outstanding requests of a core have distinct cookies.
-use Rattle.std.proofs.Common.{◌≡◌, ℕ, zero, suc, ◌+◌, ◌==◌, ◌&&◌, not, List, [], ◌∷◌, ◌++◌, refl, sym, ◌∙◌, ap, subst, Option, Some, None, Bool, true, false, if◌then◌else◌, arith, eqb-true, eq-eqb, IsTrue, is_some}
+use Rattle.nbd_laws.proofs.Common.{◌≡◌, ℕ, zero, suc, ◌+◌, ◌==◌, ◌&&◌, not, List, [], ◌∷◌, ◌++◌, refl, sym, ◌∙◌, ap, subst, Option, Some, None, Bool, true, false, if◌then◌else◌, arith, eqb-true, eq-eqb, IsTrue, is_some, MayAsk, IsServedAt, Server, Message, Request, Simple, Chunk, ExtendedRequest, ExtendedChunk, Profile, operations_of, report, Item, Starts, Completes, Serves, service_order, Operation, Exporting, any, ends_reply, is_finished, MayComplete, MayStartIn, Obeys, after, request_of_reply, complete, cookie_of, ends_at, inside_at, makes_due, reply_to, core_with_request, target_of, Core, Phase, State, Transmission, with_reply_at, operation, is_awaiting, start, start_of, target, target_from, with_reply, export_in, AnswersRequest, CookiesAreDistinct, EachReplyAnswersOne, EmptyIsExplained, ServedOnceAfterCompletion}
 use Rattle.nbd_laws.proofs.judge.AllowLemmas.{ask_allow, extended_ask_allow}
-use Rattle.nbd_laws.specs.Allowed.{MayAsk}
-use Rattle.nbd_wire.specs.protocol.Entries.{IsServedAt}
 use Rattle.nbd_wire.specs.declared.commands.TheConstants as commands
-use Rattle.nbd_wire.specs.declared.message.Side.TheVariants.{Server}
-use Rattle.nbd_wire.specs.declared.message.Message.{Message}
-use Rattle.nbd_wire.specs.declared.message.Message.TheVariants.{Request, Simple, Chunk, ExtendedRequest, ExtendedChunk}
-use Rattle.nbd_wire.specs.declared.profile.Profile.{Profile}
-use Rattle.nbd_wire.specs.protocol.Reports.{operations_of, report}
-use Rattle.nbd_wire.specs.protocol.Marks.{Item, Starts, Completes, Serves, service_order}
-use Rattle.nbd_wire.specs.protocol.Operations.{Operation, Exporting, any, ends_reply, is_finished}
-use Rattle.nbd_wire.specs.protocol.Rules.{MayComplete, MayStartIn, Obeys, after, request_of_reply, complete, cookie_of, ends_at, inside_at, makes_due, reply_to, core_with_request, target_of}
-use Rattle.nbd_wire.specs.protocol.States.{Core, Phase, State, Transmission, with_reply_at, operation, is_awaiting, start, start_of, target, target_from, with_reply, export_in}
 use Rattle.nbd_laws.proofs.runs.PartLemmas.{obeys_back, obeys_prefix, served_in}
 use Rattle.nbd_laws.proofs.runs.ProfileLemmas.{at_base, phase_at_base}
-use Rattle.nbd_laws.specs.Service.{AnswersRequest, CookiesAreDistinct, EachReplyAnswersOne, EmptyIsExplained, ServedOnceAfterCompletion}
 
 -- no outstanding request has this cookie
 abbrev pub Free : ℕ → List Operation → Type 0

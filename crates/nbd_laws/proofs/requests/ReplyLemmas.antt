@@ -1,24 +1,12 @@
 -- The replies to a request are one simple reply, or chunks of which the last and only the last ends the reply.
-use Rattle.std.proofs.Common.{◌≡◌, ℕ, zero, suc, ◌==◌, ◌||◌, List, [], ◌∷◌, ◌++◌, refl, sym, ◌∙◌, ap, subst, inl, inr, Option, Some, None, Bool, true, false, not, eqb-true}
+use Rattle.nbd_laws.proofs.Common.{◌≡◌, ℕ, zero, suc, ◌==◌, ◌||◌, List, [], ◌∷◌, ◌++◌, refl, sym, ◌∙◌, ap, subst, inl, inr, Option, Some, None, Bool, true, false, not, eqb-true, IsChunk, has, done_fault, Message, Greeting, ClientFlags, Choice, Answer, Exported, Request, Simple, Chunk, ExtendedRequest, ExtendedChunk, MayReply, MayComplete, complete, cookie_of, ends_at, grants_structured, reply_to, core_with_request, operations_of, Operation, Exporting, any, ends_reply, is_finished, Core, Phase, Greet, Flags, Choosing, Naming, Aborting, Answering, Transmission, with_reply_at, operation, start, start_of, target, with_reply, IsReached, at_start, after_message, IsReplyAfter, IsReplyBetween, RepliesAreWhole, Profile}
 use Rattle.nbd_laws.proofs.judge.AllowLemmas.{chunk_allow, extended_allow, finish_allow, simple_allow}
-use Rattle.nbd_laws.specs.Allowed.{IsChunk}
-use Rattle.nbd_wire.specs.protocol.Flags.{has}
 use Rattle.nbd_wire.specs.declared.chunks.TheConstants as chunks
-use Rattle.nbd_wire.specs.protocol.Transmission.{done_fault}
-use Rattle.nbd_wire.specs.declared.message.Message.{Message}
-use Rattle.nbd_wire.specs.declared.message.Message.TheVariants.{Greeting, ClientFlags, Choice, Answer, Exported, Request, Simple, Chunk, ExtendedRequest, ExtendedChunk}
-use Rattle.nbd_wire.specs.protocol.Rules.{MayReply, MayComplete, complete, cookie_of, ends_at, grants_structured, reply_to, core_with_request}
-use Rattle.nbd_wire.specs.protocol.Reports.{operations_of}
-use Rattle.nbd_wire.specs.protocol.Operations.{Operation, Exporting, any, ends_reply, is_finished}
-use Rattle.nbd_wire.specs.protocol.States.{Core, Phase, Greet, Flags, Choosing, Naming, Aborting, Answering, Transmission, with_reply_at, operation, start, start_of, target, with_reply}
 use Rattle.nbd_laws.proofs.runs.PrefixLemmas.{InTransmission, asks, gives, replies, transmission_row, asks_more, gives_more}
-use Rattle.nbd_laws.specs.Reached.{IsReached, at_start, after_message}
 use Rattle.nbd_laws.proofs.requests.OutstandingLemmas.{IsFound, both_true, find}
 use Rattle.nbd_laws.proofs.runs.ProfileLemmas.{at_base, profile_end, profile_stays}
 use Rattle.nbd_laws.proofs.runs.ReachLemmas.{run_reaches}
 use Rattle.nbd_laws.proofs.requests.SoundnessLemmas.{InPhase, open_target, sound}
-use Rattle.nbd_laws.specs.Replying.{IsReplyAfter, IsReplyBetween, RepliesAreWhole}
-use Rattle.nbd_wire.specs.declared.profile.Profile.{Profile}
 
 -- each reply fits where it stands
 abbrev AreWhole : Profile → Bool → Operation → List Message → Type 0

@@ -1,10 +1,5 @@
 -- A report says of each request what the run does.
-use Rattle.std.proofs.Common.{◌≡◌, ℕ, zero, suc, ◌+◌, ◌<◌, ◌≤◌, List, [], ◌∷◌, length, refl, ◌∙◌, ap, Option, Some, None, arith, slice_get}
-use Rattle.nbd_wire.specs.protocol.Marks.{Item}
-use Rattle.nbd_wire.specs.protocol.Reports.{Asked, asked_at, operations_of, known_count, report, asked_of, asked_list}
-use Rattle.nbd_wire.specs.protocol.Operations.{Operation}
-use Rattle.nbd_wire.specs.protocol.Rules.{ends_at}
-use Rattle.nbd_wire.specs.protocol.States.{Core, export_in, operation, start}
+use Rattle.nbd_laws.proofs.Common.{◌≡◌, ℕ, zero, suc, ◌+◌, ◌<◌, ◌≤◌, List, [], ◌∷◌, length, refl, ◌∙◌, ap, Option, Some, None, arith, slice_get, Item, Asked, asked_at, operations_of, known_count, report, asked_of, asked_list, Operation, ends_at, Core, export_in, operation, start}
 
 pub length-stated : (n : ℕ) (core : Core) (κ : ℕ → Option ℕ) (es : List Operation) → length (asked_list n core κ es) ≡ length es
 length-stated n core κ [] = refl

@@ -1,36 +1,14 @@
 -- What holds of each request of a core that completed messages lead to, and of every report.
-use Rattle.std.proofs.Common.{◌≡◌, ℕ, ◌≤◌, ◌+◌, ◌==◌, List, [], ◌∷◌, length, refl, sym, ◌∙◌, ap, subst, inl, inr, Option, Some, None, Bool, true, false, eqb-true, arith, IsTrue, nat_le, ◌⊎◌, ◌++◌, ◌≢◌, append-nil}
-use Rattle.std.proofs.lemmas.Bool.{leb-true}
+use Rattle.nbd_laws.proofs.Common.{◌≡◌, ℕ, ◌≤◌, ◌+◌, ◌==◌, List, [], ◌∷◌, length, refl, sym, ◌∙◌, ap, subst, inl, inr, Option, Some, None, Bool, true, false, eqb-true, arith, IsTrue, nat_le, ◌⊎◌, ◌++◌, ◌≢◌, append-nil, leb-true, IsInfo, MayAcknowledge, MayAnswer, MayTell, EXPORT_SIZE, Server, Message, Greeting, ClientFlags, Choice, Answer, Exported, Info, Export, Item, Starts, Completes, Profile, sizes_for, sizes_kept, ack_phase, reply_phase, choice_phase, last_info, next_phase, info_of, Asked, operations_of, export_of, known_count, known_from, report, asked_of, asked_list, Covers, Operation, Exporting, has_range, is_finished, is_outside, is_proper, pieces, has, MayComplete, complete, ends_at, reply_to, core_with_request, IsSendable, Core, Phase, Greet, Flags, Choosing, Naming, Aborting, Answering, Transmission, with_reply_at, operation, start, target, with_reply, export_in, has_contexts, in_force, IsAfter, IsSoundAsked, IsSoundReport, ReportsAreSound, zeroes, IsReached, at_start, after_message, Selection}
 use Rattle.nbd_laws.proofs.judge.AllowLemmas.{answer_allow, export_allow}
-use Rattle.nbd_laws.specs.Allowed.{IsInfo, MayAcknowledge, MayAnswer, MayTell}
 use Rattle.nbd_wire.specs.declared.commands.TheConstants as commands
-use Rattle.nbd_wire.specs.declared.limits.TheConstants.{EXPORT_SIZE}
 use Rattle.nbd_wire.specs.declared.options.TheConstants as options
 use Rattle.nbd_wire.specs.declared.transmission.TheConstants as transmission
-use Rattle.nbd_wire.specs.declared.message.Side.TheVariants.{Server}
-use Rattle.nbd_wire.specs.declared.message.Message.{Message}
-use Rattle.nbd_wire.specs.declared.message.Message.TheVariants.{Greeting, ClientFlags, Choice, Answer, Exported}
-use Rattle.nbd_wire.specs.declared.payloads.Info.{Info}
-use Rattle.nbd_wire.specs.declared.payloads.Info.TheVariants.{Export}
-use Rattle.nbd_wire.specs.protocol.Marks.{Item, Starts, Completes}
-use Rattle.nbd_wire.specs.declared.profile.Profile.{Profile}
-use Rattle.nbd_wire.specs.protocol.Sizes.{sizes_for, sizes_kept}
-use Rattle.nbd_wire.specs.protocol.Options.{ack_phase, reply_phase, choice_phase, last_info, next_phase}
-use Rattle.nbd_wire.specs.protocol.Payloads.{info_of}
-use Rattle.nbd_wire.specs.protocol.Reports.{Asked, operations_of, export_of, known_count, known_from, report, asked_of, asked_list}
-use Rattle.nbd_wire.specs.protocol.Operations.{Covers, Operation, Exporting, has_range, is_finished, is_outside, is_proper, pieces}
-use Rattle.nbd_wire.specs.protocol.Flags.{has}
-use Rattle.nbd_wire.specs.protocol.Rules.{MayComplete, complete, ends_at, reply_to, core_with_request}
-use Rattle.nbd_wire.specs.protocol.Sendable.{IsSendable}
-use Rattle.nbd_wire.specs.protocol.States.{Core, Phase, Greet, Flags, Choosing, Naming, Aborting, Answering, Transmission, with_reply_at, operation, start, target, with_reply, export_in, has_contexts, in_force}
-use Rattle.nbd_laws.specs.Soundness.{IsAfter, IsSoundAsked, IsSoundReport, ReportsAreSound}
 use Rattle.nbd_laws.proofs.runs.PrefixLemmas.{InTransmission, asks, gives, phase-complete, replies, transmission_row, asks_more, gives_more}
 use Rattle.nbd_wire.specs.declared.command_flags.TheConstants as command_flags
-use Rattle.nbd_wire.specs.protocol.Statuses.{zeroes}
 use Rattle.nbd_laws.proofs.requests.LaidLemmas.{AreApart, AreInside, are_laid}
 use Rattle.nbd_laws.proofs.requests.ZeroLemmas.{Told, content, no_df, told, told_of}
 use Rattle.nbd_laws.proofs.service.InsideLemmas.{core_end, entries_grow}
-use Rattle.nbd_laws.specs.Reached.{IsReached, at_start, after_message}
 use Rattle.nbd_laws.proofs.requests.OutstandingLemmas.{both_true, find, not_true_is_false}
 use Rattle.nbd_laws.proofs.runs.ProfileLemmas.{at_base}
 use Rattle.nbd_laws.proofs.runs.ReachLemmas.{run_reaches}
@@ -39,7 +17,6 @@ use Rattle.nbd_laws.proofs.requests.ReportLemmas.{asked-report, length-report, s
 use Rattle.nbd_laws.proofs.service.SoonerLemmas.{IsSooner, sooner_at_end}
 use Rattle.nbd_laws.proofs.runs.TraceLemmas.{answered_by-within}
 use Rattle.nbd_laws.proofs.requests.GoodLemmas.{AreGood, IsGood, good_answered, good_chunk, good_entry, good_new, good_simple, good_snoc, good_asked, good_extended}
-use Rattle.nbd_wire.specs.protocol.Contexts.{Selection}
 
 -- what a phase says of its requests
 abbrev pub InPhase : Phase → List Operation → Type 0

@@ -1,18 +1,10 @@
 -- What a status calls zero: pieces in its request's range, which share no offset.
-use Rattle.std.proofs.Common.{◌≡◌, ℕ, ◌+◌, ◌-◌, ◌<◌, ◌≤◌, ◌==◌, ◌&&◌, List, [], ◌∷◌, ◌++◌, min, refl, sym, ◌∙◌, ap, subst, None, Bool, true, false, not, if◌then◌else◌, nat_le, nat_lt, arith, IsTrue, leb-true, leb-false, ltb-true, eqb-true, eq-eqb, ◌||◌}
-use Rattle.std.proofs.lemmas.Nat.{and_assoc}
-use Rattle.std.specs.Int.Bits.{and_zero_r, bit_and}
+use Rattle.nbd_laws.proofs.Common.{◌≡◌, ℕ, ◌+◌, ◌-◌, ◌<◌, ◌≤◌, ◌==◌, ◌&&◌, List, [], ◌∷◌, ◌++◌, min, refl, sym, ◌∙◌, ap, subst, None, Bool, true, false, not, if◌then◌else◌, nat_le, nat_lt, arith, IsTrue, eqb-true, eq-eqb, ◌||◌, and_assoc, and_zero_r, bit_and, Piece, Hole, Extent, Exporting, Operation, allowed_flags, is_proper, mask_if, may_carry, has, has_only, byte_at, zeroes, zeroes_in}
+use Rattle.std.proofs.Common.{leb-true, leb-false, ltb-true}
 use Rattle.nbd_wire.specs.declared.command_flags.TheConstants as command_flags
 use Rattle.nbd_wire.specs.declared.commands.TheConstants as commands
 use Rattle.nbd_wire.specs.declared.states.TheConstants as states
 use Rattle.nbd_wire.specs.declared.transmission.TheConstants as transmission
-use Rattle.nbd_wire.specs.declared.payloads.Piece.{Piece}
-use Rattle.nbd_wire.specs.declared.payloads.Piece.TheVariants.{Hole}
-use Rattle.nbd_wire.specs.protocol.Contexts.{Extent}
-use Rattle.nbd_wire.specs.protocol.Operations.{Exporting, Operation, allowed_flags, is_proper, mask_if, may_carry}
-use Rattle.nbd_wire.specs.protocol.Flags.{has, has_only}
-use Rattle.nbd_wire.specs.protocol.Pieces.{byte_at}
-use Rattle.nbd_wire.specs.protocol.Statuses.{zeroes, zeroes_in}
 use Rattle.nbd_laws.proofs.requests.LaidLemmas.{AreApart, AreInside}
 use Rattle.nbd_laws.proofs.requests.OutstandingLemmas.{both_true}
 

@@ -1,18 +1,6 @@
 -- What a session that is held to one profile may do, it may do under the other too, but for answers of success to the options on metadata contexts.
-use Rattle.std.proofs.Common.{◌≡◌, ℕ, ◌==◌, Bool, true, false, List, [], ◌∷◌, length, refl, sym, ◌∙◌, ap, subst, Option, Some, All, not, if◌then◌else◌, Result, Ok, Err, inl, inr, nat_lt, drop, ◌+◌, append_assoc, arith, ◌≢◌, ◌++◌, ◌<◌, None, ◌||◌, eqb-true}
-use Rattle.std.proofs.lemmas.List.Elements.{All-head, All-tail}
-use Rattle.std.proofs.lemmas.Bool.{eq-eqb, eqb-false, ltb-false}
-use Rattle.nbd_laws.specs.Profiles.{DuesAgree, RunsAgree, AnnouncesAllowed, BaseIsWide, IsParting, NothingFrom, NothingParts, PlacesAgree, UnderWayAgrees, with_profile}
-use Rattle.nbd_wire.specs.protocol.Places.{IsUnderWayOf}
-use Rattle.nbd_wire.specs.protocol.Captures.{ArePairs, Pair}
-use Rattle.nbd_wire.specs.protocol.Decisions.{answer, answer_of, begins, chunk_last_fault, chunk_of, chunk_to, extended_chunk_of, extended_chunk_to, extended_last_fault, extended_reply_by, operation_of, reply_by, reply_in}
-use Rattle.nbd_wire.specs.protocol.Negotiation.{ack_fault, answer_fault, info_fault, is_wide, answers_option, earlier_to, is_bad_payload, is_followed, is_good_info, extends, payload_fault, success_fault}
-use Rattle.nbd_wire.specs.protocol.Reading.{Both, by_tests, judge_in, last_reading, read_by, staged_reading_by, Reader, More, Reading, Rest, Whole, fresh_of, get, old_by, on_ok, reads, rest_with, settle, step}
-use Rattle.nbd_wire.specs.protocol.Tests.{fault_if}
-use Rattle.nbd_wire.specs.protocol.Explains.{IsExplainedOf}
-use Rattle.nbd_wire.specs.protocol.Marks.{pairs, without_service, Item, Byte, Starts, Completes, Serves, completed_messages}
-use Rattle.nbd_wire.specs.protocol.Reports.{report}
-use Rattle.nbd_wire.specs.protocol.Verdicts.{Passes}
+use Rattle.nbd_laws.proofs.Common.{◌≡◌, ℕ, ◌==◌, Bool, true, false, List, [], ◌∷◌, length, refl, sym, ◌∙◌, ap, subst, Option, Some, All, not, if◌then◌else◌, Result, Ok, Err, inl, inr, nat_lt, drop, ◌+◌, append_assoc, arith, ◌≢◌, ◌++◌, ◌<◌, None, ◌||◌, eqb-true, All-head, All-tail, eqb-false, ltb-false, DuesAgree, RunsAgree, AnnouncesAllowed, BaseIsWide, IsParting, NothingFrom, NothingParts, PlacesAgree, UnderWayAgrees, with_profile, IsUnderWayOf, ArePairs, Pair, answer, answer_of, begins, chunk_last_fault, chunk_of, chunk_to, extended_chunk_of, extended_chunk_to, extended_last_fault, extended_reply_by, operation_of, reply_by, reply_in, ack_fault, answer_fault, info_fault, is_wide, answers_option, earlier_to, is_bad_payload, is_followed, is_good_info, extends, payload_fault, success_fault, Both, by_tests, judge_in, last_reading, read_by, staged_reading_by, Reader, More, Reading, Rest, Whole, fresh_of, get, old_by, on_ok, reads, rest_with, settle, step, fault_if, IsExplainedOf, pairs, without_service, Item, Byte, Starts, Completes, Serves, completed_messages, report, Passes, Selection, Context, ANSWER_MAGIC, CHUNK_MAGIC, EXTENDED_CHUNK_MAGIC, SIMPLE_MAGIC, WireFault, BadMagic, SuccessOfImproper, BadReplyKind, BadReplyPayload, OutOfProfile, WrongOption, number_at, info_of, Ended, Core, Phase, Greet, Flags, Choosing, Naming, Aborting, Answering, Transmission, start_of, with_reply, Info, BlockSize, Export, Other, is_proper_option, takes_contexts, is_error, Entry, Message, Greeting, ClientFlags, Choice, Answer, Exported, Request, Simple, Chunk, ExtendedRequest, ExtendedChunk, Side, Client, Server, Profile, Base, Wide, Exporting, Operation, is_error_chunk, chunk_fault, chunk_head_fault, extended_head_fault, offset_fault, read_as, IsChunk, Sizes, are_allowed, sizes_of, IsRunOf, MayComplete, MayReply, MayStartIn, Obeys, complete}
+use Rattle.std.proofs.lemmas.Bool.{eq-eqb}
 use Rattle.nbd_laws.proofs.judge.BlockLemmas.{reads-append}
 use Rattle.nbd_laws.proofs.judge.ExactLemmas.{exact}
 use Rattle.nbd_laws.proofs.judge.SoundLemmas.{sound}
@@ -24,35 +12,13 @@ use Rattle.nbd_laws.proofs.service.DueProfileLemmas.{due_at_once, faultless_wide
 use Rattle.nbd_laws.proofs.service.ExplainingLemmas.{explained_passes, passing_is_explained}
 use Rattle.nbd_laws.proofs.service.ServiceLemmas.{reports_ignore_service}
 use Rattle.nbd_laws.proofs.runs.RunLemmas.{fresh_held, walk_of}
-use Rattle.nbd_wire.specs.protocol.Contexts.{Selection, Context}
-use Rattle.nbd_wire.specs.declared.magics.TheConstants.{ANSWER_MAGIC, CHUNK_MAGIC, EXTENDED_CHUNK_MAGIC, SIMPLE_MAGIC}
-use Rattle.nbd_wire.specs.declared.fault.WireFault.{WireFault}
-use Rattle.nbd_wire.specs.declared.fault.WireFault.TheVariants.{BadMagic, SuccessOfImproper, BadReplyKind, BadReplyPayload, OutOfProfile, WrongOption}
-use Rattle.nbd_wire.specs.protocol.Payloads.{number_at, info_of}
-use Rattle.nbd_wire.specs.protocol.States.{Ended, Core, Phase, Greet, Flags, Choosing, Naming, Aborting, Answering, Transmission, start_of, with_reply}
-use Rattle.nbd_wire.specs.declared.payloads.Info.{Info}
-use Rattle.nbd_wire.specs.declared.payloads.Info.TheVariants.{BlockSize, Export, Other}
-use Rattle.nbd_wire.specs.protocol.Options.{is_proper_option, takes_contexts, is_error}
 use Rattle.nbd_laws.proofs.judge.BoolLemmas.{and_false, fault_none, not_false, or_false}
 use Rattle.nbd_laws.proofs.judge.ExactNegotiationLemmas.{no_fault_if}
-use Rattle.nbd_wire.specs.declared.entry.Entry.{Entry}
-use Rattle.nbd_wire.specs.declared.message.Message.{Message}
-use Rattle.nbd_wire.specs.declared.message.Message.TheVariants.{Greeting, ClientFlags, Choice, Answer, Exported, Request, Simple, Chunk, ExtendedRequest, ExtendedChunk}
-use Rattle.nbd_wire.specs.declared.message.Side.{Side}
-use Rattle.nbd_wire.specs.declared.message.Side.TheVariants.{Client, Server}
-use Rattle.nbd_wire.specs.declared.profile.Profile.{Profile}
-use Rattle.nbd_wire.specs.declared.profile.Profile.TheVariants.{Base, Wide}
-use Rattle.nbd_wire.specs.protocol.Operations.{Exporting, Operation, is_error_chunk}
-use Rattle.nbd_wire.specs.protocol.Transmission.{chunk_fault, chunk_head_fault, extended_head_fault, offset_fault, read_as}
 use Rattle.nbd_wire.specs.declared.chunks.TheConstants as chunks
-use Rattle.nbd_laws.specs.Allowed.{IsChunk}
 use Rattle.nbd_laws.proofs.judge.AllowLemmas.{chunk_allow, extended_allow}
 use Rattle.nbd_laws.proofs.judge.KindLemmas.{error_content, no_other, read_kind, low_kind}
 use Rattle.nbd_laws.proofs.requests.GoodLemmas.{failure_kind}
 use Rattle.nbd_wire.specs.declared.answers.TheConstants as answers
-use Rattle.nbd_wire.specs.declared.sizes.Sizes.{Sizes}
-use Rattle.nbd_wire.specs.protocol.Sizes.{are_allowed, sizes_of}
-use Rattle.nbd_wire.specs.protocol.Rules.{IsRunOf, MayComplete, MayReply, MayStartIn, Obeys, complete}
 use Rattle.nbd_laws.proofs.runs.ProfileLemmas.{complete_with}
 
 -- an answer that announces block sizes which a server may not announce

@@ -1,19 +1,6 @@
 -- The block sizes that a client has to keep are those that came last.
-use Rattle.std.proofs.Common.{◌≡◌, ◌≢◌, ℕ, ◌==◌, List, [], ◌∷◌, ◌++◌, refl, ◌∙◌, ap, Option, Some, None, Bool, true, false, if◌then◌else◌}
-use Rattle.std.proofs.lemmas.List.Elements.{All-head, All-tail}
+use Rattle.nbd_laws.proofs.Common.{◌≡◌, ◌≢◌, ℕ, ◌==◌, List, [], ◌∷◌, ◌++◌, refl, ◌∙◌, ap, Option, Some, None, Bool, true, false, if◌then◌else◌, All-head, All-tail, Message, Choice, Answer, Sizes, Sizing, Item, Completes, Serves, completed_messages, Operation, info_of, after, complete, core_with_request, ends_at, reply_to, last_sizes, no_sizing, sizes_kept, sizes_of, sizing_after, sizing_at, Core, State, start_of, SizesAreAnnounced, announced, last_announced, ChooseNone}
 use Rattle.nbd_wire.specs.declared.answers.TheConstants as answers
-use Rattle.nbd_wire.specs.declared.message.Message.{Message}
-use Rattle.nbd_wire.specs.declared.message.Message.TheVariants.{Choice, Answer}
-use Rattle.nbd_wire.specs.declared.sizes.Sizes.{Sizes}
-use Rattle.nbd_wire.specs.declared.sizes.Sizing.{Sizing}
-use Rattle.nbd_wire.specs.protocol.Marks.{Item, Completes, Serves, completed_messages}
-use Rattle.nbd_wire.specs.protocol.Operations.{Operation}
-use Rattle.nbd_wire.specs.protocol.Payloads.{info_of}
-use Rattle.nbd_wire.specs.protocol.Rules.{after, complete, core_with_request, ends_at, reply_to}
-use Rattle.nbd_wire.specs.protocol.Sizes.{last_sizes, no_sizing, sizes_kept, sizes_of, sizing_after, sizing_at}
-use Rattle.nbd_wire.specs.protocol.States.{Core, State, start_of}
-use Rattle.nbd_laws.specs.Announcing.{SizesAreAnnounced, announced, last_announced}
-use Rattle.nbd_laws.specs.Selecting.{ChooseNone}
 
 -- what a message makes of what was asked and told
 abbrev sizing_by : Message → Sizing → Sizing

@@ -1,15 +1,5 @@
 -- A message answers the same request while its side is in it.
-use Rattle.std.proofs.Common.{◌≡◌, ◌⊎◌, List, ◌++◌, refl, sym, ◌∙◌, ap, subst, inl, inr, Option, Some, None, is_some, IsTrue, ℕ}
-use Rattle.nbd_wire.specs.declared.message.Side.{Side}
-use Rattle.nbd_wire.specs.declared.message.Side.TheVariants.{Client, Server}
-use Rattle.nbd_wire.specs.declared.message.Message.{Message}
-use Rattle.nbd_wire.specs.declared.message.Message.TheVariants.{Simple, Chunk, ExtendedChunk}
-use Rattle.nbd_wire.specs.protocol.Options.{turn}
-use Rattle.nbd_wire.specs.protocol.Operations.{Operation, Exporting}
-use Rattle.nbd_wire.specs.protocol.Rules.{MayComplete, MayStartIn, request_of_reply, complete, cookie_of, target_of}
-use Rattle.nbd_wire.specs.protocol.Sides.{side}
-use Rattle.nbd_wire.specs.protocol.States.{Core, Phase, Transmission, target}
-use Rattle.nbd_wire.specs.protocol.Reading.{Both, get, put}
+use Rattle.nbd_laws.proofs.Common.{◌≡◌, ◌⊎◌, List, ◌++◌, refl, sym, ◌∙◌, ap, subst, inl, inr, Option, Some, None, is_some, IsTrue, ℕ, Side, Client, Server, Message, Simple, Chunk, ExtendedChunk, turn, Operation, Exporting, MayComplete, MayStartIn, request_of_reply, complete, cookie_of, target_of, side, Core, Phase, Transmission, target, Both, get, put}
 use Rattle.nbd_laws.proofs.reading.ReaderLemmas.{put_both, Busy, Idle, Later, Later-trans, Loose, Open, at_once, behind}
 use Rattle.nbd_laws.proofs.runs.FollowLemmas.{IsBegun}
 use Rattle.nbd_laws.proofs.judge.PhaseLemmas.{IsAppended, IsTransmitting, Later-appended, Later-turn, target-append}

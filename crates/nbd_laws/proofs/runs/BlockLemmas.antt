@@ -1,12 +1,5 @@
 -- Marked captures by blocks are those that are read from the left.
-use Rattle.std.proofs.Common.{◌≡◌, ℕ, List, [], ◌∷◌, ◌++◌, map, flat_map, refl, sym, ◌∙◌, ap, subst, inl, inr, append_assoc}
-use Rattle.nbd_wire.specs.protocol.Entries.{whole}
-use Rattle.nbd_wire.specs.declared.message.Side.{Side}
-use Rattle.nbd_wire.specs.declared.message.Side.TheVariants.{Client, Server}
-use Rattle.nbd_wire.specs.declared.message.Message.{Message}
-use Rattle.nbd_wire.specs.protocol.Encoding.{enc}
-use Rattle.nbd_wire.specs.protocol.Marks.{Item, Byte, Starts, Completes, Serves, of_side, block, IsByteOf, MayFollow, IsTight, IsMarkedBut}
-use Rattle.nbd_wire.specs.protocol.Reading.{Both, get, put, IsFilled}
+use Rattle.nbd_laws.proofs.Common.{◌≡◌, ℕ, List, [], ◌∷◌, ◌++◌, map, flat_map, refl, sym, ◌∙◌, ap, subst, inl, inr, append_assoc, whole, Side, Client, Server, Message, enc, Item, Byte, Starts, Completes, Serves, of_side, block, IsByteOf, MayFollow, IsTight, IsMarkedBut, Both, get, put, IsFilled}
 use Rattle.nbd_laws.proofs.reading.ReaderLemmas.{put_both, get-put_same, get-put_other, same_or_not, Open, Idle, Busy, Loose, IsNotBusy, Walk, ended, serving, opening, middle, final, loose}
 use Rattle.nbd_laws.proofs.runs.TraceLemmas.{enc-long}
 use Rattle.nbd_laws.proofs.runs.FollowLemmas.{each_with}

@@ -1,11 +1,5 @@
 -- A run may have each request served atomically where it completes.
-use Rattle.std.proofs.Common.{◌≡◌, List, [], ◌∷◌, ◌++◌, refl, ◌∙◌, ap, inl, inr}
-use Rattle.nbd_wire.specs.declared.entry.Entry.{Entry}
-use Rattle.nbd_wire.specs.declared.profile.Profile.{Profile}
-use Rattle.nbd_wire.specs.protocol.Marks.{Item, Byte, Starts, Completes, Serves, without_service}
-use Rattle.nbd_wire.specs.protocol.Reading.{Both}
-use Rattle.nbd_wire.specs.protocol.Rules.{IsRunOf, Obeys, complete}
-use Rattle.nbd_wire.specs.protocol.States.{Core, start_of}
+use Rattle.nbd_laws.proofs.Common.{◌≡◌, List, [], ◌∷◌, ◌++◌, refl, ◌∙◌, ap, inl, inr, Entry, Profile, Item, Byte, Starts, Completes, Serves, without_service, Both, IsRunOf, Obeys, complete, Core, start_of}
 use Rattle.nbd_laws.proofs.reading.ReaderLemmas.{Open, Walk, ended, final, loose, middle, opening, serving}
 use Rattle.nbd_laws.proofs.runs.BlockLemmas.{Idles}
 use Rattle.nbd_laws.proofs.runs.FollowLemmas.{Follows}

@@ -1,8 +1,5 @@
 -- Where captures were cut into records does not count.
-use Rattle.std.proofs.Common.{[], ◌∷◌, ◌++◌, ◌∙◌, ap, append_assoc}
-use Rattle.std.proofs.lemmas.List.{map-append}
-use Rattle.nbd_wire.specs.protocol.Captures.{Pair, flat, side_pairs}
-use Rattle.nbd_laws.specs.Cuts.{CutsDoNotCount}
+use Rattle.nbd_laws.proofs.Common.{[], ◌∷◌, ◌++◌, ◌∙◌, ap, append_assoc, map-append, Pair, flat, side_pairs, CutsDoNotCount}
 
 pub cuts_do_not_count : CutsDoNotCount
 cuts_do_not_count [] back s bytes more =

@@ -1,14 +1,5 @@
 -- The rules on messages alone, whatever was served.
-use Rattle.std.proofs.Common.{◌≡◌, ℕ, List, [], ◌∷◌, refl, sym, ◌∙◌, ap, subst, inl, inr}
-use Rattle.nbd_wire.specs.declared.message.Side.{Side}
-use Rattle.nbd_wire.specs.declared.message.Side.TheVariants.{Client, Server}
-use Rattle.nbd_wire.specs.declared.message.Message.{Message}
-use Rattle.nbd_wire.specs.protocol.Marks.{Item, Byte, Starts, Completes, Serves, without_service, pairs}
-use Rattle.nbd_wire.specs.protocol.Rules.{MayStart, MayComplete, Obeys, complete}
-use Rattle.nbd_wire.specs.protocol.Sendable.{IsSendable}
-use Rattle.nbd_wire.specs.protocol.Sides.{side}
-use Rattle.nbd_wire.specs.protocol.States.{Core, State}
-use Rattle.nbd_wire.specs.protocol.Reading.{Both, get, put}
+use Rattle.nbd_laws.proofs.Common.{◌≡◌, ℕ, List, [], ◌∷◌, refl, sym, ◌∙◌, ap, subst, inl, inr, Side, Client, Server, Message, Item, Byte, Starts, Completes, Serves, without_service, pairs, MayStart, MayComplete, Obeys, complete, IsSendable, side, Core, State, Both, get, put}
 use Rattle.nbd_laws.proofs.reading.ReaderLemmas.{put_both, get-put_same, get-put_other, same_or_not, Open, Idle, Busy, Loose, IsNotBusy, Walk, ended, serving, opening, middle, final, loose, Later, at_once, behind}
 
 -- what a side needs to begin a message

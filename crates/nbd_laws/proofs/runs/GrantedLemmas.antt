@@ -1,15 +1,5 @@
 -- Extended headers are in force behind an ACK to their option.
-use Rattle.std.proofs.Common.{◌≡◌, ℕ, ◌||◌, List, [], ◌∷◌, refl, sym, ◌∙◌, ap, subst, Option, Some, None, Bool, true, false}
-use Rattle.std.proofs.Math.Bool.{or-false}
-use Rattle.nbd_wire.specs.declared.message.Message.{Message}
-use Rattle.nbd_wire.specs.declared.message.Message.TheVariants.{Answer}
-use Rattle.nbd_wire.specs.protocol.Marks.{Item, Starts, Completes, Serves, completed_messages}
-use Rattle.nbd_wire.specs.declared.message.Side.{Side}
-use Rattle.nbd_wire.specs.declared.message.Side.TheVariants.{Client, Server}
-use Rattle.nbd_wire.specs.protocol.Operations.{Exporting, Operation}
-use Rattle.nbd_wire.specs.protocol.Rules.{MayStartIn, after, complete, core_with_request, ends_at, is_extended, reply_to}
-use Rattle.nbd_wire.specs.protocol.States.{Core, State, Transmission, start_of}
-use Rattle.nbd_laws.specs.Granting.{HeadersAreGranted, HeadsAreInForce, any_grant, is_grant}
+use Rattle.nbd_laws.proofs.Common.{◌≡◌, ℕ, ◌||◌, List, [], ◌∷◌, refl, sym, ◌∙◌, ap, subst, Option, Some, None, Bool, true, false, or-false, Message, Answer, Item, Starts, Completes, Serves, completed_messages, Side, Client, Server, Exporting, Operation, MayStartIn, after, complete, core_with_request, ends_at, is_extended, reply_to, Core, State, Transmission, start_of, HeadersAreGranted, HeadsAreInForce, any_grant, is_grant}
 use Rattle.nbd_laws.proofs.runs.PartLemmas.{obeys_back}
 
 requested : (b : Bool) (core : Core) (e : Operation) → (core_with_request b core e).extended ≡ (core.extended || false)

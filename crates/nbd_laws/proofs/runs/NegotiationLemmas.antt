@@ -1,27 +1,11 @@
 -- A session begins with a greeting and flags, and each answer follows a choice.
-use Rattle.std.proofs.Common.{◌≡◌, ℕ, zero, suc, ◌⊎◌, ◌==◌, List, [], ◌∷◌, refl, sym, ◌∙◌, ap, subst, inl, inr, Option, Some, None, false, if◌then◌else◌, IsTrue, bit_and, arith, eqb-true, ◌≢◌}
-use Rattle.std.proofs.lemmas.Nat.{and_le_r}
+use Rattle.nbd_laws.proofs.Common.{◌≡◌, ℕ, zero, suc, ◌⊎◌, ◌==◌, List, [], ◌∷◌, refl, sym, ◌∙◌, ap, subst, inl, inr, Option, Some, None, false, if◌then◌else◌, IsTrue, arith, eqb-true, ◌≢◌, and_le_r, AreClientFlags, MayAcknowledge, MayAnswer, MayTell, Server, Message, Greeting, ClientFlags, Choice, Answer, Exported, Completes, completed_messages, ack_phase, reply_phase, selection_after, selection_at, selection_told, takes_contexts, choice_phase, is_proper_option, last_info, next_phase, info_of, context_of, queries_of, Exporting, has, has_only, MayComplete, complete, Core, Phase, Greet, Flags, Choosing, Naming, Aborting, Answering, Transmission, start_of, AnswersFollowChoices, AreFairFlags, BeginsWithFlags, Chosen, HandshakesAreFair, IsAcknowledged, IsAnswer, choice_after, contexts_after, contexts_with, info_after, Context, Selection, has_id, Profile, Wide, eqb-false}
+use Rattle.std.proofs.Common.{bit_and}
 use Rattle.nbd_laws.proofs.judge.AllowLemmas.{abort_allow, answer_allow, flags_allow, greeting_allow}
-use Rattle.nbd_laws.specs.Allowed.{AreClientFlags, MayAcknowledge, MayAnswer, MayTell}
 use Rattle.nbd_wire.specs.declared.answers.TheConstants as answers
 use Rattle.nbd_wire.specs.declared.handshake.TheConstants as handshake
 use Rattle.nbd_wire.specs.declared.options.TheConstants as options
-use Rattle.nbd_wire.specs.declared.message.Side.TheVariants.{Server}
-use Rattle.nbd_wire.specs.declared.message.Message.{Message}
-use Rattle.nbd_wire.specs.declared.message.Message.TheVariants.{Greeting, ClientFlags, Choice, Answer, Exported}
-use Rattle.nbd_wire.specs.protocol.Marks.{Completes, completed_messages}
-use Rattle.nbd_wire.specs.protocol.Options.{ack_phase, reply_phase, selection_after, selection_at, selection_told, takes_contexts, choice_phase, is_proper_option, last_info, next_phase}
-use Rattle.nbd_wire.specs.protocol.Payloads.{info_of, context_of, queries_of}
-use Rattle.nbd_wire.specs.protocol.Operations.{Exporting}
-use Rattle.nbd_wire.specs.protocol.Flags.{has, has_only}
-use Rattle.nbd_wire.specs.protocol.Rules.{MayComplete, complete}
-use Rattle.nbd_wire.specs.protocol.States.{Core, Phase, Greet, Flags, Choosing, Naming, Aborting, Answering, Transmission, start_of}
 use Rattle.nbd_laws.proofs.runs.PrefixLemmas.{flags_row, greet_row, phase-complete, transmission_row}
-use Rattle.nbd_laws.specs.Negotiating.{AnswersFollowChoices, AreFairFlags, BeginsWithFlags, Chosen, HandshakesAreFair, IsAcknowledged, IsAnswer, choice_after, contexts_after, contexts_with, info_after}
-use Rattle.nbd_wire.specs.protocol.Contexts.{Context, Selection, has_id}
-use Rattle.nbd_wire.specs.declared.profile.Profile.{Profile}
-use Rattle.nbd_wire.specs.declared.profile.Profile.TheVariants.{Wide}
-use Rattle.std.proofs.lemmas.Bool.{eqb-false}
 use Rattle.nbd_laws.proofs.runs.ProfileLemmas.{profile_end}
 use Rattle.nbd_laws.proofs.runs.ReachLemmas.{Passes, led, parts_pass, run_leads, run_passes}
 use Rattle.nbd_laws.proofs.judge.BoolLemmas.{or_true, and_true}

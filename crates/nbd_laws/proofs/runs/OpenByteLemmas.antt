@@ -1,14 +1,5 @@
 -- A run but for open bytes without them is a run.
-use Rattle.std.proofs.Common.{◌≡◌, ℕ, suc, List, [], ◌∷◌, length, refl, sym, ◌∙◌, ap, subst, append-nil, arith}
-use Rattle.std.proofs.lemmas.Bool.{lt-ltb}
-use Rattle.nbd_wire.specs.declared.message.Side.{Side}
-use Rattle.nbd_wire.specs.declared.message.Side.TheVariants.{Client, Server}
-use Rattle.nbd_wire.specs.protocol.Marks.{Item, Byte, Starts, Completes, Serves, completed_messages, pairs}
-use Rattle.nbd_wire.specs.protocol.Captures.{Pair}
-use Rattle.nbd_laws.specs.Bytes.{bytes_of, OpenBytesEndRuns, first_bytes, bytes_from}
-use Rattle.nbd_wire.specs.protocol.Rules.{IsRunOf, Obeys}
-use Rattle.nbd_wire.specs.protocol.States.{State, start_of}
-use Rattle.nbd_wire.specs.protocol.Reading.{Both, get, put}
+use Rattle.nbd_laws.proofs.Common.{◌≡◌, ℕ, suc, List, [], ◌∷◌, length, refl, sym, ◌∙◌, ap, subst, append-nil, arith, lt-ltb, Side, Client, Server, Item, Byte, Starts, Completes, Serves, completed_messages, pairs, Pair, bytes_of, OpenBytesEndRuns, first_bytes, bytes_from, IsRunOf, Obeys, State, start_of, Both, get, put}
 use Rattle.nbd_laws.proofs.reading.ReaderLemmas.{Busy, Idle, IsNotBusy, Loose, Open, Walk, ended, final, get-put_same, loose, middle, opening, serving}
 use Rattle.nbd_laws.proofs.runs.BlockLemmas.{Idles, marked_is_walk}
 use Rattle.nbd_laws.proofs.runs.RunLemmas.{run_of}

@@ -1,17 +1,8 @@
 -- A run in two parts.
-use Rattle.std.proofs.Common.{◌≡◌, ℕ, ◌+◌, List, [], ◌∷◌, ◌++◌, length, refl, sym, ◌∙◌, ap, subst, append_assoc, append-nil, arith, suc, zero-add}
-use Rattle.nbd_wire.specs.declared.message.Side.{Side}
-use Rattle.nbd_wire.specs.declared.message.Side.TheVariants.{Client, Server}
-use Rattle.nbd_wire.specs.declared.message.Message.{Message}
-use Rattle.nbd_wire.specs.protocol.Encoding.{enc}
-use Rattle.nbd_wire.specs.protocol.Marks.{Item, Byte, Starts, Completes, Serves, service_order}
-use Rattle.nbd_wire.specs.protocol.Rules.{Obeys, after, ends_at}
-use Rattle.nbd_wire.specs.protocol.States.{State, start_of}
-use Rattle.nbd_wire.specs.protocol.Reading.{Both, get, put}
+use Rattle.nbd_laws.proofs.Common.{◌≡◌, ℕ, ◌+◌, List, [], ◌∷◌, ◌++◌, length, refl, sym, ◌∙◌, ap, subst, append_assoc, append-nil, arith, suc, zero-add, Side, Client, Server, Message, enc, Item, Byte, Starts, Completes, Serves, service_order, Obeys, after, ends_at, State, start_of, Both, get, put, CompletionsStandAfterBytes, PrefixesAreRuns, HasNoneOpen, StartsStandBeforeBytes, started_messages}
 use Rattle.nbd_laws.proofs.reading.ReaderLemmas.{put_both, Open, Idle, Busy, Loose, IsNotBusy, Walk, ended, serving, opening, middle, final, loose}
 use Rattle.nbd_laws.proofs.runs.BlockLemmas.{Idles}
 use Rattle.nbd_laws.proofs.runs.RunLemmas.{run_of, walk_of}
-use Rattle.nbd_laws.specs.Prefixes.{CompletionsStandAfterBytes, PrefixesAreRuns, HasNoneOpen, StartsStandBeforeBytes, started_messages}
 use Rattle.nbd_laws.specs.Prefixes as prefixes
 
 pub obeys_prefix : (state : State) (prefix back : List Item) → Obeys state (prefix ++ back) → Obeys state prefix

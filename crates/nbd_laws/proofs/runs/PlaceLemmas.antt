@@ -1,13 +1,5 @@
 -- Reading is a function, and takes what a run begins with: so bytes have one place at most, and no run begins with it.
-use Rattle.std.proofs.Common.{◌≡◌, List, [], ◌∷◌, ◌++◌, length, refl, sym, ◌∙◌, ap, subst, Ok, Err, append_assoc}
-use Rattle.nbd_wire.specs.declared.fault.WireFault.{WireFault}
-use Rattle.nbd_wire.specs.declared.message.Message.{Message}
-use Rattle.nbd_wire.specs.declared.profile.Profile.{Profile}
-use Rattle.nbd_wire.specs.protocol.Captures.{Pair}
-use Rattle.nbd_wire.specs.protocol.Reading.{by_tests, Reader, fresh_of, on_ok, reads}
-use Rattle.nbd_wire.specs.protocol.Places.{IsPlaceOf, IsUnderWayOf}
-use Rattle.nbd_wire.specs.protocol.Within.{within}
-use Rattle.nbd_laws.specs.Marking.{BeginningsAreUnderWay, HaveOnePlace, PlacesBeginNoRun, PrefixesHaveNoPlace, UnderWayAgree}
+use Rattle.nbd_laws.proofs.Common.{◌≡◌, List, [], ◌∷◌, ◌++◌, length, refl, sym, ◌∙◌, ap, subst, Ok, Err, append_assoc, WireFault, Message, Profile, Pair, by_tests, Reader, fresh_of, on_ok, reads, IsPlaceOf, IsUnderWayOf, within, BeginningsAreUnderWay, HaveOnePlace, PlacesBeginNoRun, PrefixesHaveNoPlace, UnderWayAgree}
 use Rattle.nbd_laws.proofs.judge.BlockLemmas.{reads-append}
 use Rattle.nbd_laws.proofs.judge.ExactLemmas.{exact, none_refused}
 use Rattle.nbd_laws.proofs.reading.MarkLemmas.{IsRead}

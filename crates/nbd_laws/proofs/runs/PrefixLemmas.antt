@@ -1,15 +1,7 @@
 -- Of two messages of a side that may complete, neither's bytes are a proper prefix of the other's.
-use Rattle.std.proofs.Common.{◌≡◌, ℕ, zero, suc, ◌==◌, List, [], ◌∷◌, ◌++◌, refl, ◌∙◌, subst, Option, Some, None, Bool, true, false, if◌then◌else◌}
+use Rattle.nbd_laws.proofs.Common.{◌≡◌, ℕ, zero, suc, ◌==◌, List, [], ◌∷◌, ◌++◌, refl, ◌∙◌, subst, Option, Some, None, Bool, true, false, if◌then◌else◌, MayAsk, Server, Message, Greeting, ClientFlags, Request, Simple, Chunk, ExtendedRequest, ExtendedChunk, Operation, Exporting, AnswersOne, MayComplete, complete, core_with_request, reply_to, side, Core, Greet, Flags, Transmission, is_awaiting, target, target_from, operation}
 use Rattle.nbd_laws.proofs.judge.AllowLemmas.{ask_allow, extended_ask_allow}
-use Rattle.nbd_laws.specs.Allowed.{MayAsk}
 use Rattle.nbd_wire.specs.declared.commands.TheConstants as commands
-use Rattle.nbd_wire.specs.declared.message.Side.TheVariants.{Server}
-use Rattle.nbd_wire.specs.declared.message.Message.{Message}
-use Rattle.nbd_wire.specs.declared.message.Message.TheVariants.{Greeting, ClientFlags, Request, Simple, Chunk, ExtendedRequest, ExtendedChunk}
-use Rattle.nbd_wire.specs.protocol.Operations.{Operation, Exporting}
-use Rattle.nbd_wire.specs.protocol.Rules.{AnswersOne, MayComplete, complete, core_with_request, reply_to}
-use Rattle.nbd_wire.specs.protocol.Sides.{side}
-use Rattle.nbd_wire.specs.protocol.States.{Core, Greet, Flags, Transmission, is_awaiting, target, target_from, operation}
 use Rattle.nbd_laws.proofs.reading.ReaderLemmas.{Later, at_once, behind}
 
 -- what may complete in a phase of the negotiation

@@ -1,18 +1,6 @@
 -- What messages lead to does not hang on the profile that a session is held to.
-use Rattle.std.proofs.Common.{◌≡◌, ℕ, ◌==◌, List, [], ◌∷◌, ◌++◌, refl, sym, ◌∙◌, ap, Option, Some, None, Bool, true, false}
+use Rattle.nbd_laws.proofs.Common.{◌≡◌, ℕ, ◌==◌, List, [], ◌∷◌, ◌++◌, refl, sym, ◌∙◌, ap, Option, Some, None, Bool, true, false, Entry, Message, Request, Server, Profile, Base, Item, Starts, Completes, Serves, Operation, first_known, known_count, known_from, known_if, complete, core_with_request, ends_at, reply_to, request_of_reply, Core, start, start_of, EndsAgree, with_profile}
 use Rattle.nbd_wire.specs.declared.commands.TheConstants as commands
-use Rattle.nbd_wire.specs.declared.entry.Entry.{Entry}
-use Rattle.nbd_wire.specs.declared.message.Message.{Message}
-use Rattle.nbd_wire.specs.declared.message.Message.TheVariants.{Request}
-use Rattle.nbd_wire.specs.declared.message.Side.TheVariants.{Server}
-use Rattle.nbd_wire.specs.declared.profile.Profile.{Profile}
-use Rattle.nbd_wire.specs.declared.profile.Profile.TheVariants.{Base}
-use Rattle.nbd_wire.specs.protocol.Marks.{Item, Starts, Completes, Serves}
-use Rattle.nbd_wire.specs.protocol.Operations.{Operation}
-use Rattle.nbd_wire.specs.protocol.Reports.{first_known, known_count, known_from, known_if}
-use Rattle.nbd_wire.specs.protocol.Rules.{complete, core_with_request, ends_at, reply_to, request_of_reply}
-use Rattle.nbd_wire.specs.protocol.States.{Core, start, start_of}
-use Rattle.nbd_laws.specs.Profiles.{EndsAgree, with_profile}
 
 requested_with : (q : Profile) (is_disc : Bool) (core : Core) (e : Operation) → core_with_request is_disc (with_profile q core) e ≡ with_profile q (core_with_request is_disc core e)
 requested_with q true core e = refl

@@ -1,17 +1,7 @@
 -- What a run leads to is reached by messages that may complete and have an encoding.
-use Rattle.std.proofs.Common.{◌≡◌, List, [], ◌∷◌, ◌++◌, refl, sym, ◌∙◌, ap, subst}
-use Rattle.nbd_wire.specs.declared.message.Message.{Message}
-use Rattle.nbd_wire.specs.declared.profile.Profile.{Profile}
-use Rattle.nbd_wire.specs.declared.message.Side.{Side}
-use Rattle.nbd_wire.specs.declared.message.Side.TheVariants.{Client, Server}
-use Rattle.nbd_wire.specs.protocol.Marks.{Item, Completes, completed_messages}
-use Rattle.nbd_wire.specs.protocol.Rules.{IsRunOf, MayComplete, complete, ends_at}
-use Rattle.nbd_wire.specs.protocol.Sendable.{IsSendable}
-use Rattle.nbd_wire.specs.protocol.States.{Core, start_of}
+use Rattle.nbd_laws.proofs.Common.{◌≡◌, List, [], ◌∷◌, ◌++◌, refl, sym, ◌∙◌, ap, subst, Message, Profile, Side, Client, Server, Item, Completes, completed_messages, IsRunOf, MayComplete, complete, ends_at, IsSendable, Core, start_of, Both, get, IsReached, at_start, after_message}
 use Rattle.nbd_laws.proofs.runs.FollowLemmas.{Follows, each_with, follows}
 use Rattle.nbd_laws.proofs.service.InsideLemmas.{core_end}
-use Rattle.nbd_wire.specs.protocol.Reading.{Both, get}
-use Rattle.nbd_laws.specs.Reached.{IsReached, at_start, after_message}
 use Rattle.nbd_laws.proofs.reading.ReaderLemmas.{Open, Idle, Busy, Loose, Walk, ended, serving, opening, middle, final, loose}
 use Rattle.nbd_laws.proofs.runs.RunLemmas.{core_end-ends_at, walk_of}
 

@@ -1,17 +1,5 @@
 -- The bytes of a run but for open bytes: each side's are its completed messages' encodings and the open ones.
-use Rattle.std.proofs.Common.{◌≡◌, ℕ, List, [], ◌∷◌, ◌++◌, map, flat_map, refl, sym, ◌∙◌, ap, subst, Bool, true, false, if◌then◌else◌, append_assoc, append-nil}
-use Rattle.nbd_wire.specs.declared.profile.Profile.{Profile}
-use Rattle.nbd_wire.specs.declared.message.Side.{Side}
-use Rattle.nbd_wire.specs.declared.message.Side.TheVariants.{Client, Server}
-use Rattle.nbd_wire.specs.declared.message.Message.{Message}
-use Rattle.nbd_wire.specs.protocol.Encoding.{enc}
-use Rattle.nbd_wire.specs.protocol.Marks.{Item, Byte, Starts, Completes, Serves, IsSided, block, completed_messages, of_side, pairs}
-use Rattle.nbd_wire.specs.protocol.Captures.{Pair}
-use Rattle.nbd_laws.specs.Bytes.{bytes_of, RunsHoldEachSide, bytes_from}
-use Rattle.nbd_wire.specs.protocol.Rules.{IsRunBut, complete}
-use Rattle.nbd_wire.specs.protocol.Sides.{side, same_side}
-use Rattle.nbd_wire.specs.protocol.States.{Core, start_of}
-use Rattle.nbd_wire.specs.protocol.Reading.{Both, get}
+use Rattle.nbd_laws.proofs.Common.{◌≡◌, ℕ, List, [], ◌∷◌, ◌++◌, map, flat_map, refl, sym, ◌∙◌, ap, subst, Bool, true, false, if◌then◌else◌, append_assoc, append-nil, Profile, Side, Client, Server, Message, enc, Item, Byte, Starts, Completes, Serves, IsSided, block, completed_messages, of_side, pairs, Pair, bytes_of, RunsHoldEachSide, bytes_from, IsRunBut, complete, side, same_side, Core, start_of, Both, get}
 use Rattle.nbd_laws.proofs.reading.ReaderLemmas.{Busy, Idle, Loose, Open, Walk, ended, final, loose, middle, opening, serving}
 use Rattle.nbd_laws.proofs.runs.BlockLemmas.{marked_is_walk}
 use Rattle.nbd_laws.proofs.runs.FollowLemmas.{Follows, IsSidedOpen, each_with, follows}

@@ -1,23 +1,10 @@
 -- The laws over runs.
-use Rattle.std.proofs.Common.{◌≡◌, ℕ, List, [], ◌∷◌, ◌++◌, length, refl, sym, subst, inr, Bool, Option, Ok, Err, arith}
-use Rattle.nbd_wire.specs.declared.profile.Profile.{Profile}
-use Rattle.nbd_wire.specs.declared.entry.Entry.{Entry}
-use Rattle.nbd_wire.specs.declared.message.Side.{Side}
-use Rattle.nbd_wire.specs.declared.message.Side.TheVariants.{Client, Server}
-use Rattle.nbd_wire.specs.protocol.Marks.{Item, Completes, Serves, pairs, completed_messages, service_order, IsMarkedBut}
-use Rattle.nbd_wire.specs.protocol.Captures.{Pair, ArePairs}
-use Rattle.nbd_wire.specs.protocol.States.{Core, start, start_of}
-use Rattle.nbd_wire.specs.protocol.Rules.{IsRunOf, IsRunBut, Obeys, complete, ends_at, inside_at}
-use Rattle.nbd_wire.specs.protocol.Reports.{operations_of}
+use Rattle.nbd_laws.proofs.Common.{◌≡◌, ℕ, List, [], ◌∷◌, ◌++◌, length, refl, sym, subst, inr, Bool, Option, Ok, Err, arith, Profile, Entry, Side, Client, Server, Item, Completes, Serves, pairs, completed_messages, service_order, IsMarkedBut, Pair, ArePairs, Core, start, start_of, IsRunOf, IsRunBut, Obeys, complete, ends_at, inside_at, operations_of, WireFault, fresh_of, Both, get, IsFilled, Rest, Reader, Judge, reads, at_start, within}
 use Rattle.nbd_laws.proofs.service.DueLemmas.{due_from}
 use Rattle.nbd_laws.proofs.service.EntryLemmas.{AreFine, HasNoFault}
-use Rattle.nbd_wire.specs.declared.fault.WireFault.{WireFault}
-use Rattle.nbd_wire.specs.protocol.Reading.{fresh_of, Both, get, IsFilled, Rest, Reader, Judge, reads}
-use Rattle.nbd_laws.specs.Reached.{at_start}
 use Rattle.nbd_laws.proofs.reading.ReaderLemmas.{AreHeld, none_held, Walk, Open, Idle, Busy, Loose, IsSound, IsExact}
 use Rattle.nbd_laws.proofs.runs.TraceLemmas.{trace, IsTrace, IsCanonical, IsStray, Guess, not_empty}
 use Rattle.nbd_laws.proofs.reading.MarkLemmas.{marks, IsRead}
-use Rattle.nbd_wire.specs.protocol.Within.{within}
 use Rattle.nbd_laws.proofs.runs.ProfileLemmas.{at_base}
 use Rattle.nbd_laws.proofs.runs.BlockLemmas.{walk_is_marked, marked_is_walk, Idles}
 use Rattle.nbd_laws.proofs.service.InsideLemmas.{core_end}

@@ -1,37 +1,16 @@
 -- The contexts in force are those that one sees looking back over the completed messages.
-use Rattle.std.proofs.Common.{◌≡◌, ◌≢◌, ℕ, ◌⊎◌, ◌<◌, ◌^◌, ◌==◌, ◌&&◌, ◌||◌, List, [], ◌∷◌, ◌++◌, map, refl, sym, ◌∙◌, ap, subst, inl, inr, Option, Some, None, Bool, true, false, if◌then◌else◌, IsTrue, arith, append_assoc, append-nil, eqb-true, ne_eqb}
-use Rattle.std.specs.List.{list_any}
+use Rattle.nbd_laws.proofs.Common.{◌≡◌, ◌≢◌, ℕ, ◌⊎◌, ◌<◌, ◌^◌, ◌==◌, ◌&&◌, ◌||◌, List, [], ◌∷◌, ◌++◌, map, refl, sym, ◌∙◌, ap, subst, inl, inr, Option, Some, None, Bool, true, false, if◌then◌else◌, IsTrue, arith, append_assoc, append-nil, eqb-true, list_any, big_bytes, Message, Greeting, ClientFlags, Choice, Answer, Exported, Request, Simple, Chunk, ExtendedRequest, ExtendedChunk, Context, Selection, AreBytes, has, HasContextForm, HasGoForm, completed_messages, Exporting, Operation, ack_phase, agrees, choice_phase, is_error, is_proper_option, last_info, next_phase, reply_phase, selection_after, selection_at, selection_told, with_context, context_of, info_of, is_go, name_in, queries_of, MayComplete, complete, core_with_request, ends_at, grants_structured, reply_to, request_of_reply, IsSendable, Core, Phase, Greet, Flags, Choosing, Naming, Aborting, Answering, Transmission, in_force, start_of, go-only, is_go-exact, context-long, context-reads, name_is, queries_of-form, queries_of-found, AreSelected, ChooseNone, ChooseNoOther, ContextsAreSelected, telling, eqb-false, All-cons, All-head, All-nil, All-tail, All-weaker, list_any-append, or-false, bytes_eq-Decides}
+use Rattle.std.proofs.Common.{ne_eqb}
 use Rattle.std.specs.Prelude.{All}
-use Rattle.byteorder.specs.Endian.{big_bytes}
 use Rattle.nbd_laws.proofs.judge.AllowLemmas.{abort_allow, answer_allow}
 use Rattle.nbd_wire.specs.declared.answers.TheConstants as answers
 use Rattle.nbd_wire.specs.declared.commands.TheConstants as commands
 use Rattle.nbd_wire.specs.declared.options.TheConstants as options
-use Rattle.nbd_wire.specs.declared.message.Message.{Message}
-use Rattle.nbd_wire.specs.declared.message.Message.TheVariants.{Greeting, ClientFlags, Choice, Answer, Exported, Request, Simple, Chunk, ExtendedRequest, ExtendedChunk}
-use Rattle.nbd_wire.specs.protocol.Contexts.{Context, Selection}
-use Rattle.nbd_wire.specs.protocol.Encoding.{AreBytes}
-use Rattle.nbd_wire.specs.protocol.Flags.{has}
-use Rattle.nbd_wire.specs.protocol.Forms.{HasContextForm, HasGoForm}
-use Rattle.nbd_wire.specs.protocol.Marks.{completed_messages}
-use Rattle.nbd_wire.specs.protocol.Operations.{Exporting, Operation}
-use Rattle.nbd_wire.specs.protocol.Options.{ack_phase, agrees, choice_phase, is_error, is_proper_option, last_info, next_phase, reply_phase, selection_after, selection_at, selection_told, with_context}
-use Rattle.nbd_wire.specs.protocol.Payloads.{context_of, info_of, is_go, name_in, queries_of}
-use Rattle.nbd_wire.specs.protocol.Rules.{MayComplete, complete, core_with_request, ends_at, grants_structured, reply_to, request_of_reply}
-use Rattle.nbd_wire.specs.protocol.Sendable.{IsSendable}
-use Rattle.nbd_wire.specs.protocol.States.{Core, Phase, Greet, Flags, Choosing, Naming, Aborting, Answering, Transmission, in_force, start_of}
-use Rattle.nbd_wire.proofs.ListedFormLemmas.{go-only, is_go-exact}
-use Rattle.nbd_wire.proofs.QueryLemmas.{context-long, context-reads, name_is, queries_of-form, queries_of-found}
-use Rattle.nbd_laws.specs.Selecting.{AreSelected, ChooseNone, ChooseNoOther, ContextsAreSelected, Names, telling}
+use Rattle.nbd_laws.specs.Selecting.{Names}
 use Rattle.nbd_laws.proofs.judge.BoolLemmas.{and_true, or_true}
 use Rattle.nbd_laws.proofs.runs.PrefixLemmas.{phase-complete, transmission_row}
 use Rattle.nbd_laws.proofs.runs.GrantedLemmas.{or_assoc}
 use Rattle.nbd_laws.proofs.runs.ReachLemmas.{Passes, led, led-append, passes-append, run_leads, run_passes}
-use Rattle.std.proofs.lemmas.Bool.{eqb-false}
-use Rattle.std.proofs.lemmas.List.Elements.{All-cons, All-head, All-nil, All-tail, All-weaker}
-use Rattle.std.proofs.lemmas.List.Folds.{list_any-append}
-use Rattle.std.proofs.Math.Bool.{or-false}
-use Rattle.std.proofs.lemmas.Slice.Eq.{bytes_eq-Decides}
 
 -- an option is chosen in one phase alone
 chosen_in : (phase : Phase) (core : Core) (id : ℕ) (p : List ℕ) → MayComplete core phase (Choice id p) → phase ≡ Choosing

@@ -1,23 +1,7 @@
 -- What a reader read is a run with exactly the pairs that it read.
-use Rattle.std.proofs.Common.{◌≡◌, ℕ, suc, zero, ◌+◌, ◌<◌, ◌≤◌, ◌⊎◌, List, [], ◌∷◌, ◌++◌, length, refl, sym, ◌∙◌, ap, subst, inl, inr, Ok, Option, Some, None, append_assoc, append-nil, arith, true, false, Bool, not, ◌==◌, ◌&&◌, if◌then◌else◌, length-append, add-one, le_refl, eq-or-lt_of_le, eqb-true, IsTrue}
-use Rattle.std.proofs.lemmas.Bool.{and_parts}
-use Rattle.nbd_wire.specs.protocol.Entries.{Names, NamesWhole, whole}
-use Rattle.nbd_wire.specs.declared.entry.Entry.{Entry}
-use Rattle.nbd_wire.specs.declared.message.Side.{Side}
-use Rattle.nbd_wire.specs.declared.message.Side.TheVariants.{Client, Server}
-use Rattle.nbd_wire.specs.declared.message.Message.{Message}
-use Rattle.nbd_wire.specs.declared.message.Message.TheVariants.{Greeting, Request, Simple}
-use Rattle.nbd_wire.specs.protocol.Encoding.{enc, head}
-use Rattle.nbd_wire.specs.protocol.Sides.{side}
-use Rattle.nbd_wire.specs.protocol.Marks.{Item, Byte, Starts, Completes, Serves, pairs, completed_messages}
-use Rattle.nbd_wire.specs.protocol.Captures.{Pair, ArePairs}
-use Rattle.nbd_wire.specs.protocol.Operations.{Operation, is_finished}
-use Rattle.nbd_wire.specs.protocol.States.{Core, State, operation, target, target_from, with_reply_at}
-use Rattle.nbd_wire.specs.protocol.Sendable.{IsSendable}
-use Rattle.nbd_wire.specs.protocol.Rules.{MayStart, complete, reply_to, core_with_request, is_by_chunk, is_reply_to, makes_due, Obeys, request_of_reply, IsServedFor}
+use Rattle.nbd_laws.proofs.Common.{◌≡◌, ℕ, suc, zero, ◌+◌, ◌<◌, ◌≤◌, ◌⊎◌, List, [], ◌∷◌, ◌++◌, length, refl, sym, ◌∙◌, ap, subst, inl, inr, Ok, Option, Some, None, append_assoc, append-nil, arith, true, false, Bool, not, ◌==◌, ◌&&◌, if◌then◌else◌, length-append, add-one, le_refl, eq-or-lt_of_le, eqb-true, IsTrue, and_parts, Names, NamesWhole, whole, Entry, Side, Client, Server, Message, Greeting, Request, Simple, enc, head, side, Item, Byte, Starts, Completes, Serves, pairs, completed_messages, Pair, ArePairs, Operation, is_finished, Core, State, operation, target, target_from, with_reply_at, IsSendable, MayStart, complete, reply_to, core_with_request, is_by_chunk, is_reply_to, makes_due, Obeys, request_of_reply, IsServedFor, Both, get, put, IsFilled, Rest, Reader, Reading, More, Whole, Bad, settle, Judge, rest_with, reads, on_ok}
 use Rattle.nbd_laws.proofs.service.EntryLemmas.{Names-push_cases, NamesWhole-left, NamesWhole-push, served_atomically}
 use Rattle.nbd_laws.proofs.reading.ReaderLemmas.{old-empty, old-filled, IsFilled-snoc, IsMoreAt, AreHeld, kept_next, held_more, held_whole, led, ended_by, with_byte, IsMore, Tracks, get-put_same, put-put, Open, Idle, Busy, Loose, IsNotBusy, Walk, ended, serving, opening, middle, final, loose, IsSoundAt, IsSound}
-use Rattle.nbd_wire.specs.protocol.Reading.{Both, get, put, IsFilled, Rest, Reader, Reading, More, Whole, Bad, settle, Judge, rest_with, reads, on_ok}
 
 -- each request that has completed was served atomically, and no other
 pub record IsCanonical (state : State) : Type 0 where

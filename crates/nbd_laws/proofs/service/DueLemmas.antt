@@ -1,19 +1,7 @@
 -- When requests have to be served in a run, walking from a moment on.
-use Rattle.std.proofs.Common.{◌≡◌, ℕ, ◌<◌, ◌≤◌, ◌⊎◌, ◌==◌, ◌||◌, ◌&&◌, not, List, [], ◌∷◌, ◌++◌, length, map, is_some, refl, sym, ◌∙◌, ap, inl, inr, Option, Some, None, Bool, true, false, arith, nat_le, if◌then◌else◌}
-use Rattle.std.proofs.lemmas.Bool.{eqb-true, leb-true, le-leb}
-use Rattle.nbd_wire.specs.declared.entry.Entry.{Entry}
+use Rattle.nbd_laws.proofs.Common.{◌≡◌, ℕ, ◌<◌, ◌≤◌, ◌⊎◌, ◌==◌, ◌||◌, ◌&&◌, not, List, [], ◌∷◌, ◌++◌, length, map, is_some, refl, sym, ◌∙◌, ap, inl, inr, Option, Some, None, Bool, true, false, arith, nat_le, if◌then◌else◌, leb-true, le-leb, Entry, Message, Request, Client, Server, Profile, Item, Byte, Starts, Completes, Serves, Operation, ends_reply, first_known, first_shown, known_from, known_if, lesser_of, Obeys, complete, core_with_request, gives, inside_at, is_by_chunk, is_reply_to, is_this, makes_due, noted, reply_to, request_of_reply, shown_with, Core, Shown, operation, Piece, byte_at, piece_offset, piece_size}
+use Rattle.std.proofs.lemmas.Bool.{eqb-true}
 use Rattle.nbd_wire.specs.declared.commands.TheConstants as commands
-use Rattle.nbd_wire.specs.declared.message.Message.{Message}
-use Rattle.nbd_wire.specs.declared.message.Message.TheVariants.{Request}
-use Rattle.nbd_wire.specs.declared.message.Side.TheVariants.{Client, Server}
-use Rattle.nbd_wire.specs.declared.profile.Profile.{Profile}
-use Rattle.nbd_wire.specs.protocol.Marks.{Item, Byte, Starts, Completes, Serves}
-use Rattle.nbd_wire.specs.protocol.Operations.{Operation, ends_reply}
-use Rattle.nbd_wire.specs.protocol.Reports.{first_known, first_shown, known_from, known_if, lesser_of}
-use Rattle.nbd_wire.specs.protocol.Rules.{Obeys, complete, core_with_request, gives, inside_at, is_by_chunk, is_reply_to, is_this, makes_due, noted, reply_to, request_of_reply, shown_with}
-use Rattle.nbd_wire.specs.protocol.States.{Core, Shown, operation}
-use Rattle.nbd_wire.specs.declared.payloads.Piece.{Piece}
-use Rattle.nbd_wire.specs.protocol.Pieces.{byte_at, piece_offset, piece_size}
 use Rattle.nbd_laws.proofs.service.InsideLemmas.{IsSettled, chunk_end, core_end, entries_grow, inside_end, settled_complete}
 use Rattle.nbd_laws.proofs.runs.BegunLemmas.{asks_only}
 use Rattle.nbd_laws.proofs.runs.ProfileLemmas.{profile_stays}

@@ -1,17 +1,6 @@
 -- What is due in the one profile, and in the other.
-use Rattle.std.proofs.Common.{◌≡◌, ℕ, ◌≤◌, ◌==◌, List, refl, sym, ◌∙◌, ap, Option, Some, None, Bool, true, false, arith, if◌then◌else◌, nat_le, eqb-true}
-use Rattle.std.proofs.lemmas.Bool.{leb-true}
+use Rattle.nbd_laws.proofs.Common.{◌≡◌, ℕ, ◌≤◌, ◌==◌, List, refl, sym, ◌∙◌, ap, Option, Some, None, Bool, true, false, arith, if◌then◌else◌, nat_le, eqb-true, leb-true, Entry, Profile, Base, Wide, Item, Operation, due_by_chunk, due_in, due_of, report, IsRunOf, Core, IsFaultless, AnswersAtOnce}
 use Rattle.nbd_wire.specs.declared.commands.TheConstants as commands
-use Rattle.nbd_wire.specs.declared.entry.Entry.{Entry}
-use Rattle.nbd_wire.specs.declared.profile.Profile.{Profile}
-use Rattle.nbd_wire.specs.declared.profile.Profile.TheVariants.{Base, Wide}
-use Rattle.nbd_wire.specs.protocol.Marks.{Item}
-use Rattle.nbd_wire.specs.protocol.Operations.{Operation}
-use Rattle.nbd_wire.specs.protocol.Reports.{due_by_chunk, due_in, due_of, report}
-use Rattle.nbd_wire.specs.protocol.Rules.{IsRunOf}
-use Rattle.nbd_wire.specs.protocol.States.{Core}
-use Rattle.nbd_wire.specs.protocol.Verdicts.{IsFaultless}
-use Rattle.nbd_laws.specs.Profiles.{AnswersAtOnce}
 use Rattle.nbd_laws.proofs.requests.ReportLemmas.{asked-report, stated, told_if}
 use Rattle.nbd_laws.proofs.service.DueLemmas.{by_chunk, shown_at}
 use Rattle.nbd_laws.proofs.service.SoonerLemmas.{IsSooner, sooner_at_end}

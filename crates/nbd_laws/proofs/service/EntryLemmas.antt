@@ -1,9 +1,5 @@
 -- Entries of an order, one after the other.
-use Rattle.std.proofs.Common.{◌≡◌, ℕ, ◌<◌, ◌≤◌, ◌⊎◌, ◌==◌, ◌&&◌, ◌||◌, List, [], ◌∷◌, ◌++◌, refl, sym, ◌∙◌, ap, subst, inl, inr, Option, Some, None, Bool, true, false, IsTrue, append_assoc, eq-eqb, eqb-true}
-use Rattle.std.proofs.lemmas.Bool.{cases_eq}
-use Rattle.nbd_wire.specs.declared.entry.Entry.{Entry}
-use Rattle.nbd_wire.specs.declared.entry.Part.{Part}
-use Rattle.nbd_wire.specs.protocol.Entries.{IsServedAt, MayServe, Names, NamesWhole, in_part, is_served, whole}
+use Rattle.nbd_laws.proofs.Common.{◌≡◌, ℕ, ◌<◌, ◌≤◌, ◌⊎◌, ◌==◌, ◌&&◌, ◌||◌, List, [], ◌∷◌, ◌++◌, refl, sym, ◌∙◌, ap, subst, inl, inr, Option, Some, None, Bool, true, false, IsTrue, append_assoc, eq-eqb, eqb-true, cases_eq, Entry, Part, IsServedAt, MayServe, Names, NamesWhole, in_part, is_served, whole}
 
 pub Names-push : (es : List Entry) (e : Entry) → Names (es ++ e ∷ []) e.request
 Names-push [] e = inl refl

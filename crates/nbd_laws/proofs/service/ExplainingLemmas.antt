@@ -1,16 +1,7 @@
 -- A capture is explained exactly where a run with its bytes passes the tests.
-use Rattle.std.proofs.Common.{◌≡◌, ℕ, List, sym, ◌∙◌, ap, subst}
-use Rattle.nbd_wire.specs.declared.profile.Profile.{Profile}
-use Rattle.nbd_wire.specs.declared.entry.Entry.{Entry}
-use Rattle.nbd_wire.specs.protocol.Explains.{IsExplainedOf, FitsImage, HasNoWrongByte, Start}
-use Rattle.nbd_wire.specs.protocol.Marks.{Item, pairs, service_order}
-use Rattle.nbd_wire.specs.protocol.Captures.{Pair}
-use Rattle.nbd_wire.specs.protocol.Reports.{Report, report}
-use Rattle.nbd_wire.specs.protocol.Rules.{IsRunOf}
-use Rattle.nbd_wire.specs.protocol.Verdicts.{IsFaultless, Passes, answered_count, improper_count, request_count}
+use Rattle.nbd_laws.proofs.Common.{◌≡◌, ℕ, List, sym, ◌∙◌, ap, subst, Profile, Entry, IsExplainedOf, FitsImage, HasNoWrongByte, Start, Item, pairs, service_order, Pair, Report, report, IsRunOf, IsFaultless, Passes, answered_count, improper_count, request_count, ExplainedPasses, HasCountsOf, IsNoOf, PassingIsExplained}
 use Rattle.nbd_laws.proofs.service.MomentLemmas.{latest_moments, orders_are_faultless}
 use Rattle.nbd_laws.proofs.service.ServiceLemmas.{same_reports}
-use Rattle.nbd_laws.specs.Explaining.{ExplainedPasses, HasCountsOf, IsNoOf, PassingIsExplained}
 
 pub passing_is_explained : PassingIsExplained
 passing_is_explained profile items order initial run p =

@@ -1,15 +1,6 @@
 -- What lies inside a request does not change while messages complete.
-use Rattle.std.proofs.Common.{◌≡◌, ℕ, zero, suc, ◌<◌, ◌≤◌, ◌==◌, List, [], ◌∷◌, ◌++◌, length, refl, sym, ◌∙◌, ap, inl, inr, Option, Some, None, Bool, true, false, arith, le_refl}
+use Rattle.nbd_laws.proofs.Common.{◌≡◌, ℕ, zero, suc, ◌<◌, ◌≤◌, ◌==◌, List, [], ◌∷◌, ◌++◌, length, refl, sym, ◌∙◌, ap, inl, inr, Option, Some, None, Bool, true, false, arith, le_refl, Entry, Message, Greeting, ClientFlags, Choice, Answer, Exported, Request, Profile, Base, Wide, Item, Byte, Starts, Completes, Serves, Exporting, Operation, is_proper, MayComplete, Obeys, complete, core_with_request, inside_at, inside_operation, is_by_chunk, reply_to, Core, Phase, Greet, Flags, Choosing, Naming, Aborting, Answering, Transmission, export_in, operation, with_reply, with_reply_at}
 use Rattle.nbd_wire.specs.declared.commands.TheConstants as commands
-use Rattle.nbd_wire.specs.declared.entry.Entry.{Entry}
-use Rattle.nbd_wire.specs.declared.message.Message.{Message}
-use Rattle.nbd_wire.specs.declared.message.Message.TheVariants.{Greeting, ClientFlags, Choice, Answer, Exported, Request}
-use Rattle.nbd_wire.specs.declared.profile.Profile.{Profile}
-use Rattle.nbd_wire.specs.declared.profile.Profile.TheVariants.{Base, Wide}
-use Rattle.nbd_wire.specs.protocol.Marks.{Item, Byte, Starts, Completes, Serves}
-use Rattle.nbd_wire.specs.protocol.Operations.{Exporting, Operation, is_proper}
-use Rattle.nbd_wire.specs.protocol.Rules.{MayComplete, Obeys, complete, core_with_request, inside_at, inside_operation, is_by_chunk, reply_to}
-use Rattle.nbd_wire.specs.protocol.States.{Core, Phase, Greet, Flags, Choosing, Naming, Aborting, Answering, Transmission, export_in, operation, with_reply, with_reply_at}
 use Rattle.nbd_laws.proofs.runs.PrefixLemmas.{InTransmission, asks, in_transmission, phase-complete, transmission_row}
 use Rattle.nbd_laws.proofs.runs.TraceLemmas.{length-complete}
 

@@ -1,16 +1,6 @@
 -- The moments of service of the runs with given bytes are the orders without a fault.
-use Rattle.std.proofs.Common.{◌≡◌, ℕ, ◌≤◌, ◌==◌, List, [], length, refl, sym, ◌∙◌, ap, subst, Option, Some, None, Bool, true, false, arith, if◌then◌else◌, nat_le}
-use Rattle.std.proofs.lemmas.Bool.{leb-true}
+use Rattle.nbd_laws.proofs.Common.{◌≡◌, ℕ, ◌≤◌, ◌==◌, List, [], length, refl, sym, ◌∙◌, ap, subst, Option, Some, None, Bool, true, false, arith, if◌then◌else◌, nat_le, leb-true, Entry, Profile, Base, Wide, Item, service_order, Operation, HasNoOrderFault, Asked, asked_at, known_from, due_by_chunk, due_in, due_of, export_of, first_shown, inside_asked, inside_in, known_count, lesser_of, operations_of, report, IsRunOf, ends_at, inside_at, inside_operation, is_by_chunk, Core, export_in, operation, start, start_of, LatestMoments, OrdersAreFaultless, with_profile}
 use Rattle.nbd_wire.specs.declared.commands.TheConstants as commands
-use Rattle.nbd_wire.specs.declared.entry.Entry.{Entry}
-use Rattle.nbd_wire.specs.declared.profile.Profile.{Profile}
-use Rattle.nbd_wire.specs.declared.profile.Profile.TheVariants.{Base, Wide}
-use Rattle.nbd_wire.specs.protocol.Marks.{Item, service_order}
-use Rattle.nbd_wire.specs.protocol.Operations.{Operation}
-use Rattle.nbd_wire.specs.protocol.Orders.{HasNoOrderFault}
-use Rattle.nbd_wire.specs.protocol.Reports.{Asked, asked_at, known_from, due_by_chunk, due_in, due_of, export_of, first_shown, inside_asked, inside_in, known_count, lesser_of, operations_of, report}
-use Rattle.nbd_wire.specs.protocol.Rules.{IsRunOf, ends_at, inside_at, inside_operation, is_by_chunk}
-use Rattle.nbd_wire.specs.protocol.States.{Core, export_in, operation, start, start_of}
 use Rattle.nbd_laws.proofs.worked.IndexLemmas.{by_entries, by_index}
 use Rattle.nbd_laws.proofs.service.DueLemmas.{by_chunk, due_chunk, due_from, due_known, known_within, or_later, shown_at}
 use Rattle.nbd_laws.proofs.service.EntryLemmas.{HasNoFault}
@@ -20,8 +10,6 @@ use Rattle.nbd_laws.proofs.service.PlacingLemmas.{IsDeep}
 use Rattle.nbd_laws.proofs.runs.ProfileLemmas.{at_base, known_at_base}
 use Rattle.nbd_laws.proofs.runs.RunLemmas.{core_end-ends_at, latest}
 use Rattle.nbd_laws.proofs.requests.ReportLemmas.{asked-report, entry_within, length-report, stated, told_if}
-use Rattle.nbd_laws.specs.Moments.{LatestMoments, OrdersAreFaultless}
-use Rattle.nbd_laws.specs.Profiles.{with_profile}
 
 -- what lies inside a request by the report lies inside it by the run
 inside-stated : (core : Core) (κ : ℕ → Option ℕ) (k : ℕ) (o : Option Operation) → inside_asked (export_in core.phase) (told_if core κ k o) ≡ inside_operation (export_in core.phase) o

@@ -1,16 +1,10 @@
 -- What a run leads to and states does not depend on the moments of service.
-use Rattle.std.proofs.Common.{◌≡◌, ℕ, List, [], ◌∷◌, refl, sym, ◌∙◌, ap, Option}
-use Rattle.nbd_wire.specs.declared.message.Side.TheVariants.{Client, Server}
-use Rattle.nbd_wire.specs.protocol.Reports.{Report, first_known, known_count, known_from, report, asked_list}
-use Rattle.nbd_wire.specs.protocol.Marks.{Item, Starts, Completes, without_service}
-use Rattle.nbd_wire.specs.protocol.Rules.{request_of_reply, complete, ends_at}
-use Rattle.nbd_wire.specs.protocol.States.{Core, start, start_of, export_in}
+use Rattle.nbd_laws.proofs.Common.{◌≡◌, ℕ, List, [], ◌∷◌, refl, sym, ◌∙◌, ap, Option, Client, Server, Report, first_known, known_count, known_from, report, asked_list, Item, Starts, Completes, without_service, request_of_reply, complete, ends_at, Core, start, start_of, export_in, SameMarks, SameReports, ReportsIgnoreService}
 use Rattle.nbd_laws.proofs.runs.FollowLemmas.{bare, follows, follows_unserved, pairs_unserved, walk_unserved}
 use Rattle.nbd_laws.proofs.service.InsideLemmas.{core_end}
 use Rattle.nbd_laws.proofs.runs.RunLemmas.{core_end-ends_at, walk_of}
 use Rattle.nbd_laws.proofs.reading.TwinLemmas.{AreEqual, twins}
 use Rattle.nbd_laws.proofs.runs.BlockLemmas.{Idles}
-use Rattle.nbd_laws.specs.Sameness.{SameMarks, SameReports, ReportsIgnoreService}
 
 core_end_unserved : (core : Core) (items : List Item) → core_end core items ≡ core_end core (without_service items)
 core_end_unserved core [] = refl

@@ -1,18 +1,5 @@
 -- A reply starts before it shows or ends anything.
-use Rattle.std.proofs.Common.{◌≡◌, ℕ, ◌≤◌, ◌&&◌, List, [], ◌∷◌, length, refl, sym, ◌∙◌, ap, subst, inl, inr, Option, Some, None, Bool, true, false, arith, if◌then◌else◌}
-use Rattle.std.proofs.lemmas.Bool.{and_parts}
-use Rattle.nbd_wire.specs.declared.message.Message.{Message}
-use Rattle.nbd_wire.specs.declared.message.Side.TheVariants.{Client, Server}
-use Rattle.nbd_wire.specs.declared.profile.Profile.{Profile}
-use Rattle.nbd_wire.specs.declared.profile.Profile.TheVariants.{Base}
-use Rattle.nbd_wire.specs.protocol.Marks.{Item}
-use Rattle.nbd_wire.specs.protocol.Operations.{ends_reply}
-use Rattle.nbd_wire.specs.protocol.Reading.{Both, get}
-use Rattle.nbd_wire.specs.protocol.Reports.{known_count, known_from}
-use Rattle.nbd_wire.specs.protocol.Rules.{IsRunOf, MayComplete, complete, ends_at, is_reply_to, is_this, request_of_reply}
-use Rattle.nbd_wire.specs.protocol.Sides.{side}
-use Rattle.nbd_wire.specs.protocol.States.{Core, start, start_of}
-use Rattle.nbd_laws.specs.Profiles.{with_profile}
+use Rattle.nbd_laws.proofs.Common.{◌≡◌, ℕ, ◌≤◌, ◌&&◌, List, [], ◌∷◌, length, refl, sym, ◌∙◌, ap, subst, inl, inr, Option, Some, None, Bool, true, false, arith, if◌then◌else◌, and_parts, Message, Client, Server, Profile, Base, Item, ends_reply, Both, get, known_count, known_from, IsRunOf, MayComplete, complete, ends_at, is_reply_to, is_this, request_of_reply, side, Core, start, start_of, with_profile}
 use Rattle.nbd_laws.proofs.reading.ReaderLemmas.{Busy, Idle, Later, Later-trans, Loose, Open, Walk, at_once, behind, ended, final, loose, middle, opening, serving}
 use Rattle.nbd_laws.proofs.runs.BegunLemmas.{AreBegun, BegunOpen, answers_same, asks_only, begun_completed}
 use Rattle.nbd_laws.proofs.runs.FollowLemmas.{Follows, each_with, follows}

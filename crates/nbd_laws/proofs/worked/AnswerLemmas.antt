@@ -1,24 +1,5 @@
 -- The answer to the bytes of given items, by tests that compute.
-use Rattle.std.proofs.Common.{◌≡◌, ℕ, ◌++◌, List, [], IsTrue, flat_map, slice_get}
-use Rattle.nbd_wire.specs.declared.entry.Entry.{Entry}
-use Rattle.nbd_wire.specs.declared.message.Side.TheVariants.{Client, Server}
-use Rattle.nbd_wire.specs.declared.profile.Profile.{Profile}
-use Rattle.nbd_wire.specs.protocol.Captures.{Pair}
-use Rattle.nbd_wire.specs.protocol.Encoding.{enc, head, tail}
-use Rattle.nbd_wire.specs.protocol.Explains.{FitsImage, Start, start_byte}
-use Rattle.nbd_wire.specs.protocol.ExportBytes.{byte_before, effects}
-use Rattle.nbd_wire.specs.protocol.Flags.{has, has_only}
-use Rattle.nbd_wire.specs.protocol.Marks.{Item, block, of_side, pairs, service_order}
-use Rattle.nbd_wire.specs.protocol.Operations.{ends_reply, is_failing, is_proper}
-use Rattle.nbd_wire.specs.protocol.Options.{is_proper_option, next_phase}
-use Rattle.nbd_wire.specs.protocol.Payloads.{content_of, context_of, failure_of, info_of, is_go, is_listed, queries_of}
-use Rattle.nbd_wire.specs.protocol.Pieces.{piece_of}
-use Rattle.nbd_wire.specs.protocol.Reports.{report}
-use Rattle.nbd_wire.specs.protocol.Rules.{IsRunOf, complete}
-use Rattle.nbd_wire.specs.protocol.States.{start_of, target}
-use Rattle.nbd_wire.specs.protocol.Verdicts.{answered_count, improper_count, request_count}
-use Rattle.nbd_laws.specs.Explaining.{IsNoOf, IsYesOf}
-use Rattle.nbd_laws.specs.Prefixes.{ended_messages}
+use Rattle.nbd_laws.proofs.Common.{◌≡◌, ℕ, ◌++◌, List, [], IsTrue, flat_map, slice_get, Entry, Client, Server, Profile, Pair, enc, head, tail, FitsImage, Start, start_byte, byte_before, effects, has, has_only, Item, block, of_side, pairs, service_order, ends_reply, is_failing, is_proper, is_proper_option, next_phase, content_of, context_of, failure_of, info_of, is_go, is_listed, queries_of, piece_of, report, IsRunOf, complete, start_of, target, answered_count, improper_count, request_count, IsNoOf, IsYesOf, ended_messages}
 use Rattle.nbd_laws.proofs.service.ExplainingLemmas.{counts_of, failing_is_no}
 use Rattle.nbd_laws.proofs.worked.DecidingReadLemmas.{all_right, is_wrong_at, none_wrong, wrong}
 use Rattle.nbd_laws.proofs.worked.DecidingRunLemmas.{is_run_of, is_tight, obeys}

@@ -1,24 +1,6 @@
 -- Tests that decide the rules of negotiation by computing, and what a message needs to start.
-use Rattle.std.proofs.Common.{◌≡◌, ℕ, zero, suc, ◌+◌, ◌<◌, ◌≤◌, ◌^◌, ◌⊎◌, ◌==◌, ◌&&◌, ◌||◌, not, nat_le, nat_lt, List, [], ◌∷◌, length, refl, ap, subst, inl, inr, Option, Some, None, Bool, true, false, if◌then◌else◌, IsTrue, is_some, eqb-true, arith, eq-eqb}
-use Rattle.std.proofs.lemmas.Bool.{eqb-false, leb-true, ltb-true}
-use Rattle.nbd_wire.specs.declared.fault.WireFault.{WireFault}
-use Rattle.nbd_wire.specs.declared.entry.Entry.{Entry}
-use Rattle.nbd_wire.specs.declared.entry.Part.{Part}
-use Rattle.nbd_wire.specs.protocol.Entries.{IsServedAt, MayServe, Names, NamesWhole, inside, is_served, inside_of}
+use Rattle.nbd_laws.proofs.Common.{◌≡◌, ℕ, zero, suc, ◌+◌, ◌<◌, ◌≤◌, ◌^◌, ◌⊎◌, ◌==◌, ◌&&◌, ◌||◌, not, nat_le, nat_lt, List, [], ◌∷◌, length, refl, ap, subst, inl, inr, Option, Some, None, Bool, true, false, if◌then◌else◌, IsTrue, is_some, eqb-true, arith, eq-eqb, eqb-false, leb-true, ltb-true, WireFault, Entry, Part, IsServedAt, MayServe, Names, NamesWhole, inside, is_served, inside_of, Side, Client, Server, Message, Greeting, ClientFlags, Choice, Answer, Exported, Request, Simple, Chunk, ExtendedRequest, ExtendedChunk, AreBytes, turn, Exporting, Operation, ends_reply, has_range, is_proper, proper_on, is_in, IsServedFor, MayStartIn, gives, inside_at, inside_operation, is_by_chunk, is_reply_to, is_request, is_this, request_of_reply, is_extended, Completes, Starts, carries_payload, IsPayload, IsSendable, same_side, Core, Phase, State, Transmission, export_in, operation}
 use Rattle.nbd_wire.specs.declared.commands.TheConstants as commands
-use Rattle.nbd_wire.specs.declared.message.Side.{Side}
-use Rattle.nbd_wire.specs.declared.message.Side.TheVariants.{Client, Server}
-use Rattle.nbd_wire.specs.declared.message.Message.{Message}
-use Rattle.nbd_wire.specs.declared.message.Message.TheVariants.{Greeting, ClientFlags, Choice, Answer, Exported, Request, Simple, Chunk, ExtendedRequest, ExtendedChunk}
-use Rattle.nbd_wire.specs.protocol.Encoding.{AreBytes}
-use Rattle.nbd_wire.specs.protocol.Options.{turn}
-use Rattle.nbd_wire.specs.protocol.Operations.{Exporting, Operation, ends_reply, has_range, is_proper, proper_on}
-use Rattle.nbd_wire.specs.protocol.Pieces.{is_in}
-use Rattle.nbd_wire.specs.protocol.Rules.{IsServedFor, MayStartIn, gives, inside_at, inside_operation, is_by_chunk, is_reply_to, is_request, is_this, request_of_reply, is_extended}
-use Rattle.nbd_wire.specs.protocol.Marks.{Completes, Starts}
-use Rattle.nbd_wire.specs.protocol.Sendable.{carries_payload, IsPayload, IsSendable}
-use Rattle.nbd_wire.specs.protocol.Sides.{same_side}
-use Rattle.nbd_wire.specs.protocol.States.{Core, Phase, State, Transmission, export_in, operation}
 
 -- both tests pass
 pub both : (a b : Bool) → IsTrue (a && b) → IsTrue a × IsTrue b

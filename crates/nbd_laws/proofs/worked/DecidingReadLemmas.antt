@@ -1,12 +1,6 @@
 -- Tests that decide by computing whether a byte is wrong.
-use Rattle.std.proofs.Common.{◌≡◌, ℕ, ◌==◌, ◌&&◌, ◌||◌, not, List, [], ◌∷◌, refl, sym, ◌∙◌, ap, subst, Option, Some, None, Bool, true, false, IsTrue, eqb-true, eq-eqb, zero, suc, ◌++◌, take, slice_get, append_assoc, append-nil, ◌≢◌, inl, inr, is_some}
-use Rattle.std.proofs.lemmas.Bool.{eqb-false}
-use Rattle.nbd_wire.specs.declared.entry.Entry.{Entry}
-use Rattle.nbd_wire.specs.declared.entry.Part.{Part}
-use Rattle.nbd_wire.specs.protocol.Entries.{in_part}
+use Rattle.nbd_laws.proofs.Common.{◌≡◌, ℕ, ◌==◌, ◌&&◌, ◌||◌, not, List, [], ◌∷◌, refl, sym, ◌∙◌, ap, subst, Option, Some, None, Bool, true, false, IsTrue, eqb-true, eq-eqb, zero, suc, ◌++◌, take, slice_get, append_assoc, append-nil, ◌≢◌, inl, inr, is_some, eqb-false, Entry, Part, in_part, Differs, GivesByte, Effect, IsWrong, IsWrongIn, IsWrongOf, byte_before, byte_or_start, last_touch, serves, is_in}
 use Rattle.nbd_wire.specs.declared.commands.TheConstants as commands
-use Rattle.nbd_wire.specs.protocol.ExportBytes.{Differs, GivesByte, Effect, IsWrong, IsWrongIn, IsWrongOf, byte_before, byte_or_start, last_touch, serves}
-use Rattle.nbd_wire.specs.protocol.Pieces.{is_in}
 use Rattle.nbd_laws.proofs.worked.DecidingLemmas.{all_at, all_in, both, in_range, then_too, was_false}
 
 -- the read gives the known byte

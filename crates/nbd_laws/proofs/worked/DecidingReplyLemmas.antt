@@ -1,13 +1,6 @@
 -- Tests that decide the rules of replies by computing.
-use Rattle.std.proofs.Common.{◌≡◌, ℕ, ◌==◌, ◌&&◌, length, refl, Option, Some, None, Bool, true, false, IsTrue, eqb-true}
+use Rattle.nbd_laws.proofs.Common.{◌≡◌, ℕ, ◌==◌, ◌&&◌, length, refl, Option, Some, None, Bool, true, false, IsTrue, eqb-true, Message, Simple, Chunk, ExtendedChunk, simple_length, chunk_fault, read_as, chunk_head_fault, simple_fault, simple_last_fault, MayReply, AnswersOne, Profile, Operation, Exporting, Core, operation, target, with_reply}
 use Rattle.nbd_wire.specs.declared.chunks.TheConstants as chunks
-use Rattle.nbd_wire.specs.declared.message.Message.{Message}
-use Rattle.nbd_wire.specs.declared.message.Message.TheVariants.{Simple, Chunk, ExtendedChunk}
-use Rattle.nbd_wire.specs.protocol.Transmission.{simple_length, chunk_fault, read_as, chunk_head_fault, simple_fault, simple_last_fault}
-use Rattle.nbd_wire.specs.protocol.Rules.{MayReply, AnswersOne}
-use Rattle.nbd_wire.specs.declared.profile.Profile.{Profile}
-use Rattle.nbd_wire.specs.protocol.Operations.{Operation, Exporting}
-use Rattle.nbd_wire.specs.protocol.States.{Core, operation, target, with_reply}
 use Rattle.nbd_laws.proofs.worked.DecidingLemmas.{both, clean_is, is_clean}
 
 abbrev pub may_reply : Profile → Bool → Exporting → Operation → Message → Bool

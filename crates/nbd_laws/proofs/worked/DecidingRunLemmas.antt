@@ -1,24 +1,8 @@
 -- Tests that decide by computing whether items are a run.
-use Rattle.std.proofs.Common.{◌≡◌, ◌&&◌, not, nat_le, nat_lt, List, [], ◌∷◌, ◌++◌, length, Bool, true, false, IsTrue, flat_map}
-use Rattle.std.proofs.lemmas.Bool.{leb-true, ltb-true}
+use Rattle.nbd_laws.proofs.Common.{◌≡◌, ◌&&◌, not, nat_le, nat_lt, List, [], ◌∷◌, ◌++◌, length, Bool, true, false, IsTrue, flat_map, leb-true, ltb-true, Side, Client, Server, Message, Greeting, ClientFlags, Choice, Answer, Exported, Request, Simple, Chunk, Item, Byte, Starts, Completes, Serves, IsTight, MayFollow, block, of_side, has, Allows, IsRunOf, MayComplete, Obeys, after, inside_at, same_side, side, Profile, Base, ended_messages, Core, Phase, State, Greet, Flags, Choosing, Naming, Aborting, Answering, Transmission, start, start_of, target, is_proper_option, takes_contexts, abort_fault, answer_fault, answer_head_fault, answer_last_fault, client_flags_fault, export_fault, greeting_fault, cookie_fault, request_fault}
 use Rattle.nbd_wire.specs.declared.handshake.TheConstants as handshake
 use Rattle.nbd_wire.specs.declared.options.TheConstants as options
-use Rattle.nbd_wire.specs.declared.message.Side.{Side}
-use Rattle.nbd_wire.specs.declared.message.Side.TheVariants.{Client, Server}
-use Rattle.nbd_wire.specs.declared.message.Message.{Message}
-use Rattle.nbd_wire.specs.declared.message.Message.TheVariants.{Greeting, ClientFlags, Choice, Answer, Exported, Request, Simple, Chunk}
-use Rattle.nbd_wire.specs.protocol.Marks.{Item, Byte, Starts, Completes, Serves, IsTight, MayFollow, block, of_side}
-use Rattle.nbd_wire.specs.protocol.Flags.{has}
-use Rattle.nbd_wire.specs.protocol.Rules.{Allows, IsRunOf, MayComplete, Obeys, after, inside_at}
-use Rattle.nbd_wire.specs.protocol.Sides.{same_side, side}
-use Rattle.nbd_wire.specs.declared.profile.Profile.{Profile}
-use Rattle.nbd_wire.specs.declared.profile.Profile.TheVariants.{Base}
-use Rattle.nbd_laws.specs.Prefixes.{ended_messages}
-use Rattle.nbd_wire.specs.protocol.States.{Core, Phase, State, Greet, Flags, Choosing, Naming, Aborting, Answering, Transmission, start, start_of, target}
 use Rattle.nbd_laws.proofs.worked.DecidingLemmas.{was_false, are_equal, both, clean_is, equal_bools, is_clean, is_fresh, is_sendable, is_served_for, may_start_in, same_sides, sendable, serves_end, serves_start, starts_in, true_is_fresh}
-use Rattle.nbd_wire.specs.protocol.Options.{is_proper_option, takes_contexts}
-use Rattle.nbd_wire.specs.protocol.Negotiation.{abort_fault, answer_fault, answer_head_fault, answer_last_fault, client_flags_fault, export_fault, greeting_fault}
-use Rattle.nbd_wire.specs.protocol.Transmission.{cookie_fault, request_fault}
 use Rattle.nbd_laws.proofs.worked.DecidingReplyLemmas.{answers_one, answers_target}
 
 abbrev pub may_complete : Core → Phase → Message → Bool

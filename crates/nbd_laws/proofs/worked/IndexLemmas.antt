@@ -1,9 +1,5 @@
 -- The faults of an order by index are those entry by entry.
-use Rattle.std.proofs.Common.{◌≡◌, ℕ, zero, suc, ◌<◌, ◌≤◌, ◌==◌, inl, inr, List, [], ◌∷◌, ◌++◌, refl, sym, ap, subst, Option, Some, arith, slice_get, take, IsTrue, Bool, true, false, nat_le, eqb-true, append_assoc, append-nil}
-use Rattle.std.proofs.lemmas.Bool.{eqb-false, leb-true, leb-false}
-use Rattle.nbd_wire.specs.declared.entry.Entry.{Entry}
-use Rattle.nbd_wire.specs.protocol.Entries.{is_served}
-use Rattle.nbd_wire.specs.protocol.Orders.{HasNoOrderFault, IsBad, IsLate}
+use Rattle.nbd_laws.proofs.Common.{◌≡◌, ℕ, zero, suc, ◌<◌, ◌≤◌, ◌==◌, inl, inr, List, [], ◌∷◌, ◌++◌, refl, sym, ap, subst, Option, Some, arith, slice_get, take, IsTrue, Bool, true, false, nat_le, eqb-true, append_assoc, append-nil, eqb-false, leb-true, leb-false, Entry, is_served, HasNoOrderFault, IsBad, IsLate}
 use Rattle.nbd_laws.proofs.service.EntryLemmas.{AreFine, HasNoFault, IsFine, IsInTime}
 
 module _ (count : ℕ) (inside : ℕ → ℕ → Bool) where

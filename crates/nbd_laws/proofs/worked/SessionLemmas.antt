@@ -1,16 +1,9 @@
 -- Messages and parts of the worked examples.
-use Rattle.std.proofs.Common.{ℕ, List, [], ◌∷◌, ◌++◌, length, map, flat_map}
-use Rattle.byteorder.specs.Endian.{big_bytes}
+use Rattle.nbd_laws.proofs.Common.{ℕ, List, [], ◌∷◌, ◌++◌, length, map, flat_map, big_bytes, Message, Greeting, ClientFlags, Choice, Answer, Request, Simple, Chunk, Client, enc, Item, Byte, Starts, Completes, block, side}
 use Rattle.nbd_wire.specs.declared.answers.TheConstants as answers
 use Rattle.nbd_wire.specs.declared.chunks.TheConstants as chunks
 use Rattle.nbd_wire.specs.declared.commands.TheConstants as commands
 use Rattle.nbd_wire.specs.declared.options.TheConstants as options
-use Rattle.nbd_wire.specs.declared.message.Message.{Message}
-use Rattle.nbd_wire.specs.declared.message.Message.TheVariants.{Greeting, ClientFlags, Choice, Answer, Request, Simple, Chunk}
-use Rattle.nbd_wire.specs.declared.message.Side.TheVariants.{Client}
-use Rattle.nbd_wire.specs.protocol.Encoding.{enc}
-use Rattle.nbd_wire.specs.protocol.Marks.{Item, Byte, Starts, Completes, block}
-use Rattle.nbd_wire.specs.protocol.Sides.{side}
 
 abbrev pub read : (cookie offset len : ℕ) → Message
 read cookie offset len = Request 0 commands.READ cookie offset len []

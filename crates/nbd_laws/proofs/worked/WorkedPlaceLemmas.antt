@@ -1,26 +1,6 @@
 -- Captures whose bytes the reader reads up to the last one, which it refuses.
-use Rattle.std.proofs.Common.{◌≡◌, ℕ, List, [], ◌∷◌, ◌++◌, take, refl, sym, ◌∙◌, ap, subst, Option, Some, None, Result, Ok, Err, Bool, true, ◌&&◌, nat_lt}
-use Rattle.std.proofs.lemmas.Bool.{ltb-true}
-use Rattle.nbd_wire.specs.declared.fault.WireFault.{WireFault}
-use Rattle.nbd_wire.specs.declared.fault.WireFault.TheVariants.{BadMagic, NotFixedNewstyle, BadClientFlags, OutOfTurn, OutOfProfile, UnknownCookie, BadDisconnect, IncompleteStatus}
-use Rattle.nbd_wire.specs.declared.message.Message.{Message}
-use Rattle.nbd_wire.specs.declared.message.Message.TheVariants.{Greeting}
-use Rattle.nbd_wire.specs.declared.message.Side.TheVariants.{Client, Server}
-use Rattle.nbd_wire.specs.declared.profile.Profile.{Profile}
-use Rattle.nbd_wire.specs.declared.profile.Profile.TheVariants.{Base, Wide}
-use Rattle.nbd_wire.specs.protocol.Captures.{ArePairs, Pair, flat}
-use Rattle.nbd_wire.specs.protocol.Options.{is_proper_option, next_phase}
-use Rattle.nbd_wire.specs.protocol.Payloads.{content_of, context_of, failure_of, queries_of, info_of, is_go, is_listed, status_of}
-use Rattle.nbd_wire.specs.protocol.Operations.{ends_reply, is_failing, is_proper}
-use Rattle.nbd_wire.specs.protocol.Flags.{has, has_only}
-use Rattle.nbd_wire.specs.protocol.Pieces.{piece_of}
-use Rattle.nbd_wire.specs.protocol.Rules.{complete}
-use Rattle.nbd_wire.specs.protocol.Places.{IsPlace, IsPlaceOf}
-use Rattle.nbd_wire.specs.protocol.States.{target}
-use Rattle.nbd_laws.specs.captures.Openings.{hasty_client}
-use Rattle.nbd_wire.specs.protocol.Reading.{Reader, fresh_of, on_ok, reads, step, by_tests}
+use Rattle.nbd_laws.proofs.Common.{◌≡◌, ℕ, List, [], ◌∷◌, ◌++◌, take, refl, sym, ◌∙◌, ap, subst, Option, Some, None, Result, Ok, Err, Bool, true, ◌&&◌, nat_lt, ltb-true, WireFault, BadMagic, NotFixedNewstyle, BadClientFlags, OutOfTurn, OutOfProfile, UnknownCookie, BadDisconnect, IncompleteStatus, Message, Greeting, Client, Server, Profile, Base, Wide, ArePairs, Pair, flat, is_proper_option, next_phase, content_of, context_of, failure_of, queries_of, info_of, is_go, is_listed, status_of, ends_reply, is_failing, is_proper, has, has_only, piece_of, complete, IsPlace, IsPlaceOf, target, hasty_client, Reader, fresh_of, on_ok, reads, step, by_tests, context_messages, opening_messages, status_asked_messages}
 use Rattle.nbd_laws.specs.captures.Refused as refused
-use Rattle.nbd_laws.specs.captures.Messages.{context_messages, opening_messages, status_asked_messages}
 use Rattle.nbd_laws.proofs.judge.BlockLemmas.{reads-append}
 use Rattle.nbd_laws.proofs.judge.BoolLemmas.{and_true}
 

@@ -1,23 +1,6 @@
 -- What the last byte of a message shows to be wrong, where the exchanges show the requests.
-use Rattle.std.proofs.Common.{◌≡◌, ◌<◌, ◌+◌, ℕ, zero, suc, List, [], ◌∷◌, length, refl, sym, ◌∙◌, ap, subst, Option, Some, None, false, arith, add-one, slice_get, slice_index_or}
-use Rattle.std.proofs.lemmas.Option.{slice_get_read, same_Some}
-use Rattle.nbd_state.specs.Places.{place_at}
-use Rattle.nbd_laws.proofs.requests.SoundnessLemmas.{open_target}
-use Rattle.nbd_laws.proofs.requests.ContextLemmas.{asked_at}
-use Rattle.nbd_state.proofs.PlacedLemmas.{place_shows_operation}
-use Rattle.nbd_wire.specs.protocol.Operations.{Operation, Exporting, is_finished}
+use Rattle.nbd_session.proofs.Common.{◌≡◌, ◌<◌, ◌+◌, ℕ, zero, suc, List, [], ◌∷◌, length, refl, sym, ◌∙◌, ap, subst, Option, Some, None, false, arith, add-one, slice_get, slice_index_or, slice_get_read, same_Some, place_at, open_target, asked_at, place_shows_operation, Operation, Exporting, is_finished, Core, Transmission, in_force, operation, export_in, Exchange, State, IsShown, AreShown, Shows, WireFault, ChunkHead, SimpleHead, simple_last_fault, Chunk, Simple, chunk_fault_to, last_fault_by}
 use Rattle.nbd_wire.specs.protocol.States as definitions
-use Rattle.nbd_wire.specs.protocol.States.{Core, Transmission, in_force, operation, export_in}
-use Rattle.nbd_state.specs.declared.asked.Exchange.{Exchange}
-use Rattle.nbd_state.specs.declared.state.State.{State}
-use Rattle.nbd_state.specs.Showing.{IsShown}
-use Rattle.nbd_state.specs.Shows.{AreShown, Shows}
-use Rattle.nbd_wire.specs.declared.fault.WireFault.{WireFault}
-use Rattle.nbd_wire.specs.declared.heads.transmission.ChunkHead.{ChunkHead}
-use Rattle.nbd_wire.specs.declared.heads.transmission.SimpleHead.{SimpleHead}
-use Rattle.nbd_wire.specs.protocol.Transmission.{simple_last_fault}
-use Rattle.nbd_session.specs.declared.expected.Expected.TheVariants.{Chunk, Simple}
-use Rattle.nbd_session.specs.internal.Expecting.{chunk_fault_to, last_fault_by}
 
 -- an exchange stands at a place, and shows the request there
 pub record IsShownAt (core : Core) (exchanges : List Exchange) (place : ℕ) : Type 0 where

@@ -1,9 +1,5 @@
 -- A head that is whole, and the same with more bytes after it.
-use Rattle.std.proofs.Common.{◌≡◌, ℕ, ◌+◌, ◌≤◌, List, ◌++◌, length, drop, refl, subst, Some, None, Bool, true, false, arith}
-use Rattle.std.proofs.Math.Seq.{drop-append_seam}
-use Rattle.nbd_wire.specs.protocol.Payloads.{number_at}
-use Rattle.nbd_wire.proofs.FieldLemmas.{number_at-append}
-use Rattle.nbd_session.specs.internal.Leading.{some_if}
+use Rattle.nbd_session.proofs.Common.{◌≡◌, ℕ, ◌+◌, ◌≤◌, List, ◌++◌, length, drop, refl, subst, Some, None, Bool, true, false, arith, drop-append_seam, number_at, number_at-append, some_if}
 
 -- its fields stand where they stood, with more bytes after it
 pub fields_stay : (n : ℕ) (head payload : List ℕ) → length head ≡ n → (p w : ℕ) → p + w ≤ n → number_at p w (head ++ payload) ≡ number_at p w head

@@ -1,15 +1,6 @@
 -- What is known of a side's bytes, and what is read of them.
-use Rattle.std.proofs.Common.{◌≡◌, ℕ, ◌+◌, ◌<◌, List, ◌++◌, length, refl, ◌∙◌, ap, Option, Some, None, Bool, nat_lt, if◌then◌else◌, arith, length-append}
-use Rattle.std.proofs.lemmas.Bool.{le-ltb, eq-eqb}
-use Rattle.nbd_wire.specs.declared.fault.WireFault.{WireFault}
-use Rattle.nbd_wire.specs.protocol.States.{Core}
-use Rattle.nbd_laws.specs.Awaited.{awaited_length_by}
-use Rattle.nbd_wire.specs.protocol.Decisions.{Decision}
-use Rattle.nbd_wire.specs.protocol.Reading.{last_reading, read_by, reading_by_decision, Bad, More, Whole}
-use Rattle.nbd_laws.proofs.judge.AwaitedLemmas.{in_head, in_payload}
-use Rattle.nbd_session.specs.declared.expected.Expected.{Expected}
-use Rattle.nbd_session.specs.internal.Expecting.{expected_decision, last_fault_by, message_of, payload_length_of}
-use Rattle.nbd_session.specs.internal.Known.{IsExpected}
+use Rattle.nbd_session.proofs.Common.{◌≡◌, ℕ, ◌+◌, ◌<◌, List, ◌++◌, length, refl, ◌∙◌, ap, Option, Some, None, Bool, nat_lt, if◌then◌else◌, arith, length-append, le-ltb, WireFault, Core, awaited_length_by, Decision, last_reading, read_by, reading_by_decision, Bad, More, Whole, in_head, in_payload, Expected, expected_decision, last_fault_by, message_of, payload_length_of, IsExpected}
+use Rattle.std.proofs.lemmas.Bool.{eq-eqb}
 
 at_last : (d : Decision) (bytes : List ℕ) (fault : Option WireFault) → length bytes ≡ d.head_length + d.payload_length → d.head_fault ≡ None → d.last_fault ≡ fault →
     read_by d bytes ≡ last_reading fault d.message

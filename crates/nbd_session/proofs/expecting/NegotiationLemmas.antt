@@ -1,21 +1,8 @@
 -- The messages before the options whose heads have come, and the answer to EXPORT_NAME.
-use Rattle.std.proofs.Common.{◌≡◌, ℕ, ◌==◌, ◌&&◌, not, List, ◌++◌, length, refl, sym, ◌∙◌, ap, Some, None, Bool, true, false, nat_lt, arith}
-use Rattle.nbd_wire.specs.declared.fault.WireFault.TheVariants.{BadMagic, NotFixedNewstyle, BadClientFlags, BadExport, ExportTooLarge}
-use Rattle.nbd_wire.specs.declared.fault.WireFault.{WireFault}
+use Rattle.nbd_session.proofs.Common.{◌≡◌, ℕ, ◌==◌, ◌&&◌, not, List, ◌++◌, length, refl, sym, ◌∙◌, ap, Some, None, Bool, true, false, nat_lt, arith, BadMagic, NotFixedNewstyle, BadClientFlags, BadExport, ExportTooLarge, WireFault, EXPORT_SIZE, GREETING_MAGIC, OPTION_MAGIC, has, number_at, Core, client_flags, export_answer, greeting, client_flags_fault, export_fault, padding_fault, sets_more, fault_if, Greeting, ClientFlags, Exported, expected_decision, greeting_flags_of}
 use Rattle.nbd_wire.specs.declared.handshake.TheConstants as handshake
-use Rattle.nbd_wire.specs.declared.limits.TheConstants.{EXPORT_SIZE}
-use Rattle.nbd_wire.specs.declared.magics.TheConstants.{GREETING_MAGIC, OPTION_MAGIC}
 use Rattle.nbd_wire.specs.declared.message.Message.TheVariants as messages
 use Rattle.nbd_wire.specs.declared.transmission.TheConstants as transmission
-use Rattle.nbd_wire.specs.protocol.Flags.{has}
-use Rattle.nbd_wire.specs.protocol.Payloads.{number_at}
-use Rattle.nbd_wire.specs.protocol.States.{Core}
-use Rattle.nbd_wire.specs.protocol.Decisions.{client_flags, export_answer, greeting}
-use Rattle.nbd_wire.specs.protocol.Negotiation.{client_flags_fault, export_fault, padding_fault, sets_more}
-use Rattle.nbd_wire.specs.protocol.Tests.{fault_if}
-use Rattle.nbd_session.specs.declared.expected.Expected.TheVariants.{Greeting, ClientFlags, Exported}
-use Rattle.nbd_session.specs.internal.Expecting.{expected_decision}
-use Rattle.nbd_session.specs.internal.Leading.{greeting_flags_of}
 use Rattle.nbd_session.proofs.expecting.HeadLemmas.{after_head, fields_stay, none_read, some_read}
 
 abbrev begins_well : List ℕ → Bool

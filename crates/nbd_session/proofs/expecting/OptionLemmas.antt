@@ -1,25 +1,7 @@
 -- An option, or an option reply, whose head has come.
-use Rattle.std.proofs.Common.{◌≡◌, ℕ, ◌==◌, not, List, ◌++◌, length, drop, refl, sym, ◌∙◌, ap, Option, Some, None, Ok, Err, Bool, true, false, eq-eqb, eqb-true, arith, if◌then◌else◌}
-use Rattle.std.proofs.lemmas.Bool.{ne_eqb}
-use Rattle.nbd_wire.specs.declared.fault.WireFault.{WireFault}
-use Rattle.nbd_wire.specs.declared.fault.WireFault.TheVariants.{BadMagic, WrongOption}
-use Rattle.nbd_wire.specs.declared.heads.negotiation.AnswerHead.{AnswerHead}
-use Rattle.nbd_wire.specs.declared.heads.negotiation.ChoiceHead.{ChoiceHead}
-use Rattle.nbd_wire.specs.declared.magics.TheConstants.{ANSWER_MAGIC, OPTION_MAGIC}
+use Rattle.nbd_session.proofs.Common.{◌≡◌, ℕ, ◌==◌, not, List, ◌++◌, length, drop, refl, sym, ◌∙◌, ap, Option, Some, None, Ok, Err, Bool, true, false, eq-eqb, eqb-true, arith, if◌then◌else◌, ne_eqb, WireFault, BadMagic, WrongOption, AnswerHead, ChoiceHead, ANSWER_MAGIC, OPTION_MAGIC, Profile, Selection, Exporting, is_error, number_at, Core, abort_answer, answer, answered_fault, choice, abort_fault, earlier_to, payload_fault, success_fault, fault_if, Answer, Choice, expected_decision, answer_fields_of, answer_head_of, choice_head_of, unless_fault}
 use Rattle.nbd_wire.specs.declared.message.Message.TheVariants as messages
 use Rattle.nbd_wire.specs.declared.options.TheConstants as options
-use Rattle.nbd_wire.specs.declared.profile.Profile.{Profile}
-use Rattle.nbd_wire.specs.protocol.Contexts.{Selection}
-use Rattle.nbd_wire.specs.protocol.Operations.{Exporting}
-use Rattle.nbd_wire.specs.protocol.Options.{is_error}
-use Rattle.nbd_wire.specs.protocol.Payloads.{number_at}
-use Rattle.nbd_wire.specs.protocol.States.{Core}
-use Rattle.nbd_wire.specs.protocol.Decisions.{abort_answer, answer, answered_fault, choice}
-use Rattle.nbd_wire.specs.protocol.Negotiation.{abort_fault, earlier_to, payload_fault, success_fault}
-use Rattle.nbd_wire.specs.protocol.Tests.{fault_if}
-use Rattle.nbd_session.specs.declared.expected.Expected.TheVariants.{Answer, Choice}
-use Rattle.nbd_session.specs.internal.Expecting.{expected_decision}
-use Rattle.nbd_session.specs.internal.Leading.{answer_fields_of, answer_head_of, choice_head_of, unless_fault}
 use Rattle.nbd_session.proofs.expecting.HeadLemmas.{after_head, fields_stay, none_read, some_read}
 
 pub no_choice : (head : List ℕ) → None ≡ choice_head_of head → (choice head).head_fault ≡ Some BadMagic

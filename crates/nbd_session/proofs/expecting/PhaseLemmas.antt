@@ -1,21 +1,7 @@
 -- The phase that a state's phase shows, and what is refused of a head there.
-use Rattle.std.proofs.Common.{◌≡◌, ℕ, List, length, refl, sym, ◌∙◌, ap, subst, Option, Some, None, Bool, true, false}
-use Rattle.nbd_wire.specs.declared.fault.WireFault.{WireFault}
-use Rattle.nbd_wire.specs.declared.message.Side.{Side}
-use Rattle.nbd_wire.specs.protocol.Operations.{Exporting}
-use Rattle.nbd_wire.specs.protocol.States.{Core, Phase, Greet, Flags, Choosing, Naming, Aborting, Answering, Transmission}
-use Rattle.nbd_session.specs.internal.Counted.{decision_by_count, operation_counted}
-use Rattle.nbd_wire.specs.protocol.Decisions.{Decision, export_answer}
-use Rattle.nbd_wire.specs.protocol.Reading.{decision_with}
-use Rattle.nbd_wire.specs.protocol.Options.{is_proper_option, takes_contexts}
-use Rattle.nbd_state.specs.Showing.{exporting_if}
-use Rattle.nbd_state.specs.Shows.{Shows, export_shown_if, phase_shown}
-use Rattle.nbd_state.specs.declared.state.State.{State}
+use Rattle.nbd_session.proofs.Common.{◌≡◌, ℕ, List, length, refl, sym, ◌∙◌, ap, subst, Option, Some, None, Bool, true, false, WireFault, Side, Exporting, Core, Phase, Greet, Flags, Choosing, Naming, Aborting, Answering, Transmission, decision_by_count, operation_counted, Decision, export_answer, decision_with, is_proper_option, takes_contexts, exporting_if, Shows, export_shown_if, phase_shown, State, Chosen, Export, HasHeadLength, IsRefusedHead, whole_head_by}
 use Rattle.nbd_state.specs.declared.state.Phase as program_phase
-use Rattle.nbd_state.specs.declared.state.Chosen.{Chosen}
-use Rattle.nbd_state.specs.declared.state.Export.{Export}
 use Rattle.nbd_state.specs.declared.state.Phase.TheVariants as program
-use Rattle.nbd_session.specs.internal.Expecting.{HasHeadLength, IsRefusedHead, whole_head_by}
 
 pub flags_of : (p : Phase) → program.Flags ≡ phase_shown p → p ≡ Flags
 flags_of Flags e = refl

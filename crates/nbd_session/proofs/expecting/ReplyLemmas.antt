@@ -1,33 +1,7 @@
 -- A reply whose head has come.
-use Rattle.std.proofs.Common.{◌≡◌, ℕ, zero, suc, ◌<◌, [], ◌∷◌, ◌==◌, ◌&&◌, ◌||◌, ◌++◌, not, List, length, drop, arith, nat_le, nat_lt, inl, inr, Result, Ok, Err, IfOk, IfErr, refl, sym, ◌∙◌, ap, subst, Option, Some, None, Bool, true, false, if◌then◌else◌, slice_get}
+use Rattle.nbd_session.proofs.Common.{◌≡◌, ℕ, zero, suc, ◌<◌, [], ◌∷◌, ◌==◌, ◌&&◌, ◌||◌, ◌++◌, not, List, length, drop, arith, nat_le, nat_lt, inl, inr, Result, Ok, Err, IfOk, IfErr, refl, sym, ◌∙◌, ap, subst, Option, Some, None, Bool, true, false, if◌then◌else◌, slice_get, WireFault, SimpleForbidden, EXTENDED_CHUNK_MAGIC, SIMPLE_MAGIC, number_at, ChunkHead, SimpleHead, Exporting, Operation, asks_status, Core, Transmission, in_force, operation, target, find, operation_counted, Decision, begins, chunk_to, extended_chunk_to, extended_reply_by, reply_by, reply_in, reply_with, simple_to, Bad, reading_by_decision, fault_if, is_none_yet, simple_fault, simple_last_fault, simple_payload_length, begun_true, no_chunk, IsShown, AreAskedWith, asked_at, is_simple_forbidden, Exchange, Expected, Simple, Chunk, HasReplyLength, IsChunkOf, IsNoReply, IsPlaceOf, IsReplyHead, IsSimpleOf, chunk_fault_to, expected_decision, head_fault_by, is_too_long, last_fault_by, chunk_fields, chunk_head_length, chunk_head_of, chunk_magic, simple_head_of, some_if, chunk_of, and_parts, le-ltb, lt-leb}
 use Rattle.nbd_wire.specs.declared.commands.TheConstants as commands
-use Rattle.nbd_wire.specs.declared.fault.WireFault.{WireFault}
-use Rattle.nbd_wire.specs.declared.fault.WireFault.TheVariants.{SimpleForbidden}
-use Rattle.nbd_wire.specs.declared.magics.TheConstants.{EXTENDED_CHUNK_MAGIC, SIMPLE_MAGIC}
 use Rattle.nbd_wire.specs.declared.message.Message.TheVariants as messages
-use Rattle.nbd_wire.specs.protocol.Payloads.{number_at}
-use Rattle.nbd_wire.specs.declared.heads.transmission.ChunkHead.{ChunkHead}
-use Rattle.nbd_wire.specs.declared.heads.transmission.SimpleHead.{SimpleHead}
-use Rattle.nbd_wire.specs.protocol.Operations.{Exporting, Operation, asks_status}
-use Rattle.nbd_wire.specs.protocol.States.{Core, Transmission, in_force, operation, target}
-use Rattle.nbd_laws.proofs.requests.OutstandingLemmas.{find}
-use Rattle.nbd_session.specs.internal.Counted.{operation_counted}
-use Rattle.nbd_wire.specs.protocol.Decisions.{Decision, begins, chunk_to, extended_chunk_to, extended_reply_by, reply_by, reply_in, reply_with, simple_to}
-use Rattle.nbd_wire.specs.protocol.Reading.{Bad, reading_by_decision}
-use Rattle.nbd_wire.specs.protocol.Tests.{fault_if}
-use Rattle.nbd_wire.specs.protocol.Transmission.{is_none_yet, simple_fault, simple_last_fault, simple_payload_length}
-use Rattle.nbd_laws.proofs.judge.SteadyLemmas.{begun_true, no_chunk}
-use Rattle.nbd_state.specs.Showing.{IsShown}
-use Rattle.nbd_laws.specs.Selecting.{AreAskedWith}
-use Rattle.nbd_laws.proofs.requests.ContextLemmas.{asked_at}
-use Rattle.nbd_session.specs.internal.Asking.{is_simple_forbidden}
-use Rattle.nbd_state.specs.declared.asked.Exchange.{Exchange}
-use Rattle.nbd_session.specs.declared.expected.Expected.{Expected}
-use Rattle.nbd_session.specs.declared.expected.Expected.TheVariants.{Simple, Chunk}
-use Rattle.nbd_session.specs.internal.Expecting.{HasReplyLength, IsChunkOf, IsNoReply, IsPlaceOf, IsReplyHead, IsSimpleOf, chunk_fault_to, expected_decision, head_fault_by, is_too_long, last_fault_by}
-use Rattle.nbd_session.specs.internal.Leading.{chunk_fields, chunk_head_length, chunk_head_of, chunk_magic, simple_head_of, some_if}
-use Rattle.nbd_state.specs.Heads.{chunk_of}
-use Rattle.std.proofs.lemmas.Bool.{and_parts, le-ltb, lt-leb}
 use Rattle.nbd_session.proofs.expecting.HeadLemmas.{after_head, fields_stay}
 
 -- a number of a request is at most the count of all

@@ -1,21 +1,6 @@
 -- A request whose head has come.
-use Rattle.std.proofs.Common.{◌≡◌, ℕ, ◌≤◌, ◌+◌, ◌==◌, not, List, ◌++◌, length, min, sym, ◌∙◌, ap, Option, Some, None, Bool, true, false, arith}
-use Rattle.nbd_wire.specs.declared.fault.WireFault.{WireFault}
-use Rattle.nbd_wire.specs.declared.fault.WireFault.TheVariants.{BadMagic, BadDisconnect, OutOfProfile}
-use Rattle.nbd_wire.specs.declared.heads.transmission.RequestHead.{RequestHead}
-use Rattle.nbd_wire.specs.declared.message.Message.{Message}
+use Rattle.nbd_session.proofs.Common.{◌≡◌, ℕ, ◌≤◌, ◌+◌, ◌==◌, not, List, ◌++◌, length, min, sym, ◌∙◌, ap, Option, Some, None, Bool, true, false, arith, WireFault, BadMagic, BadDisconnect, OutOfProfile, RequestHead, Message, AreBytes, number_at, Core, target, Decision, request, request_by, fault_if, cookie_fault, number_at-lt, Request, is_bad_disconnect, is_beyond, expected_decision, message_of, request_length, request_fields, request_head_length, request_head_of, request_magic}
 use Rattle.nbd_wire.specs.declared.message.Message.TheVariants as messages
-use Rattle.nbd_wire.specs.protocol.Encoding.{AreBytes}
-use Rattle.nbd_wire.specs.protocol.Payloads.{number_at}
-use Rattle.nbd_wire.specs.protocol.States.{Core, target}
-use Rattle.nbd_wire.specs.protocol.Decisions.{Decision, request, request_by}
-use Rattle.nbd_wire.specs.protocol.Tests.{fault_if}
-use Rattle.nbd_wire.specs.protocol.Transmission.{cookie_fault}
-use Rattle.nbd_wire.proofs.NumberLemmas.{number_at-lt}
-use Rattle.nbd_session.specs.declared.expected.Expected.TheVariants.{Request}
-use Rattle.nbd_session.specs.internal.Asking.{is_bad_disconnect, is_beyond}
-use Rattle.nbd_session.specs.internal.Expecting.{expected_decision, message_of, request_length}
-use Rattle.nbd_session.specs.internal.Leading.{request_fields, request_head_length, request_head_of, request_magic}
 use Rattle.nbd_session.proofs.expecting.HeadLemmas.{after_head, fields_stay, none_read, some_read}
 
 -- what is refused of a head with these fields, by whether it begins with its number

@@ -1,23 +1,6 @@
 -- A session before its first byte, and one that is told of.
-use Rattle.std.proofs.Common.{◌≡◌, ℕ, List, [], ◌∷◌, length, refl, sym, ◌∙◌, ap, subst, append-nil, Option, Some, None}
-use Rattle.nbd_wire.specs.declared.profile.Profile.{Profile}
-use Rattle.nbd_wire.specs.declared.message.Side.{Side}
-use Rattle.nbd_wire.specs.declared.message.Side.TheVariants.{Client, Server}
-use Rattle.nbd_wire.specs.protocol.States.{start_of}
-use Rattle.nbd_state.specs.declared.asked.Exchange.{Exchange}
-use Rattle.nbd_session.specs.declared.fault.SessionFault.{SessionFault}
-use Rattle.nbd_session.specs.declared.held.Held.{Held}
-use Rattle.nbd_wire.specs.protocol.Reading.{by_tests, fresh_of, get}
-use Rattle.nbd_session.specs.internal.Holdings.{holding_of, incoming_of}
-use Rattle.nbd_session.specs.Incoming.{bytes_come, nothing_come}
-use Rattle.nbd_session.specs.internal.Known.{IsKnown, decided}
+use Rattle.nbd_session.proofs.Common.{◌≡◌, ℕ, List, [], ◌∷◌, length, refl, sym, ◌∙◌, ap, subst, append-nil, Option, Some, None, Profile, Side, Client, Server, start_of, Exchange, SessionFault, Held, by_tests, fresh_of, get, holding_of, incoming_of, bytes_come, nothing_come, IsKnown, decided, log_of_pairs, AddsPrefix, IsOfRun, SessionView, pairs_of, AreKnown, Shows, Holding, IsReadTo, held_pairs, rest_of, HoldsRun, IsKept, Stands, session_view, stretches_of}
 use Rattle.nbd_session.proofs.steps.KnownLemmas.{nothing_known}
-use Rattle.nbd_session.specs.internal.Logging.{log_of_pairs}
-use Rattle.nbd_session.specs.Sessions.{AddsPrefix, IsOfRun, SessionView, pairs_of}
-use Rattle.nbd_state.specs.Shows.{AreKnown, Shows}
-use Rattle.nbd_session.specs.internal.Standing.{Holding, IsReadTo, held_pairs, rest_of}
-use Rattle.nbd_session.specs.internal.Steps.{HoldsRun, IsKept, Stands}
-use Rattle.nbd_session.specs.Views.{session_view, stretches_of}
 use Rattle.nbd_session.proofs.judge.PieceLemmas.{standing_run}
 
 abbrev empty : Profile → Holding

@@ -1,9 +1,6 @@
 -- How far all extents but the last reach.
-use Rattle.std.proofs.Common.{◌≡◌, ℕ, ◌+◌, ◌-◌, ◌<◌, ◌≤◌, List, [], ◌∷◌, sym, ◌∙◌, ap, Bool, true, false, not, nat_le, nat_lt, arith, leb-true, leb-false, le-leb, ltb-true, ltb-false}
-use Rattle.std.proofs.lemmas.Bool.{lt-leb}
-use Rattle.std.proofs.lemmas.List.Sums.{sum_by-cons}
-use Rattle.nbd_wire.specs.protocol.Contexts.{Extent, reach}
-use Rattle.nbd_wire.specs.protocol.Statuses.{but_last}
+use Rattle.nbd_session.proofs.Common.{◌≡◌, ℕ, ◌+◌, ◌-◌, ◌<◌, ◌≤◌, List, [], ◌∷◌, sym, ◌∙◌, ap, Bool, true, false, not, nat_le, nat_lt, arith, leb-true, leb-false, ltb-true, ltb-false, lt-leb, sum_by-cons, Extent, reach, but_last}
+use Rattle.std.proofs.Common.{le-leb}
 
 -- the range reaches behind the last extent's beginning
 abbrev pub Within : ℕ → List Extent → Bool

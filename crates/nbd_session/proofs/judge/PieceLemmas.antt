@@ -1,33 +1,10 @@
 -- A piece of a side's bytes: how far it is taken at once, and what it adds.
-use Rattle.std.proofs.Common.{◌≡◌, ℕ, zero, suc, ◌+◌, ◌<◌, ◌≤◌, List, [], ◌∷◌, ◌++◌, length, refl, sym, ◌∙◌, ap, subst, arith, append_assoc, append-nil, length-append, take, drop, slice_index_or, Fits, w8}
-use Rattle.std.proofs.lemmas.List.{length-map, length-take-le, take-append-drop}
-use Rattle.nbd_wire.specs.declared.message.Message.{Message}
-use Rattle.nbd_wire.specs.declared.message.Side.{Side}
-use Rattle.nbd_wire.specs.declared.message.Side.TheVariants.{Client, Server}
-use Rattle.nbd_wire.specs.protocol.Encoding.{AreBytes}
-use Rattle.nbd_wire.specs.protocol.Captures.{Pair, side_pairs}
-use Rattle.nbd_session.specs.Pushed.{Stretch, mixture}
-use Rattle.nbd_session.specs.declared.fault.SessionFault.{SessionFault}
-use Rattle.nbd_session.specs.declared.fault.SessionFault.TheVariants.{Memory}
-use Rattle.nbd_session.specs.declared.held.Held.{Held}
-use Rattle.nbd_session.specs.internal.Holdings.{holding_of, incoming_of}
-use Rattle.nbd_session.specs.Incoming.{incoming_with, bytes_come}
-use Rattle.nbd_session.specs.internal.Known.{IsCome, IsKnown, awaited, decided}
+use Rattle.nbd_session.proofs.Common.{◌≡◌, ℕ, zero, suc, ◌+◌, ◌<◌, ◌≤◌, List, [], ◌∷◌, ◌++◌, length, refl, sym, ◌∙◌, ap, subst, arith, append_assoc, append-nil, length-append, take, drop, slice_index_or, Fits, w8, length-map, length-take-le, take-append-drop, Message, Side, Client, Server, AreBytes, Pair, side_pairs, Stretch, mixture, SessionFault, Memory, Held, holding_of, incoming_of, incoming_with, bytes_come, IsCome, IsKnown, awaited, decided, stretches_of, IsFilled, Reader, fresh_of, get, by_tests, Adds, log_of_pairs, AreKnown, Shows, AreStretchesOf, Holding, IsReadTo, held_pairs, rest_of, stretch_total, with_bytes, AddsHeld, HoldsRun, IsRefused, IsSame, IsShut, IsTaken, Stands, held_short, shown_length, bytes_of}
 use Rattle.nbd_session.proofs.steps.KnownLemmas.{come_with}
 use Rattle.nbd_session.proofs.steps.HoldingLemmas.{rest_is}
-use Rattle.nbd_session.specs.Views.{stretches_of}
-use Rattle.nbd_wire.specs.protocol.Reading.{IsFilled, Reader, fresh_of, get, by_tests}
-use Rattle.nbd_session.specs.Sessions.{Adds}
-use Rattle.nbd_session.specs.internal.Logging.{log_of_pairs}
-use Rattle.nbd_state.specs.Shows.{AreKnown, Shows}
-use Rattle.nbd_session.specs.internal.Standing.{AreStretchesOf, Holding, IsReadTo, held_pairs, rest_of, stretch_total, with_bytes}
-use Rattle.nbd_session.specs.internal.Steps.{AddsHeld, HoldsRun, IsRefused, IsSame, IsShut, IsTaken, Stands}
-use Rattle.nbd_laws.proofs.judge.AwaitedLemmas.{held_short}
-use Rattle.nbd_state.proofs.PlacedLemmas.{shown_length}
 use Rattle.nbd_session.proofs.pushed.OpenByteLemmas.{read_is_run_but}
 use Rattle.nbd_session.proofs.pushed.PushLemmas.{first_fits, left_stretches, sent-append}
 use Rattle.nbd_session.proofs.steps.StepLemmas.{held_of, pairs-taken}
-use Rattle.nbd_laws.specs.Bytes.{bytes_of}
 
 -- the stretches' bytes are those of both sides
 pub length-mixed : (stretches : List Stretch) (client server : List ℕ) → AreStretchesOf stretches client server → length (mixture stretches client server) ≡ stretch_total Client stretches + stretch_total Server stretches

@@ -1,38 +1,7 @@
 -- What a refusal says of the runs with a session's bytes.
-use Rattle.std.proofs.Common.{◌≡◌, ℕ, ◌+◌, ◌<◌, ◌≤◌, List, [], ◌∷◌, ◌++◌, length, refl, sym, ◌∙◌, ap, subst, arith, append_assoc, append-nil, length-append, inl, inr, Option, Some, None, Result, Ok, Err, IfErr}
-use Rattle.std.proofs.lemmas.List.{append_cancel_left}
-use Rattle.nbd_wire.specs.declared.profile.Profile.{Profile}
-use Rattle.nbd_wire.specs.declared.message.Side.TheVariants.{Client, Server}
-use Rattle.nbd_wire.specs.declared.message.Side.{Side}
-use Rattle.nbd_wire.specs.declared.message.Message.{Message}
-use Rattle.nbd_wire.specs.protocol.Marks.{Item, Completes, completed_messages, pairs}
-use Rattle.nbd_wire.specs.protocol.Captures.{Pair, ArePairs, side_pairs}
-use Rattle.nbd_laws.specs.Bytes.{bytes_of, bytes_from}
-use Rattle.nbd_wire.specs.protocol.Within.{CompletesExactlyOf, IsOfNoRunOf, within}
-use Rattle.nbd_wire.specs.declared.fault.WireFault.{WireFault}
-use Rattle.nbd_wire.specs.declared.fault.WireFault.TheVariants.{Unfinished}
-use Rattle.nbd_laws.proofs.reading.ReaderLemmas.{AreHeld}
-use Rattle.nbd_laws.specs.Awaited.{awaited_length}
-use Rattle.nbd_wire.specs.protocol.Reading.{IsFilled, Reader, fresh_of, get, old_of, on_ok, reads, step, by_tests}
-use Rattle.nbd_laws.proofs.reading.MarkLemmas.{IsRead}
-use Rattle.nbd_laws.proofs.runs.RunLemmas.{marks_law}
-use Rattle.nbd_session.specs.declared.fault.SessionFault.{SessionFault}
-use Rattle.nbd_session.specs.declared.fault.SessionFault.TheVariants.{Memory, Wire}
-use Rattle.nbd_session.specs.declared.held.Held.{Held}
-use Rattle.nbd_session.specs.internal.Holdings.{holding_of}
-use Rattle.nbd_wire.specs.protocol.Places.{IsPlaceOf, IsUnderWayOf}
-use Rattle.nbd_laws.proofs.runs.PlaceLemmas.{read_no_place}
-use Rattle.nbd_session.specs.Refusals.{EndsIn, HasNoPlaceOf, IsAcceptedOf, IsComplete, IsOpenEndOf, IsRefusalOf, IsWireFaultOf, LeavesOpen, Refuses}
-use Rattle.nbd_session.specs.Sessions.{HasRunOf, SessionView, fault_at_end, fault_of, pairs_of, bytes_taken, open_end_fault}
-use Rattle.nbd_session.specs.internal.Standing.{Holding, IsReadTo, held_pairs, with_bytes}
-use Rattle.nbd_session.specs.internal.Steps.{IsKept, IsShut, Stands}
-use Rattle.nbd_session.specs.Incoming.{bytes_come}
-use Rattle.nbd_session.specs.Views.{session_view}
-use Rattle.nbd_session.specs.internal.Stopped.{IsStopped}
-use Rattle.nbd_laws.proofs.judge.AwaitedLemmas.{reads_below}
-use Rattle.nbd_laws.proofs.judge.BlockLemmas.{extended, reads-append, with_rest}
-use Rattle.nbd_laws.proofs.judge.ExactLemmas.{exact, none_refused}
-use Rattle.nbd_laws.proofs.runs.RunByteLemmas.{AreBytesOf, run_bytes}
+use Rattle.nbd_session.proofs.Common.{◌≡◌, ℕ, ◌+◌, ◌<◌, ◌≤◌, List, [], ◌∷◌, ◌++◌, length, refl, sym, ◌∙◌, ap, subst, arith, append_assoc, append-nil, length-append, inl, inr, Option, Some, None, Result, Ok, Err, IfErr, append_cancel_left, Profile, Client, Server, Side, Message, Item, Completes, completed_messages, pairs, Pair, ArePairs, side_pairs, bytes_of, bytes_from, CompletesExactlyOf, IsOfNoRunOf, WireFault, Unfinished, AreHeld, awaited_length, IsFilled, Reader, fresh_of, get, old_of, on_ok, reads, step, by_tests, IsRead, marks_law, SessionFault, Memory, Wire, Held, holding_of, IsUnderWayOf, read_no_place, EndsIn, HasNoPlaceOf, IsAcceptedOf, IsComplete, IsOpenEndOf, IsRefusalOf, IsWireFaultOf, LeavesOpen, Refuses, HasRunOf, SessionView, fault_at_end, fault_of, pairs_of, bytes_taken, open_end_fault, Holding, IsReadTo, held_pairs, with_bytes, IsKept, IsShut, Stands, bytes_come, session_view, IsStopped, reads_below, extended, reads-append, with_rest, exact, none_refused, AreBytesOf, run_bytes}
+use Rattle.nbd_wire.specs.protocol.Within.{within}
+use Rattle.nbd_wire.specs.protocol.Places.{IsPlaceOf}
 use Rattle.nbd_session.proofs.pushed.OpenByteLemmas.{read_is_run_but}
 use Rattle.nbd_session.proofs.pushed.PushLemmas.{sent-append}
 use Rattle.nbd_session.proofs.steps.StepLemmas.{held_of, pairs-taken}

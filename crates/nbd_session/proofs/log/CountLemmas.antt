@@ -1,16 +1,6 @@
 -- The request that a reply answers, by how many requests had completed when the reply started.
-use Rattle.std.proofs.Common.{◌≡◌, ℕ, suc, ◌+◌, ◌<◌, ◌≤◌, List, [], ◌∷◌, ◌++◌, length, refl, sym, ◌∙◌, ap, subst, inl, inr, Option, Some, None, Bool, if◌then◌else◌, arith, append-nil}
-use Rattle.std.proofs.lemmas.Bool.{le-leb, lt-leb}
-use Rattle.nbd_wire.specs.declared.message.Side.{Side}
-use Rattle.nbd_wire.specs.declared.message.Side.TheVariants.{Client, Server}
-use Rattle.nbd_wire.specs.protocol.Operations.{Operation, Exporting}
-use Rattle.nbd_wire.specs.protocol.States.{Core, Phase, Greet, Flags, Choosing, Naming, Aborting, Answering, Ended, Transmission, target, target_from}
-use Rattle.nbd_session.specs.internal.Counted.{decision_by_count, operation_counted, within}
-use Rattle.nbd_wire.specs.protocol.Decisions.{operation_if, operation_of}
-use Rattle.nbd_wire.specs.protocol.Reading.{decision, decision_with, by_tests, More, Rest, old_of}
-use Rattle.nbd_laws.proofs.reading.ReaderLemmas.{Held, Kept, Later, Later-trans, none_held, old-empty, old-filled, some_held}
-use Rattle.nbd_laws.proofs.judge.PhaseLemmas.{IsAppended, Later-appended, Later-turn}
-use Rattle.nbd_laws.proofs.judge.SoundLemmas.{kept_later, turn_of_reading}
+use Rattle.nbd_session.proofs.Common.{◌≡◌, ℕ, suc, ◌+◌, ◌<◌, ◌≤◌, List, [], ◌∷◌, ◌++◌, length, refl, sym, ◌∙◌, ap, subst, inl, inr, Option, Some, None, Bool, if◌then◌else◌, arith, append-nil, le-leb, lt-leb, Side, Client, Server, Operation, Exporting, Core, Phase, Greet, Flags, Choosing, Naming, Aborting, Answering, Ended, Transmission, target, target_from, decision_by_count, operation_counted, within, operation_if, operation_of, decision, decision_with, by_tests, More, Rest, old_of, Kept, Later, Later-trans, none_held, old-empty, old-filled, some_held, IsAppended, Later-appended, Later-turn, kept_later, turn_of_reading}
+use Rattle.nbd_laws.proofs.reading.ReaderLemmas.{Held}
 
 above : (n cookie : ℕ) (es : List Operation) (j : ℕ) → target_from n cookie es ≡ Some j → n < j
 above n cookie [] j h = absurd (cc)

@@ -1,16 +1,6 @@
 -- What messages lead to is where the reader and a run stand.
-use Rattle.std.proofs.Common.{◌≡◌, ℕ, List, [], ◌∷◌, ◌++◌, refl, sym, ◌∙◌, ap, subst, Ok}
-use Rattle.nbd_wire.specs.declared.profile.Profile.{Profile}
-use Rattle.nbd_wire.specs.declared.message.Message.{Message}
-use Rattle.nbd_wire.specs.protocol.Marks.{Item, Byte, Starts, Completes, Serves, completed_messages}
-use Rattle.nbd_wire.specs.protocol.Captures.{Pair}
-use Rattle.nbd_wire.specs.protocol.Rules.{after, complete, ends_at, request_of_reply}
-use Rattle.nbd_wire.specs.protocol.States.{Core, State, start_of}
-use Rattle.nbd_state.specs.Completions.{core_from}
-use Rattle.nbd_state.specs.Logs.{LogEntry, known_by, known_here}
-use Rattle.nbd_laws.proofs.runs.ProfileLemmas.{complete_with}
-use Rattle.nbd_laws.specs.Profiles.{with_profile}
-use Rattle.nbd_wire.specs.protocol.Reading.{Bad, Judge, Reader, More, Reading, Rest, Whole, get, rest_with, on_ok, reads, settle, fresh_of}
+use Rattle.nbd_session.proofs.Common.{◌≡◌, ℕ, List, [], ◌∷◌, ◌++◌, refl, sym, ◌∙◌, ap, subst, Ok, Profile, Message, Item, Byte, Starts, Completes, Serves, completed_messages, Pair, after, complete, ends_at, request_of_reply, Core, start_of, core_from, LogEntry, known_by, known_here, complete_with, with_profile, Bad, Judge, Reader, More, Reading, Rest, Whole, get, rest_with, on_ok, reads, settle, fresh_of}
+use Rattle.nbd_wire.specs.protocol.States.{State}
 
 -- what messages lead to from the start
 abbrev pub core_of : Profile → List Message → Core

@@ -1,23 +1,8 @@
 -- The first reply to start is the first to complete, with the count of its start.
-use Rattle.std.proofs.Common.{◌≡◌, ℕ, ◌==◌, List, [], ◌∷◌, length, refl, sym, ◌∙◌, ap, subst, Option, Some, None, Bool, true, false}
-use Rattle.nbd_wire.specs.declared.profile.Profile.TheVariants.{Base}
-use Rattle.nbd_wire.specs.declared.profile.Profile.{Profile}
-use Rattle.nbd_wire.specs.declared.message.Side.TheVariants.{Client, Server}
-use Rattle.nbd_wire.specs.declared.message.Message.{Message}
-use Rattle.nbd_wire.specs.protocol.Marks.{Item}
-use Rattle.nbd_wire.specs.protocol.Reports.{first_known, known_count, known_from, known_if as known_as}
-use Rattle.nbd_wire.specs.protocol.Rules.{IsRunOf, MayComplete, request_of_reply, complete}
-use Rattle.nbd_wire.specs.protocol.Sides.{side}
-use Rattle.nbd_wire.specs.protocol.States.{start, Core, start_of}
-use Rattle.nbd_state.specs.Logs.{known_by, known_here, known_if}
+use Rattle.nbd_session.proofs.Common.{◌≡◌, ℕ, ◌==◌, List, [], ◌∷◌, length, refl, sym, ◌∙◌, ap, subst, Option, Some, None, Bool, true, false, Base, Profile, Client, Server, Message, Item, first_known, known_count, known_from, IsRunOf, MayComplete, request_of_reply, complete, side, start, Core, start_of, known_by, known_here, known_if, Both, get, put, Busy, Idle, IsNotBusy, Later, Later-trans, Loose, Open, Walk, at_once, behind, ended, final, loose, middle, opening, serving, Follows, each_with, follows, AreBegun, BegunOpen, answers_same, asks_only, begun_completed, known_at_base, walk_of}
+use Rattle.nbd_wire.specs.protocol.Reports.{known_if as known_as}
 use Rattle.nbd_session.proofs.log.Logs.{log_from, log_of}
-use Rattle.nbd_wire.specs.protocol.Reading.{Both, get, put}
-use Rattle.nbd_laws.proofs.reading.ReaderLemmas.{Busy, Idle, IsNotBusy, Later, Later-trans, Loose, Open, Walk, at_once, behind, ended, final, loose, middle, opening, serving}
-use Rattle.nbd_laws.proofs.runs.FollowLemmas.{Follows, each_with, follows}
-use Rattle.nbd_laws.proofs.runs.BegunLemmas.{AreBegun, BegunOpen, answers_same, asks_only, begun_completed}
 use Rattle.nbd_session.proofs.log.FoldLemmas.{known_by_with}
-use Rattle.nbd_laws.proofs.runs.ProfileLemmas.{known_at_base}
-use Rattle.nbd_laws.proofs.runs.RunLemmas.{walk_of}
 
 -- what is known, where the server may be in a message that started when n requests were complete
 abbrev known_open : Open → Core → ℕ → ℕ → Option ℕ → Option ℕ

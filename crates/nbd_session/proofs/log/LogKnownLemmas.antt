@@ -1,19 +1,6 @@
 -- What a log knows is of requests that have completed.
-use Rattle.std.proofs.Common.{◌≡◌, ℕ, ◌≤◌, List, [], ◌∷◌, ◌++◌, length, ◌∙◌, ap, Ok, Some, append-nil}
-use Rattle.nbd_wire.specs.declared.profile.Profile.{Profile}
-use Rattle.nbd_wire.specs.declared.message.Message.{Message}
-use Rattle.nbd_wire.specs.declared.message.Side.{Side}
-use Rattle.nbd_wire.specs.protocol.Captures.{Pair, side_pairs}
-use Rattle.nbd_wire.specs.protocol.Rules.{request_of_reply}
-use Rattle.nbd_wire.specs.protocol.States.{start}
-use Rattle.nbd_laws.specs.Awaited.{awaited_length}
-use Rattle.nbd_wire.specs.protocol.Reading.{by_tests, IsFilled, Judge, Reader, More, Whole, fresh_of, get, old_of, reads}
-use Rattle.nbd_state.specs.Logs.{LogEntry, known_by}
-use Rattle.nbd_session.specs.internal.Logging.{log_with, log_of_pairs}
-use Rattle.nbd_laws.proofs.reading.ReaderLemmas.{AreHeld}
-use Rattle.nbd_laws.proofs.judge.BlockLemmas.{extended}
+use Rattle.nbd_session.proofs.Common.{◌≡◌, ℕ, ◌≤◌, List, [], ◌∷◌, ◌++◌, length, ◌∙◌, ap, Ok, Some, append-nil, Profile, Message, Side, Pair, side_pairs, request_of_reply, start, awaited_length, by_tests, IsFilled, Judge, Reader, More, Whole, fresh_of, get, old_of, reads, LogEntry, known_by, log_with, log_of_pairs, AreHeld, extended, known_here-other, known_or, or_none}
 use Rattle.nbd_session.proofs.log.CountLemmas.{count_of}
-use Rattle.nbd_state.proofs.KnownLemmas.{known_here-other, known_or, or_none}
 use Rattle.nbd_session.proofs.log.LogStepLemmas.{known-next, logged-piece}
 
 -- one that does not changes nothing of it

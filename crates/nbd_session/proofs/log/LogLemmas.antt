@@ -1,35 +1,9 @@
 -- What completes while a reader reads a run's pairs is what completes in the run, with the same counts.
-use Rattle.std.proofs.Common.{◌≡◌, ℕ, zero, suc, ◌<◌, ◌≤◌, List, [], ◌∷◌, ◌++◌, length, refl, sym, ◌∙◌, ap, subst, inl, inr, Option, Ok, append_assoc, append-nil, arith, eq-or-lt_of_le}
-use Rattle.nbd_wire.specs.declared.profile.Profile.TheVariants.{Base}
-use Rattle.nbd_wire.specs.declared.profile.Profile.{Profile}
-use Rattle.nbd_wire.specs.declared.message.Side.{Side}
-use Rattle.nbd_wire.specs.declared.message.Side.TheVariants.{Client, Server}
-use Rattle.nbd_wire.specs.declared.message.Message.{Message}
-use Rattle.nbd_wire.specs.protocol.Encoding.{enc}
-use Rattle.nbd_wire.specs.protocol.Captures.{ArePairs, Pair}
-use Rattle.nbd_wire.specs.protocol.Marks.{Item, completed_messages, pairs}
-use Rattle.nbd_wire.specs.protocol.Reports.{Report, asked_list, asked_of, known_count, report}
-use Rattle.nbd_wire.specs.protocol.Operations.{Operation}
-use Rattle.nbd_wire.specs.protocol.Rules.{IsRunOf, MayComplete, complete, ends_at}
-use Rattle.nbd_wire.specs.protocol.States.{start, Core, start_of, export_in}
+use Rattle.nbd_session.proofs.Common.{◌≡◌, ℕ, zero, suc, ◌<◌, ◌≤◌, List, [], ◌∷◌, ◌++◌, length, refl, sym, ◌∙◌, ap, subst, inl, inr, Option, Ok, append_assoc, append-nil, arith, eq-or-lt_of_le, Base, Profile, Side, Client, Server, Message, enc, ArePairs, Pair, Item, completed_messages, pairs, Report, asked_list, asked_of, known_count, report, Operation, IsRunOf, MayComplete, complete, ends_at, start, Core, start_of, export_in, LogEntry, known_by, log_with, log_of_pairs, log_of_rest, Entry, Names, NamesWhole, whole, Names-push_cases, NamesWhole-left, NamesWhole-push, AreHeld, Busy, Idle, IsFilled-snoc, IsSound, IsSoundAt, Loose, Open, Walk, at_once, ended, final, get-put_same, held_more, held_whole, kept_next, loose, middle, old-empty, old-filled, opening, serving, with_byte, Bad, Both, IsFilled, Judge, Reader, More, Reading, Rest, Whole, fresh_of, get, rest_with, old_of, on_ok, put, reads, settle, Follows, HasEnd, IsBegun, IsSidedOpen, completes_later, each_with, follows, same_message, AreInStep, InStep, in_step_completed, in_step_sided, in_step_with, within_middle, within_opening, with_profile, at_base, fresh_held, run_law, walk_of, Guess, IsCanonical, IsTrace, enc-long, not_empty, trace, same_reports}
 use Rattle.nbd_session.proofs.log.FoldLemmas.{core_of, core_is, ends_folded}
-use Rattle.nbd_state.specs.Logs.{LogEntry, known_by}
-use Rattle.nbd_session.specs.internal.Logging.{log_with, log_of_pairs, log_of_rest}
 use Rattle.nbd_session.proofs.log.Logs.{log_from, log_of, report_by}
-use Rattle.nbd_wire.specs.declared.entry.Entry.{Entry}
-use Rattle.nbd_wire.specs.protocol.Entries.{Names, NamesWhole, whole}
-use Rattle.nbd_laws.proofs.service.EntryLemmas.{Names-push_cases, NamesWhole-left, NamesWhole-push}
-use Rattle.nbd_laws.proofs.reading.ReaderLemmas.{AreHeld, Busy, Idle, IsFilled-snoc, IsSound, IsSoundAt, Loose, Open, Walk, at_once, ended, final, get-put_same, held_more, held_whole, kept_next, loose, middle, old-empty, old-filled, opening, serving, with_byte}
-use Rattle.nbd_wire.specs.protocol.Reading.{Bad, Both, IsFilled, Judge, Reader, More, Reading, Rest, Whole, fresh_of, get, rest_with, old_of, on_ok, put, reads, settle}
-use Rattle.nbd_laws.proofs.runs.FollowLemmas.{Follows, HasEnd, IsBegun, IsSidedOpen, completes_later, each_with, follows}
-use Rattle.nbd_laws.proofs.judge.SameLemmas.{IsSame, same_message}
+use Rattle.nbd_laws.proofs.judge.SameLemmas.{IsSame}
 use Rattle.nbd_session.proofs.log.KnownLemmas.{known-log}
-use Rattle.nbd_laws.proofs.reading.MarkLemmas.{AreInStep, InStep, in_step_completed, in_step_sided, in_step_with, within_middle, within_opening}
-use Rattle.nbd_laws.specs.Profiles.{with_profile}
-use Rattle.nbd_laws.proofs.runs.ProfileLemmas.{at_base}
-use Rattle.nbd_laws.proofs.runs.RunLemmas.{fresh_held, run_law, walk_of}
-use Rattle.nbd_laws.proofs.runs.TraceLemmas.{Guess, IsCanonical, IsTrace, enc-long, not_empty, trace}
-use Rattle.nbd_laws.proofs.service.ServiceLemmas.{same_reports}
 
 -- how many requests were complete when each side's rest began
 abbrev counts_of : Both Rest → Both ℕ

@@ -1,28 +1,8 @@
 -- A log, step by step: by one more piece, and by one more message.
-use Rattle.std.proofs.Common.{◌≡◌, ℕ, ◌<◌, ◌≤◌, List, [], ◌∷◌, ◌++◌, length, refl, sym, ◌∙◌, ap, subst, Result, Ok, Err, None, append_assoc, append-nil, arith, length-append}
-use Rattle.nbd_wire.specs.declared.profile.Profile.TheVariants.{Base}
-use Rattle.nbd_wire.specs.declared.profile.Profile.{Profile}
-use Rattle.nbd_wire.specs.declared.message.Side.{Side}
-use Rattle.nbd_wire.specs.protocol.Marks.{Item, pairs}
-use Rattle.nbd_wire.specs.protocol.Captures.{Pair, ArePairs, side_pairs}
-use Rattle.nbd_wire.specs.protocol.Reports.{report}
-use Rattle.nbd_wire.specs.protocol.Rules.{IsRunOf, request_of_reply, complete}
-use Rattle.nbd_wire.specs.protocol.States.{start, Core, start_of}
-use Rattle.nbd_wire.specs.declared.fault.WireFault.{WireFault}
-use Rattle.nbd_laws.specs.Awaited.{awaited_length}
-use Rattle.nbd_wire.specs.protocol.Reading.{by_tests, Bad, IsFilled, Judge, Reader, More, Reading, Rest, Whole, fresh_of, get, rest_with, old_of, on_ok, put, reads, settle, step}
-use Rattle.nbd_state.specs.Completions.{core_from}
-use Rattle.nbd_state.specs.Logs.{LogEntry, known_by, known_here, messages_of}
-use Rattle.nbd_session.specs.internal.Logging.{log_with, log_of_pairs, log_of_rest}
+use Rattle.nbd_session.proofs.Common.{◌≡◌, ℕ, ◌<◌, ◌≤◌, List, [], ◌∷◌, ◌++◌, length, refl, sym, ◌∙◌, ap, subst, Result, Ok, Err, None, append_assoc, append-nil, arith, length-append, Base, Profile, Side, Item, pairs, Pair, ArePairs, side_pairs, report, IsRunOf, request_of_reply, complete, start, Core, start_of, WireFault, awaited_length, by_tests, Bad, IsFilled, Judge, Reader, More, Reading, Rest, Whole, fresh_of, get, rest_with, old_of, on_ok, put, reads, settle, step, core_from, LogEntry, known_by, known_here, messages_of, log_with, log_of_pairs, log_of_rest, with_profile, core_from_with, known_by-snoc, known_or, AreHeld, IsFilled-snoc, get-put_same, old-filled, with_byte, held_short, GoesOn, extended, sound}
 use Rattle.nbd_session.proofs.log.Logs.{report_by}
-use Rattle.nbd_laws.specs.Profiles.{with_profile}
-use Rattle.nbd_state.proofs.KnownLemmas.{core_from_with, known_by-snoc, known_or}
-use Rattle.nbd_laws.proofs.reading.ReaderLemmas.{AreHeld, IsFilled-snoc, get-put_same, old-filled, with_byte}
-use Rattle.nbd_laws.proofs.judge.AwaitedLemmas.{held_short}
-use Rattle.nbd_laws.proofs.judge.BlockLemmas.{GoesOn, extended}
 use Rattle.nbd_session.proofs.log.FoldLemmas.{core_is}
 use Rattle.nbd_session.proofs.log.LogLemmas.{run_report}
-use Rattle.nbd_laws.proofs.judge.SoundLemmas.{sound}
 
 -- more pairs after these
 pub logged-append : (judge : Judge) (ps qs : List Pair) (reader mid : Reader) → reads judge reader ps ≡ Ok mid → log_of_pairs judge reader (ps ++ qs) ≡ log_of_pairs judge reader ps ++ log_of_pairs judge mid qs

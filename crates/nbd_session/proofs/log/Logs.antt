@@ -1,12 +1,6 @@
 -- The log of a run, and what a log states of each request.
 use Rattle.std.specs.Prelude.{ℕ, List, [], ◌∷◌, length}
-use Rattle.nbd_wire.specs.declared.profile.Profile.{Profile}
-use Rattle.nbd_wire.specs.protocol.Marks.{Item, Byte, Starts, Completes, Serves}
-use Rattle.nbd_wire.specs.protocol.Reports.{Report, asked_list}
-use Rattle.nbd_wire.specs.protocol.Rules.{complete}
-use Rattle.nbd_wire.specs.protocol.States.{Core, start, start_of, export_in}
-use Rattle.nbd_wire.specs.protocol.Reading.{Both, get, put}
-use Rattle.nbd_state.specs.Logs.{LogEntry, known_by}
+use Rattle.nbd_session.proofs.Common.{Profile, Item, Byte, Starts, Completes, Serves, Report, asked_list, complete, Core, start, start_of, export_in, Both, get, put, LogEntry, known_by}
 
 -- what completes in these items, where each side's open message started when so many requests were complete
 abbrev pub log_from : Core → Both ℕ → List Item → List LogEntry

@@ -1,33 +1,8 @@
 -- What a session that ends states is the report of the runs with its bytes.
-use Rattle.std.proofs.Common.{◌≡◌, ℕ, suc, ◌+◌, List, [], ◌∷◌, map, refl, sym, ◌∙◌, ap, subst, arith, Option, Some, None, slice_get}
-use Rattle.nbd_wire.specs.declared.message.Side.{Side}
-use Rattle.nbd_wire.specs.declared.message.Side.TheVariants.{Client, Server}
-use Rattle.nbd_wire.specs.protocol.Marks.{Item, pairs}
-use Rattle.nbd_wire.specs.protocol.Reports.{report, asked_of, asked_list}
-use Rattle.nbd_wire.specs.protocol.Operations.{Operation, Exporting}
-use Rattle.nbd_wire.specs.protocol.Rules.{IsRunOf, IsRunBut}
-use Rattle.nbd_wire.specs.protocol.States.{Core, Phase, Shown, Greet, start, export_in}
-use Rattle.nbd_state.specs.declared.asked.Exchange.{Exchange}
-use Rattle.nbd_session.specs.declared.held.Held.{Held}
-use Rattle.nbd_state.specs.declared.state.State.{State}
-use Rattle.nbd_wire.specs.protocol.Reading.{by_tests, fresh_of, get}
-use Rattle.nbd_session.specs.internal.Holdings.{holding_of}
-use Rattle.nbd_state.specs.Logs.{LogEntry, known_by}
-use Rattle.nbd_session.specs.internal.Logging.{log_of_pairs}
+use Rattle.nbd_session.proofs.Common.{◌≡◌, ℕ, suc, ◌+◌, List, [], ◌∷◌, map, refl, sym, ◌∙◌, ap, subst, arith, Option, Some, None, slice_get, Side, Client, Server, Item, pairs, report, asked_of, asked_list, Operation, Exporting, IsRunOf, IsRunBut, Core, Phase, Shown, Greet, start, export_in, Exchange, Held, State, by_tests, fresh_of, get, holding_of, LogEntry, known_by, log_of_pairs, IsReported, IsShown, exporting_if, AreKnown, AreShown, Shows, ended_if, phase_shown, shown_if, shown_in, IsSoundReport, held_pairs, HoldsRun, Stands, bytes_come, session_view, report_of_request, export_of, transcript_report, reports_are_sound}
 use Rattle.nbd_session.proofs.log.Logs.{report_by}
-use Rattle.nbd_session.specs.Sessions.{IsReported}
-use Rattle.nbd_state.specs.Showing.{IsShown, exporting_if}
-use Rattle.nbd_state.specs.Shows.{AreKnown, AreShown, Shows, ended_if, phase_shown, shown_if}
-use Rattle.nbd_state.specs.Moments.{shown_in}
-use Rattle.nbd_laws.specs.Soundness.{IsSoundReport}
-use Rattle.nbd_session.specs.internal.Standing.{held_pairs}
-use Rattle.nbd_session.specs.internal.Steps.{HoldsRun, Stands}
-use Rattle.nbd_session.specs.Incoming.{bytes_come}
-use Rattle.nbd_session.specs.Views.{session_view}
-use Rattle.nbd_state.specs.Transcripts.{report_of_request, export_of, transcript_report}
 use Rattle.nbd_session.proofs.log.LogStepLemmas.{read_report}
 use Rattle.nbd_session.proofs.judge.PieceLemmas.{standing_run}
-use Rattle.nbd_laws.proofs.requests.SoundnessLemmas.{reports_are_sound}
 
 export_same : (phase : Phase) → exporting_if (export_of (phase_shown phase)) ≡ export_in phase
 export_same Greet = refl

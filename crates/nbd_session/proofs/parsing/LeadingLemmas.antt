@@ -1,19 +1,5 @@
 -- What the readers of heads answer of the bytes that a message begins with.
-use Rattle.std.proofs.Common.{◌≡◌, ℕ, ◌==◌, List, length, refl, Option, Some, None, Bool, true, false, ◌&&◌, eqb-true, eq-eqb, arith, slice_index_or, Fits, w8}
-use Rattle.std.proofs.lemmas.Bool.{false≢true, and_parts, and_from}
-use Rattle.nbd_wire.specs.declared.magics.TheConstants.{GREETING_MAGIC, OPTION_MAGIC, ANSWER_MAGIC, REQUEST_MAGIC, SIMPLE_MAGIC, CHUNK_MAGIC, EXTENDED_REQUEST_MAGIC, EXTENDED_CHUNK_MAGIC}
-use Rattle.nbd_wire.specs.declared.heads.negotiation.ChoiceHead.{ChoiceHead}
-use Rattle.nbd_wire.specs.declared.heads.negotiation.AnswerHead.{AnswerHead}
-use Rattle.nbd_wire.specs.declared.heads.transmission.RequestHead.{RequestHead}
-use Rattle.nbd_wire.specs.declared.heads.transmission.SimpleHead.{SimpleHead}
-use Rattle.nbd_wire.specs.declared.heads.transmission.ChunkHead.{ChunkHead}
-use Rattle.nbd_wire.specs.protocol.Encoding.{AreBytes}
-use Rattle.nbd_wire.proofs.NumberLemmas.{AreBytes-from_places}
-use Rattle.nbd_wire.specs.codec.Heads.{IsGreetingHead, IsClientFlagsHead, IsChoiceHead, IsAnswerHead, IsExportHead, IsRequestHead, IsSimpleHead, IsChunkHead, IsExtendedRequestHead, IsExtendedChunkHead}
-use Rattle.nbd_wire.specs.protocol.Payloads.{number_at}
-use Rattle.nbd_wire.proofs.HeadLemmas.{greeting-found, greeting-only, client_flags-found, choice-found, choice-only, answer-found, answer-only, export-found, request-found, request-only, simple-found, simple-only, chunk-found, chunk-only, extended_request-found, extended_request-only, extended_chunk-found, extended_chunk-only}
-use Rattle.nbd_wire.specs.codec.Reads.{Reads}
-use Rattle.nbd_session.specs.internal.Leading.{some_if, greeting_flags_of, choice_head_of, answer_head_of, request_head_of, simple_head_of, chunk_head_of}
+use Rattle.nbd_session.proofs.Common.{◌≡◌, ℕ, ◌==◌, List, length, refl, Option, Some, None, Bool, true, false, ◌&&◌, eqb-true, eq-eqb, arith, slice_index_or, Fits, w8, false≢true, and_parts, and_from, GREETING_MAGIC, OPTION_MAGIC, ANSWER_MAGIC, REQUEST_MAGIC, SIMPLE_MAGIC, CHUNK_MAGIC, EXTENDED_REQUEST_MAGIC, EXTENDED_CHUNK_MAGIC, ChoiceHead, AnswerHead, RequestHead, SimpleHead, ChunkHead, AreBytes, AreBytes-from_places, IsGreetingHead, IsClientFlagsHead, IsChoiceHead, IsAnswerHead, IsExportHead, IsRequestHead, IsSimpleHead, IsChunkHead, IsExtendedRequestHead, IsExtendedChunkHead, number_at, greeting-found, greeting-only, client_flags-found, choice-found, choice-only, answer-found, answer-only, export-found, request-found, request-only, simple-found, simple-only, chunk-found, chunk-only, extended_request-found, extended_request-only, extended_chunk-found, extended_chunk-only, Reads, some_if, greeting_flags_of, choice_head_of, answer_head_of, request_head_of, simple_head_of, chunk_head_of}
 
 -- the answer, by whether the bytes begin with the right number
 read_if : {A : Type 0} (Form : A → Type 0) (answer : Option A) (b : Bool) (value : A) → Reads answer Form → (b ≡ true → Form value) → ((other : A) → Form other → b ≡ true) → answer ≡ some_if b value

@@ -1,19 +1,5 @@
 -- The exchanges of a state, and the requests that they show.
-use Rattle.std.proofs.Common.{◌≡◌, ℕ, suc, ◌<◌, ◌≤◌, List, length, refl, sym, ◌∙◌, ap, Option, Some, None, if◌then◌else◌, arith, add-one, slice_get, Bor}
-use Rattle.std.proofs.lemmas.Bool.{le-leb, lt-leb}
-use Rattle.std.proofs.lemmas.Option.{slice_get_past, slice_get_read}
-use Rattle.nbd_state.specs.Places.{place_at}
-use Rattle.std.specs.Option.{option_copied}
-use Rattle.std.specs.Slice.{IsItemAt}
-use Rattle.nbd_wire.specs.protocol.Operations.{Exporting}
-use Rattle.nbd_wire.specs.protocol.States.{Core, Transmission, operation}
-use Rattle.nbd_state.specs.declared.asked.Exchange.{Exchange}
-use Rattle.nbd_state.specs.declared.state.State.{State}
-use Rattle.nbd_session.specs.internal.Expecting.{IsPlaceOf}
-use Rattle.nbd_session.specs.internal.Counted.{operation_counted, within}
-use Rattle.nbd_wire.specs.protocol.Decisions.{operation_if}
-use Rattle.nbd_state.specs.Shows.{Shows}
-use Rattle.nbd_state.proofs.PlacedLemmas.{place_shows_operation}
+use Rattle.nbd_session.proofs.Common.{◌≡◌, ℕ, suc, ◌<◌, ◌≤◌, List, length, refl, sym, ◌∙◌, ap, Option, Some, None, if◌then◌else◌, arith, add-one, slice_get, Bor, le-leb, lt-leb, slice_get_past, slice_get_read, place_at, option_copied, IsItemAt, Exporting, Core, Transmission, operation, Exchange, State, IsPlaceOf, operation_counted, within, operation_if, Shows, place_shows_operation}
 
 module _ (state : State) (core : Core) (export : Exporting) (cookie counted place : ℕ) (s : Shows state core) (p : core.phase ≡ Transmission export) (g : place_at state.outstanding cookie ≡ Some place) where
   -- the place of a cookie is that of its request, where that is one of those up to the count

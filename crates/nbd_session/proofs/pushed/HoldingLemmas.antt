@@ -1,12 +1,5 @@
 -- What a session holds gives back the bytes of each side.
-use Rattle.std.proofs.Common.{◌≡◌, ℕ, ◌+◌, List, [], ◌∷◌, ◌++◌, length, take, drop, refl, sym, ◌∙◌, ap, Bool, true, false, if◌then◌else◌}
-use Rattle.std.proofs.Math.Seq.{take-add, take-length}
-use Rattle.nbd_wire.specs.declared.message.Side.{Side}
-use Rattle.nbd_wire.specs.declared.message.Side.TheVariants.{Client, Server}
-use Rattle.nbd_wire.specs.protocol.Captures.{Pair, side_pairs}
-use Rattle.nbd_wire.specs.protocol.Sides.{same_side}
-use Rattle.nbd_laws.specs.Bytes.{bytes_from, bytes_of, of_two}
-use Rattle.nbd_session.specs.Pushed.{PushedHoldsEachSide, Stretch, bytes_after_stretch, mixture, stretch_bytes}
+use Rattle.nbd_session.proofs.Common.{◌≡◌, ℕ, ◌+◌, List, [], ◌∷◌, ◌++◌, length, take, drop, refl, sym, ◌∙◌, ap, Bool, true, false, if◌then◌else◌, take-add, take-length, Side, Client, Server, Pair, side_pairs, same_side, bytes_from, bytes_of, of_two, PushedHoldsEachSide, Stretch, bytes_after_stretch, mixture, stretch_bytes}
 
 if-append : (c : Bool) (b : ℕ) (xs ys : List ℕ) → (if c then b ∷ (xs ++ ys) else xs ++ ys) ≡ (if c then b ∷ xs else xs) ++ ys
 if-append true b xs ys = refl

@@ -1,15 +1,6 @@
 -- The stretches that the program keeps, as a contract has them, with so many more bytes of a side.
-use Rattle.std.proofs.Common.{◌≡◌, ℕ, ◌+◌, ◌-◌, ◌<◌, ◌≤◌, zero, suc, List, Some, slice_get, [], ◌∷◌, ◌++◌, length, refl, sym, ◌∙◌, ap, subst, arith, get_or, slice_set, Bool, true, false, if◌then◌else◌}
-use Rattle.std.proofs.lemmas.List.{length-map, map-append, map-set}
-use Rattle.std.proofs.Math.ListN.{get_or-map}
-use Rattle.std.proofs.lemmas.Option.{slice_get-get_or}
-use Rattle.nbd_wire.specs.declared.message.Side.{Side}
-use Rattle.nbd_session.specs.Pushed.{Stretch}
-use Rattle.nbd_wire.specs.protocol.Sides.{same_side}
+use Rattle.nbd_session.proofs.Common.{◌≡◌, ℕ, ◌+◌, ◌-◌, ◌<◌, ◌≤◌, zero, suc, List, Some, slice_get, [], ◌∷◌, ◌++◌, length, refl, sym, ◌∙◌, ap, subst, arith, get_or, slice_set, Bool, true, false, if◌then◌else◌, length-map, map-append, map-set, get_or-map, slice_get-get_or, Side, Stretch, same_side, is_of, stretch_of, stretches_of, stretches_with, stretch_total}
 use Rattle.nbd_session.specs.declared.stretches.Stretch as program
-use Rattle.nbd_session.specs.internal.Holdings.{is_of}
-use Rattle.nbd_session.specs.Views.{stretch_of, stretches_of}
-use Rattle.nbd_session.specs.internal.Standing.{stretches_with, stretch_total}
 use Rattle.nbd_session.proofs.pushed.StretchLemmas.{EndsWith, ends_with, longer, noted-set, noted-push}
 
 get_or_there : (items : List program.Stretch) (i : ℕ) (d : program.Stretch) → i < length items → get_or items i d ≡ get_or items i (get_or items i d)

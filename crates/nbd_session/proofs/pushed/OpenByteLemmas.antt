@@ -1,26 +1,6 @@
 -- The bytes that belong to no completed message are the rests, and more of them may come.
-use Rattle.std.proofs.Common.{◌≡◌, ℕ, List, [], ◌∷◌, ◌++◌, map, flat_map, refl, sym, ◌∙◌, ap, subst, Ok, Bool, true, false, if◌then◌else◌, append_assoc, append-nil}
-use Rattle.std.proofs.lemmas.List.{append_cancel_left, map-append}
-use Rattle.nbd_wire.specs.declared.profile.Profile.{Profile}
-use Rattle.nbd_wire.specs.declared.entry.Entry.{Entry}
-use Rattle.nbd_wire.specs.protocol.Entries.{whole}
-use Rattle.nbd_wire.specs.declared.message.Side.{Side}
-use Rattle.nbd_wire.specs.declared.message.Side.TheVariants.{Client, Server}
-use Rattle.nbd_wire.specs.declared.message.Message.{Message}
-use Rattle.nbd_wire.specs.protocol.Encoding.{enc}
-use Rattle.nbd_wire.specs.protocol.Marks.{Item, Byte, Starts, Completes, Serves, IsSided, IsTight, MayFollow, block, completed_messages, of_side, pairs}
-use Rattle.nbd_wire.specs.protocol.Captures.{Pair, ArePairs, side_pairs}
-use Rattle.nbd_laws.specs.Bytes.{bytes_of, bytes_from}
-use Rattle.nbd_wire.specs.protocol.Rules.{IsRunBut, Obeys, after, complete}
-use Rattle.nbd_wire.specs.protocol.Sides.{side, same_side}
-use Rattle.nbd_wire.specs.protocol.States.{State, start_of}
-use Rattle.nbd_wire.specs.protocol.Reading.{by_tests, Bad, Both, Judge, Reader, More, Reading, Rest, Whole, fresh_of, get, rest_with, on_ok, put, reads, settle}
-use Rattle.nbd_laws.proofs.reading.ReaderLemmas.{AreHeld, IsSound, IsSoundAt, Open, Walk, ended, final, held_more, held_whole, kept_next, loose, middle, opening, serving, with_byte}
-use Rattle.nbd_laws.proofs.runs.BlockLemmas.{IsCalm, byte_other, byte_same, marked_is_walk}
-use Rattle.nbd_session.specs.internal.Standing.{with_more}
-use Rattle.nbd_laws.proofs.runs.RunLemmas.{fresh_held, run_but_law}
-use Rattle.nbd_laws.proofs.runs.RunByteLemmas.{AreBytesOf, byte_from, bytes_from-cons, run_bytes}
-use Rattle.nbd_laws.proofs.judge.SoundLemmas.{sound}
+use Rattle.nbd_session.proofs.Common.{◌≡◌, ℕ, List, [], ◌∷◌, ◌++◌, map, flat_map, refl, sym, ◌∙◌, ap, subst, Ok, Bool, true, false, if◌then◌else◌, append_assoc, append-nil, append_cancel_left, map-append, Profile, Entry, whole, Side, Client, Server, Message, enc, Item, Byte, Starts, Completes, Serves, IsSided, IsTight, MayFollow, block, completed_messages, of_side, pairs, Pair, ArePairs, side_pairs, bytes_of, bytes_from, IsRunBut, Obeys, after, complete, side, same_side, start_of, by_tests, Bad, Both, Judge, Reader, More, Reading, Rest, Whole, fresh_of, get, rest_with, on_ok, put, reads, settle, AreHeld, IsSound, IsSoundAt, Open, Walk, ended, final, held_more, held_whole, kept_next, loose, middle, opening, serving, with_byte, IsCalm, byte_other, byte_same, marked_is_walk, with_more, fresh_held, run_but_law, AreBytesOf, byte_from, bytes_from-cons, run_bytes, sound}
+use Rattle.nbd_wire.specs.protocol.States.{State}
 use Rattle.nbd_session.proofs.pushed.PushLemmas.{bytes_of-snoc}
 
 -- what a reader holds of a side's bytes

@@ -1,16 +1,5 @@
 -- The pushed pairs: one more piece of a side, and a message that completes.
-use Rattle.std.proofs.Common.{◌≡◌, ℕ, ◌+◌, ◌≤◌, List, [], ◌∷◌, ◌++◌, length, take, refl, sym, ◌∙◌, ap, subst, append_assoc, append-nil, arith, length-append, length-drop, if◌then◌else◌, Bool, true, false}
-use Rattle.std.proofs.lemmas.List.{take-append-le, drop-append-le}
-use Rattle.std.proofs.Math.Seq.{take-length}
-use Rattle.nbd_wire.specs.declared.message.Side.{Side}
-use Rattle.nbd_wire.specs.declared.message.Side.TheVariants.{Client, Server}
-use Rattle.nbd_wire.specs.declared.message.Message.{Message}
-use Rattle.nbd_wire.specs.protocol.Encoding.{enc}
-use Rattle.nbd_wire.specs.protocol.Captures.{side_pairs}
-use Rattle.nbd_laws.specs.Bytes.{bytes_of, of_two}
-use Rattle.nbd_session.specs.Pushed.{Stretch, bytes_after_stretch, mixture}
-use Rattle.nbd_wire.specs.protocol.Sides.{side, same_side}
-use Rattle.nbd_session.specs.internal.Standing.{stretch_total, AreStretchesOf, stretches_with, with_more}
+use Rattle.nbd_session.proofs.Common.{◌≡◌, ℕ, ◌+◌, ◌≤◌, List, [], ◌∷◌, ◌++◌, length, take, refl, sym, ◌∙◌, ap, subst, append_assoc, append-nil, arith, length-append, length-drop, if◌then◌else◌, Bool, true, false, take-append-le, drop-append-le, take-length, Side, Client, Server, Message, enc, side_pairs, bytes_of, of_two, Stretch, bytes_after_stretch, mixture, side, same_side, stretch_total, AreStretchesOf, stretches_with, with_more}
 
 no_length : (xs : List ℕ) → 0 ≡ length xs → xs ≡ []
 no_length [] e = refl

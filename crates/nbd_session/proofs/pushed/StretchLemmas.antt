@@ -1,10 +1,5 @@
 -- The stretches as a list that is written at its end: its last element grows, or one more is pushed.
-use Rattle.std.proofs.Common.{◌≡◌, ℕ, zero, suc, ◌+◌, List, [], ◌∷◌, ◌++◌, length, refl, sym, ◌∙◌, ap, Bool, true, false, if◌then◌else◌, arith, slice_set, get_or}
-use Rattle.std.proofs.Math.Seq.{set-append_seam}
-use Rattle.nbd_wire.specs.declared.message.Side.{Side}
-use Rattle.nbd_session.specs.Pushed.{Stretch}
-use Rattle.nbd_wire.specs.protocol.Sides.{same_side}
-use Rattle.nbd_session.specs.internal.Standing.{stretches_with}
+use Rattle.nbd_session.proofs.Common.{◌≡◌, ℕ, zero, suc, ◌+◌, List, [], ◌∷◌, ◌++◌, length, refl, sym, ◌∙◌, ap, Bool, true, false, if◌then◌else◌, arith, slice_set, get_or, set-append_seam, Side, Stretch, same_side, stretches_with}
 
 -- a stretch with so many more bytes, and a stretch of its own for so many bytes
 abbrev pub longer : Stretch → ℕ → Stretch

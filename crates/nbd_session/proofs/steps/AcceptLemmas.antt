@@ -1,35 +1,8 @@
 -- A whole message is accepted.
-use Rattle.std.proofs.Common.{◌≡◌, ℕ, ◌+◌, List, [], ◌∷◌, ◌++◌, length, refl, sym, ◌∙◌, ap, subst, inl, inr, Ok, Some, None, append-nil}
-use Rattle.nbd_wire.specs.declared.profile.Profile.{Profile}
-use Rattle.nbd_wire.specs.declared.message.Message.{Message}
-use Rattle.nbd_wire.specs.declared.message.Side.{Side}
-use Rattle.nbd_wire.specs.declared.message.Side.TheVariants.{Client, Server}
-use Rattle.nbd_wire.specs.protocol.Captures.{Pair}
-use Rattle.nbd_wire.specs.protocol.Rules.{MayComplete, request_of_reply, complete}
-use Rattle.nbd_wire.specs.protocol.Sendable.{IsSendable}
-use Rattle.nbd_wire.specs.protocol.Sides.{side}
-use Rattle.nbd_wire.specs.protocol.States.{start_of}
-use Rattle.nbd_session.specs.declared.fault.SessionFault.TheVariants.{Memory}
-use Rattle.nbd_session.specs.declared.held.Held.{Held}
-use Rattle.nbd_state.specs.declared.asked.Exchange.{Exchange}
-use Rattle.nbd_wire.specs.protocol.Reading.{by_tests, decision, Reader, Rest, Whole, fresh_of, get, old_of, put, reads}
-use Rattle.nbd_state.specs.declared.state.State.{State}
-use Rattle.nbd_state.specs.Completions.{MayTake, core_from}
-use Rattle.nbd_session.specs.Incoming.{bytes_come, nothing_come}
-use Rattle.nbd_session.specs.internal.Holdings.{holding_of, incoming_of}
-use Rattle.nbd_session.specs.internal.Known.{IsKnown, decided}
-use Rattle.nbd_session.specs.Views.{stretches_of}
-use Rattle.nbd_state.specs.Logs.{messages_of}
-use Rattle.nbd_session.specs.internal.Logging.{log_of_pairs}
-use Rattle.nbd_laws.specs.Reached.{IsReached}
-use Rattle.nbd_laws.proofs.reading.ReaderLemmas.{at_once, behind, get-put_other, get-put_same, reached_of, same_or_not}
-use Rattle.nbd_state.specs.Shows.{AreKnown, Shows}
-use Rattle.nbd_session.specs.internal.Standing.{Holding, IsReadTo, count_at_server, held_pairs, rest_of, with_bytes}
-use Rattle.nbd_session.specs.internal.Steps.{HoldsRun, IsSame, IsShut, IsTaken, Stands}
+use Rattle.nbd_session.proofs.Common.{◌≡◌, ℕ, ◌+◌, List, [], ◌∷◌, ◌++◌, length, refl, sym, ◌∙◌, ap, subst, inl, inr, Ok, Some, None, append-nil, Profile, Message, Side, Client, Server, Pair, MayComplete, request_of_reply, complete, IsSendable, side, start_of, Memory, Held, Exchange, by_tests, decision, Reader, Rest, Whole, fresh_of, get, old_of, put, reads, State, MayTake, core_from, bytes_come, nothing_come, holding_of, incoming_of, IsKnown, decided, stretches_of, messages_of, log_of_pairs, IsReached, at_once, behind, get-put_other, get-put_same, reached_of, same_or_not, AreKnown, Shows, Holding, IsReadTo, count_at_server, held_pairs, rest_of, with_bytes, HoldsRun, IsSame, IsShut, IsTaken, Stands, asks_only}
 use Rattle.nbd_session.proofs.judge.PieceLemmas.{read_run}
 use Rattle.nbd_session.proofs.log.CountLemmas.{count_of}
 use Rattle.nbd_session.proofs.log.FoldLemmas.{core_is}
-use Rattle.nbd_laws.proofs.runs.BegunLemmas.{asks_only}
 use Rattle.nbd_session.proofs.log.LogKnownLemmas.{known-unanswered, logged-whole}
 use Rattle.nbd_session.proofs.log.LogStepLemmas.{logged_messages}
 use Rattle.nbd_session.proofs.steps.HoldingLemmas.{rest_is}

@@ -1,32 +1,6 @@
 -- What is decided of a side's bytes once they were taken.
-use Rattle.std.proofs.Common.{◌≡◌, ℕ, suc, ◌-◌, ◌<◌, ◌≤◌, List, [], ◌∷◌, ◌++◌, length, refl, sym, ◌∙◌, ap, subst, Option, Some, None, Bool, true, false, Result, Ok, Err, OnOk, OnErr, append-nil, arith}
-use Rattle.std.proofs.lemmas.Option.{same_Some}
-use Rattle.nbd_state.specs.Places.{place_at}
-use Rattle.nbd_wire.specs.declared.fault.WireFault.{WireFault}
-use Rattle.nbd_wire.specs.declared.message.Side.{Side}
-use Rattle.nbd_wire.specs.declared.message.Side.TheVariants.{Client, Server}
-use Rattle.nbd_wire.specs.declared.heads.transmission.RequestHead.{RequestHead}
-use Rattle.nbd_wire.specs.protocol.Rules.{cookie_of}
-use Rattle.nbd_wire.specs.protocol.States.{Core, target}
-use Rattle.nbd_state.proofs.HeadLemmas.{chunk_cookie}
-use Rattle.nbd_state.proofs.PlacedLemmas.{shown_length}
-use Rattle.nbd_state.specs.Completions.{Answers}
-use Rattle.nbd_state.specs.Shows.{AreKnown, Shows, place_of}
-use Rattle.nbd_state.specs.declared.state.State.{State}
-use Rattle.nbd_session.specs.internal.Counted.{decision_by_count}
-use Rattle.nbd_wire.specs.protocol.Decisions.{Decision}
-use Rattle.nbd_wire.specs.protocol.Reading.{by_tests, reading_by_decision, Bad, IsFilled, More, Whole, fresh_of}
-use Rattle.nbd_session.specs.declared.expected.Expected.{Expected}
+use Rattle.nbd_session.proofs.Common.{◌≡◌, ℕ, suc, ◌-◌, ◌<◌, ◌≤◌, List, [], ◌∷◌, ◌++◌, length, refl, sym, ◌∙◌, ap, subst, Option, Some, None, Bool, true, false, Result, Ok, Err, OnOk, OnErr, append-nil, arith, same_Some, place_at, WireFault, Side, Client, Server, RequestHead, cookie_of, Core, target, chunk_cookie, shown_length, Answers, AreKnown, Shows, place_of, State, decision_by_count, Decision, by_tests, reading_by_decision, Bad, IsFilled, More, Whole, fresh_of, Expected, Wire, Held, IncomingView, bytes_come, HasHeadLength, IsExpectedOf, IsPlaced, IsRefusedHead, IsWholeHead, StandsIn, last_fault_by, message_of, payload_length_of, place_answered, request_with, incoming_of, with_expected, IsCome, IsExpected, IsKnown, decided, is_come_by, log_of_pairs, Holding, count_at_server, held_pairs, rest_of, with_bytes, IsExpecting, IsHeadRefused, IsShut, IsTaken, IsWhole, Knows, Stands, knows_by, IsSame}
 use Rattle.nbd_session.specs.declared.expected.Expected.TheVariants as expectations
-use Rattle.nbd_session.specs.declared.fault.SessionFault.TheVariants.{Wire}
-use Rattle.nbd_session.specs.declared.held.Held.{Held}
-use Rattle.nbd_session.specs.Incoming.{IncomingView, bytes_come}
-use Rattle.nbd_session.specs.internal.Expecting.{HasHeadLength, IsExpectedOf, IsPlaced, IsRefusedHead, IsWholeHead, StandsIn, last_fault_by, message_of, payload_length_of, place_answered, request_with}
-use Rattle.nbd_session.specs.internal.Holdings.{incoming_of, with_expected}
-use Rattle.nbd_session.specs.internal.Known.{IsCome, IsExpected, IsKnown, decided, is_come_by}
-use Rattle.nbd_session.specs.internal.Logging.{log_of_pairs}
-use Rattle.nbd_session.specs.internal.Standing.{Holding, count_at_server, held_pairs, rest_of, with_bytes}
-use Rattle.nbd_session.specs.internal.Steps.{IsExpecting, IsHeadRefused, IsShut, IsTaken, IsWhole, Knows, Stands, knows_by, IsSame}
 use Rattle.nbd_session.proofs.expecting.ReplyLemmas.{placed_within}
 use Rattle.nbd_session.proofs.expecting.KnownLemmas.{expected_bad, expected_more, expected_whole, refused_head, short_more}
 use Rattle.nbd_session.proofs.steps.HoldingLemmas.{holding_expected, incoming_here, incoming_other, rest_is, same_but}

@@ -1,12 +1,5 @@
 -- A side whose message was taken out of what has come.
-use Rattle.std.proofs.Common.{◌≡◌, ◌++◌, ◌∷◌, [], ◌∙◌, ap}
-use Rattle.nbd_wire.specs.declared.message.Message.{Message}
-use Rattle.nbd_wire.specs.declared.message.Side.{Side}
-use Rattle.nbd_wire.specs.declared.message.Side.TheVariants.{Client, Server}
-use Rattle.nbd_session.specs.declared.held.Held.{Held}
-use Rattle.nbd_session.specs.Incoming.{bytes_come, nothing_come}
-use Rattle.nbd_session.specs.Views.{stretches_of}
-use Rattle.nbd_session.specs.internal.Holdings.{holding_of, incoming_of, with_incoming}
+use Rattle.nbd_session.proofs.Common.{◌≡◌, ◌++◌, ◌∷◌, [], ◌∙◌, ap, Message, Side, Client, Server, Held, bytes_come, nothing_come, stretches_of, holding_of, incoming_of, with_incoming}
 use Rattle.nbd_session.proofs.steps.AcceptLemmas.{accepted_holding}
 use Rattle.nbd_session.proofs.steps.HoldingLemmas.{incoming_here, incoming_other, same_but}
 use Rattle.nbd_session.proofs.steps.StepLemmas.{with_message}

@@ -1,12 +1,5 @@
 -- What is held of each side.
-use Rattle.std.proofs.Common.{◌≡◌, refl, Option}
-use Rattle.nbd_wire.specs.declared.message.Side.{Side}
-use Rattle.nbd_wire.specs.declared.message.Side.TheVariants.{Client, Server}
-use Rattle.nbd_session.specs.declared.expected.Expected.{Expected}
-use Rattle.nbd_session.specs.declared.held.Held.{Held}
-use Rattle.nbd_session.specs.Incoming.{IncomingView, bytes_come}
-use Rattle.nbd_session.specs.internal.Holdings.{holding_of, incoming_of, with_expected, with_incoming}
-use Rattle.nbd_session.specs.internal.Standing.{rest_of}
+use Rattle.nbd_session.proofs.Common.{◌≡◌, refl, Option, Side, Client, Server, Expected, Held, IncomingView, bytes_come, holding_of, incoming_of, with_expected, with_incoming, rest_of}
 
 -- what was taken of a side, as it is held
 pub rest_is : (held : Held) (s : Side) → rest_of (holding_of held) s ≡ bytes_come (incoming_of held s)

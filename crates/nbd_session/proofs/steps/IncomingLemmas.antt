@@ -1,12 +1,5 @@
 -- The bytes that have come of a side, with more.
-use Rattle.std.proofs.Common.{◌≡◌, ℕ, List, [], ◌∷◌, ◌++◌, refl, subst, Option, Some, None, true, false, is_some}
-use Rattle.nbd_wire.specs.protocol.States.{Core}
-use Rattle.nbd_wire.specs.protocol.Decisions.{Decision}
-use Rattle.nbd_wire.specs.protocol.Reading.{IsFilled}
-use Rattle.nbd_session.specs.declared.expected.Expected.{Expected}
-use Rattle.nbd_session.specs.Incoming.{IncomingView, bytes_come, incoming_with}
-use Rattle.nbd_session.specs.internal.Incoming.{is_nothing}
-use Rattle.nbd_session.specs.internal.Known.{IsKnown, is_known_by}
+use Rattle.nbd_session.proofs.Common.{◌≡◌, ℕ, List, [], ◌∷◌, ◌++◌, refl, subst, Option, Some, None, true, false, is_some, Core, Decision, IsFilled, Expected, IncomingView, bytes_come, incoming_with, is_nothing, IsKnown, is_known_by}
 
 pub none_of : {A : Type 0} (o : Option A) → is_some o ≡ false → o ≡ None
 none_of None e = refl

@@ -1,31 +1,9 @@
 -- What is known of a side's bytes stays, where the other side's messages complete meanwhile.
-use Rattle.std.proofs.Common.{◌≡◌, ℕ, suc, ◌+◌, ◌<◌, ◌≤◌, List, [], ◌∷◌, ◌++◌, length, refl, sym, ◌∙◌, ap, subst, inl, inr, Option, Some, None, zero, Bool, true, false, arith, add-one, append-nil, length-append}
-use Rattle.std.proofs.lemmas.Bool.{lt-ltb}
-use Rattle.std.proofs.lemmas.Option.{same_Some}
-use Rattle.nbd_wire.specs.declared.message.Message.{Message}
+use Rattle.nbd_session.proofs.Common.{◌≡◌, ℕ, suc, ◌+◌, ◌<◌, ◌≤◌, List, [], ◌∷◌, ◌++◌, length, refl, sym, ◌∙◌, ap, subst, inl, inr, Option, Some, None, zero, Bool, true, false, arith, add-one, append-nil, length-append, lt-ltb, same_Some, Message, Side, Client, Server, BadMagic, UnknownCookie, Exporting, Operation, number_at, Core, Transmission, operation, target, awaited_length_by, awaited_length, Decision, operation_of, reply, reply_in, request, request_by, by_tests, decision, request_unless, IsFilled, More, Rest, old_of, chunk_head_fault, extended_head_fault, simple_fault, simple_last_fault, decision_of, IsAppended, Later-appended, Later-disconnected, Later-extended, Later-transmission, Later-turn, target-append, kept_later, turn_of_reading, IsDeciding, IsExtendedOrNot, as_chunk, as_extended, as_neither, as_other, as_simple, bytes_are_begun, deciding, entry-append, extended_or_not, is_chunk_reply, is_extended_reply, is_no_extended, is_no_reply, is_simple_reply, long_reply, short_reply, Later, Later-trans, at_once, none_held, old-empty, old-filled, some_held, RequestHead, Expected, IsPlaced, chunk_fault_to, expected_decision, last_fault_by, message_of, payload_length_of, request_with, chunk_with, IncomingView, bytes_come, incoming_with, incoming_with_by, nothing_come, IsCome, IsExpected, IsKnown, IsShort, is_known_by}
 use Rattle.nbd_wire.specs.declared.message.Message.TheVariants as messages
-use Rattle.nbd_wire.specs.declared.message.Side.{Side}
-use Rattle.nbd_wire.specs.declared.message.Side.TheVariants.{Client, Server}
-use Rattle.nbd_wire.specs.declared.fault.WireFault.TheVariants.{BadMagic, UnknownCookie}
-use Rattle.nbd_wire.specs.protocol.Operations.{Exporting, Operation}
-use Rattle.nbd_wire.specs.protocol.Payloads.{number_at}
-use Rattle.nbd_wire.specs.protocol.States.{Core, Transmission, operation, target}
-use Rattle.nbd_laws.specs.Awaited.{awaited_length_by, awaited_length}
-use Rattle.nbd_wire.specs.protocol.Decisions.{Decision, operation_of, reply, reply_in, request, request_by}
-use Rattle.nbd_wire.specs.protocol.Reading.{by_tests, decision, request_unless, IsFilled, More, Rest, old_of}
-use Rattle.nbd_wire.specs.protocol.Transmission.{chunk_head_fault, extended_head_fault, simple_fault, simple_last_fault}
-use Rattle.nbd_laws.proofs.judge.AwaitedLemmas.{decision_of}
-use Rattle.nbd_laws.proofs.judge.PhaseLemmas.{IsAppended, Later-appended, Later-disconnected, Later-extended, Later-transmission, Later-turn, target-append}
-use Rattle.nbd_laws.proofs.judge.SoundLemmas.{kept_later, turn_of_reading}
-use Rattle.nbd_laws.proofs.judge.SteadyLemmas.{IsBegun, IsDeciding, IsExtendedOrNot, as_chunk, as_extended, as_neither, as_other, as_simple, bytes_are_begun, deciding, entry-append, extended_or_not, is_chunk_reply, is_extended_reply, is_no_extended, is_no_reply, is_simple_reply, long_reply, short_reply}
-use Rattle.nbd_laws.proofs.reading.ReaderLemmas.{Held, Later, Later-trans, at_once, none_held, old-empty, old-filled, some_held}
-use Rattle.nbd_wire.specs.declared.heads.transmission.RequestHead.{RequestHead}
-use Rattle.nbd_session.specs.declared.expected.Expected.{Expected}
+use Rattle.nbd_laws.proofs.judge.SteadyLemmas.{IsBegun}
+use Rattle.nbd_laws.proofs.reading.ReaderLemmas.{Held}
 use Rattle.nbd_session.specs.declared.expected.Expected.TheVariants as expectations
-use Rattle.nbd_session.specs.internal.Expecting.{IsPlaced, chunk_fault_to, expected_decision, last_fault_by, message_of, payload_length_of, request_with}
-use Rattle.nbd_state.specs.Heads.{chunk_with}
-use Rattle.nbd_session.specs.Incoming.{IncomingView, bytes_come, incoming_with, incoming_with_by, nothing_come}
-use Rattle.nbd_session.specs.internal.Known.{IsCome, IsExpected, IsKnown, IsShort, is_known_by}
 use Rattle.nbd_session.proofs.expecting.KnownLemmas.{expected_awaited}
 use Rattle.nbd_session.proofs.expecting.ReplyLemmas.{placed_within}
 

@@ -1,25 +1,7 @@
 -- How many bytes of a side are missing until something is decided of them.
-use Rattle.std.proofs.Common.{◌≡◌, ◌⊎◌, ℕ, ◌+◌, ◌<◌, List, [], ◌++◌, length, sym, ◌∙◌, ap, subst, inl, inr, Option, Some, None, append-nil, arith, length-append, Bool, if◌then◌else◌}
-use Rattle.std.proofs.lemmas.Bool.{lt-ltb}
-use Rattle.nbd_wire.specs.declared.message.Side.{Side}
-use Rattle.nbd_wire.specs.declared.fault.WireFault.{WireFault}
-use Rattle.nbd_wire.specs.protocol.States.{Core}
-use Rattle.nbd_laws.specs.Awaited.{awaited_length_by, awaited_length}
-use Rattle.nbd_session.specs.internal.Counted.{decision_by_count}
-use Rattle.nbd_wire.specs.protocol.Decisions.{Decision}
-use Rattle.nbd_wire.specs.protocol.Reading.{by_tests, reading_by_decision, decision, Bad, IsFilled, More, Rest, get, old_of}
-use Rattle.nbd_laws.proofs.judge.AwaitedLemmas.{held_short, in_head}
-use Rattle.nbd_laws.proofs.judge.SteadyLemmas.{deciding}
-use Rattle.nbd_laws.proofs.reading.ReaderLemmas.{Held, at_once, none_held, old-empty, some_held}
-use Rattle.nbd_state.specs.Shows.{Shows}
-use Rattle.nbd_session.specs.declared.expected.Expected.{Expected}
+use Rattle.nbd_session.proofs.Common.{◌≡◌, ◌⊎◌, ℕ, ◌+◌, ◌<◌, List, [], ◌++◌, length, sym, ◌∙◌, ap, subst, inl, inr, Option, Some, None, append-nil, arith, length-append, Bool, if◌then◌else◌, lt-ltb, Side, WireFault, Core, awaited_length_by, awaited_length, decision_by_count, Decision, by_tests, reading_by_decision, decision, Bad, IsFilled, More, Rest, get, old_of, held_short, in_head, deciding, at_once, none_held, old-empty, some_held, Shows, Expected, bytes_come, HasHeadLength, payload_length_of, holding_of, incoming_of, awaited, decided, is_known_by, count_at_server, Stands}
+use Rattle.nbd_laws.proofs.reading.ReaderLemmas.{Held}
 use Rattle.nbd_session.specs.declared.held.Held as program
-use Rattle.nbd_session.specs.Incoming.{bytes_come}
-use Rattle.nbd_session.specs.internal.Expecting.{HasHeadLength, payload_length_of}
-use Rattle.nbd_session.specs.internal.Holdings.{holding_of, incoming_of}
-use Rattle.nbd_session.specs.internal.Known.{awaited, decided, is_known_by}
-use Rattle.nbd_session.specs.internal.Standing.{count_at_server}
-use Rattle.nbd_session.specs.internal.Steps.{Stands}
 use Rattle.nbd_session.proofs.expecting.KnownLemmas.{expected_awaited}
 use Rattle.nbd_session.proofs.steps.HoldingLemmas.{rest_is}
 use Rattle.nbd_session.proofs.steps.StepLemmas.{decided_held, held_of}

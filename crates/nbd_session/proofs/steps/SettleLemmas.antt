@@ -1,24 +1,5 @@
 -- What was taken of a side is judged.
-use Rattle.std.proofs.Common.{◌≡◌, ℕ, List, [], ◌++◌, length, refl, sym, ◌∙◌, ap, subst, Option, Result, Ok, Err, IfErr, IsErrAnd, append-nil, arith}
-use Rattle.std.proofs.lemmas.Option.{same_Some}
-use Rattle.nbd_wire.specs.declared.message.Side.{Side}
-use Rattle.nbd_wire.specs.declared.message.Side.TheVariants.{Client, Server}
-use Rattle.nbd_session.specs.declared.fault.SessionFault.TheVariants.{Memory, Wire}
-use Rattle.nbd_wire.specs.declared.fault.WireFault.{WireFault}
-use Rattle.nbd_session.specs.declared.held.Held.{Held}
-use Rattle.nbd_wire.specs.protocol.States.{Core}
-use Rattle.nbd_wire.specs.protocol.Reading.{by_tests, reading_by_decision, Bad, IsFilled, Reader, More, Reading, Rest, fresh_of, get, old_of, put}
-use Rattle.nbd_session.specs.internal.Holdings.{holding_of, incoming_of}
-use Rattle.nbd_session.specs.declared.expected.Expected.{Expected}
-use Rattle.nbd_session.specs.Incoming.{bytes_come}
-use Rattle.nbd_session.specs.internal.Known.{IsKnown, decided}
-use Rattle.nbd_session.specs.internal.Logging.{log_of_pairs}
-use Rattle.nbd_laws.proofs.reading.ReaderLemmas.{get-put_other, get-put_same, old-filled, same_or_not}
-use Rattle.nbd_state.specs.Shows.{AreKnown}
-use Rattle.nbd_session.specs.internal.Standing.{Holding, IsReadTo, held_pairs, rest_of, with_bytes}
-use Rattle.nbd_session.specs.internal.Steps.{HoldsRun, IsSame, IsShut, IsTaken, Stands, knows_by}
-use Rattle.nbd_session.specs.internal.Stopped.{IsStopped}
-use Rattle.nbd_laws.proofs.judge.BlockLemmas.{extended}
+use Rattle.nbd_session.proofs.Common.{◌≡◌, ℕ, List, [], ◌++◌, length, refl, sym, ◌∙◌, ap, subst, Option, Result, Ok, Err, IfErr, IsErrAnd, append-nil, arith, same_Some, Side, Client, Server, Memory, Wire, WireFault, Held, Core, by_tests, reading_by_decision, Bad, IsFilled, Reader, More, Reading, Rest, fresh_of, get, old_of, put, holding_of, incoming_of, Expected, bytes_come, IsKnown, decided, log_of_pairs, get-put_other, get-put_same, old-filled, same_or_not, AreKnown, Holding, IsReadTo, held_pairs, rest_of, with_bytes, HoldsRun, IsSame, IsShut, IsTaken, Stands, knows_by, IsStopped, extended}
 use Rattle.nbd_session.proofs.log.LogKnownLemmas.{logged-kept}
 use Rattle.nbd_session.proofs.pushed.OpenByteLemmas.{more_is_run_but}
 use Rattle.nbd_session.proofs.judge.RefusalLemmas.{stopped}

@@ -1,27 +1,7 @@
 -- What a session holds after one more piece, and after one more message.
-use Rattle.std.proofs.Common.{◌≡◌, ℕ, ◌≤◌, List, [], ◌∷◌, ◌++◌, length, refl, sym, ◌∙◌, ap, subst, append_assoc, append-nil, Err, if◌then◌else◌}
-use Rattle.nbd_wire.specs.declared.message.Side.{Side}
-use Rattle.nbd_wire.specs.declared.message.Side.TheVariants.{Client, Server}
-use Rattle.nbd_wire.specs.declared.message.Message.{Message}
-use Rattle.nbd_wire.specs.protocol.Encoding.{AreBytes, enc}
-use Rattle.nbd_wire.specs.protocol.Captures.{Pair, ArePairs, side_pairs}
-use Rattle.nbd_laws.specs.Bytes.{bytes_of}
-use Rattle.nbd_session.specs.Pushed.{mixture}
-use Rattle.nbd_wire.specs.protocol.Rules.{complete}
-use Rattle.nbd_wire.specs.protocol.Sides.{side, same_side}
-use Rattle.nbd_wire.specs.protocol.States.{Core, Phase, Greet}
-use Rattle.nbd_wire.specs.declared.fault.WireFault.{WireFault}
-use Rattle.nbd_laws.specs.Awaited.{awaited_length}
-use Rattle.nbd_session.specs.internal.Counted.{decision_by_count, operation_counted}
-use Rattle.nbd_wire.specs.protocol.Reading.{by_tests, decision, decision_with, Reader, Rest, Reading, More, Whole, Bad, get, put, reads, fresh_of, old_of, settle, on_ok, IsFilled}
-use Rattle.nbd_laws.proofs.reading.ReaderLemmas.{IsSoundAt, AreHeld, reads_held, old-empty, old-filled}
-use Rattle.nbd_session.specs.internal.Standing.{Holding, IsReadTo, AreStretchesOf, stretches_with, held_pairs, rest_of, with_more, with_bytes, count_at_server}
-use Rattle.nbd_laws.proofs.judge.AwaitedLemmas.{reads_up_to}
-use Rattle.nbd_laws.proofs.judge.BlockLemmas.{judged_at_once, extended, reads-append}
+use Rattle.nbd_session.proofs.Common.{◌≡◌, ℕ, ◌≤◌, List, [], ◌∷◌, ◌++◌, length, refl, sym, ◌∙◌, ap, subst, append_assoc, append-nil, Err, if◌then◌else◌, Side, Client, Server, Message, AreBytes, enc, Pair, ArePairs, side_pairs, bytes_of, mixture, complete, side, same_side, Core, Phase, Greet, WireFault, awaited_length, decision_by_count, operation_counted, by_tests, decision, decision_with, Reader, Rest, Reading, More, Whole, Bad, get, put, reads, fresh_of, old_of, settle, on_ok, IsFilled, IsSoundAt, AreHeld, reads_held, old-empty, old-filled, Holding, IsReadTo, AreStretchesOf, stretches_with, held_pairs, rest_of, with_more, with_bytes, count_at_server, reads_up_to, judged_at_once, extended, reads-append, fresh_held, sound}
 use Rattle.nbd_session.proofs.log.CountLemmas.{held_counted, count_of}
 use Rattle.nbd_session.proofs.pushed.PushLemmas.{bytes_of-snoc, mixed-noted, stretches-noted}
-use Rattle.nbd_laws.proofs.runs.RunLemmas.{fresh_held}
-use Rattle.nbd_laws.proofs.judge.SoundLemmas.{sound}
 use Rattle.nbd_session.proofs.steps.TakeLemmas.{kept_more}
 
 -- with a message of a side whose bytes were its rest

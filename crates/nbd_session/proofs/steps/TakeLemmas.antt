@@ -1,14 +1,6 @@
 -- One more piece of a side, up to the next length at which something is decided, as the reader reads it.
-use Rattle.std.proofs.Common.{◌≡◌, ℕ, ◌<◌, ◌≤◌, List, [], ◌∷◌, ◌++◌, length, sym, subst, append_assoc, arith, length-append}
-use Rattle.nbd_wire.specs.declared.message.Side.{Side}
-use Rattle.nbd_wire.specs.protocol.Encoding.{AreBytes}
-use Rattle.nbd_wire.specs.protocol.States.{Core}
-use Rattle.nbd_laws.specs.Awaited.{awaited_length}
-use Rattle.nbd_wire.specs.protocol.Reading.{by_tests, Rest, More, old_of, IsFilled}
-use Rattle.nbd_laws.specs.Reached.{IsReached}
-use Rattle.nbd_laws.proofs.reading.ReaderLemmas.{Kept, kept, Held, kept_next, reached_of, at_once, IsFilled-snoc}
-use Rattle.nbd_laws.proofs.judge.AwaitedLemmas.{held_short}
-use Rattle.nbd_laws.proofs.judge.BlockLemmas.{GoesOn}
+use Rattle.nbd_session.proofs.Common.{◌≡◌, ℕ, ◌<◌, ◌≤◌, List, [], ◌∷◌, ◌++◌, length, sym, subst, append_assoc, arith, length-append, Side, AreBytes, Core, awaited_length, by_tests, Rest, More, old_of, IsFilled, IsReached, Kept, kept, kept_next, reached_of, at_once, IsFilled-snoc, held_short, GoesOn}
+use Rattle.nbd_laws.proofs.reading.ReaderLemmas.{Held}
 
 -- bytes up to the awaited length: each but the last was judged to go on
 kept_block : (s : Side) (old core : Core) (n : ℕ) (bytes : List ℕ) (b : ℕ) (more : List ℕ) → IsReached core → Kept by_tests s old core (bytes ++ b ∷ []) → AreBytes more →

@@ -1,18 +1,5 @@
 -- What is held once more bytes of a side were taken.
-use Rattle.std.proofs.Common.{◌≡◌, ℕ, ◌+◌, List, [], ◌∷◌, ◌++◌, length, refl, sym, ◌∙◌, ap, Option, Some, None, Bool, true, append_assoc, append-nil}
-use Rattle.nbd_wire.specs.declared.message.Side.{Side}
-use Rattle.nbd_wire.specs.declared.message.Side.TheVariants.{Client, Server}
-use Rattle.nbd_wire.specs.protocol.States.{Core}
-use Rattle.nbd_wire.specs.protocol.Decisions.{Decision}
-use Rattle.nbd_session.specs.declared.expected.Expected.{Expected}
-use Rattle.nbd_session.specs.declared.held.Held.{Held}
-use Rattle.nbd_session.specs.Incoming.{IncomingView, bytes_come, incoming_with, incoming_with_by}
-use Rattle.nbd_session.specs.Views.{stretches_of}
-use Rattle.nbd_session.specs.internal.Holdings.{holding_of, incoming_of, with_incoming}
-use Rattle.nbd_session.specs.internal.Incoming.{is_nothing}
-use Rattle.nbd_session.specs.internal.Known.{IsKnown, decided, is_known_by}
-use Rattle.nbd_session.specs.internal.Standing.{count_at_server, stretches_with, with_bytes}
-use Rattle.nbd_session.specs.internal.Steps.{Stands}
+use Rattle.nbd_session.proofs.Common.{◌≡◌, ℕ, ◌+◌, List, [], ◌∷◌, ◌++◌, length, refl, sym, ◌∙◌, ap, Option, Some, None, Bool, true, append_assoc, append-nil, Side, Client, Server, Core, Decision, Expected, Held, IncomingView, bytes_come, incoming_with, incoming_with_by, stretches_of, holding_of, incoming_of, with_incoming, is_nothing, IsKnown, decided, is_known_by, count_at_server, stretches_with, with_bytes, Stands}
 use Rattle.nbd_session.proofs.steps.HoldingLemmas.{incoming_here, incoming_other, same_but}
 use Rattle.nbd_session.proofs.steps.IncomingLemmas.{none_of_known}
 

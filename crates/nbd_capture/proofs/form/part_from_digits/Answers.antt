@@ -1,7 +1,4 @@
-use Rattle.std.proofs.Common.{◌∷◌, ◌∙◌, [], sym, ap, subst}
-use Rattle.nbd_capture.specs.Capture.{AreDigits, letter}
-use Rattle.nbd_capture.specs.Capture.AreDigits.{none}
-use Rattle.nbd_capture.specs.internal.Kept.{IsOf}
+use Rattle.nbd_capture.proofs.Common.{◌∷◌, ◌∙◌, [], sym, ap, subst, AreDigits, letter, none, IsOf}
 use Rattle.nbd_capture.proofs.SpellLemmas.{on_form}
 use Rattle.nbd_capture.proofs.form.part_from_digits.Goals as goal
 

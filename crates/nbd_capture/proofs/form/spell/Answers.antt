@@ -1,6 +1,4 @@
-use Rattle.std.proofs.Common.{◌++◌, ◌∷◌, sym, subst}
-use Rattle.nbd_capture.specs.Capture.{IsCaptureLine, letter, space}
-use Rattle.nbd_capture.specs.internal.Kept.{IsOf}
+use Rattle.nbd_capture.proofs.Common.{◌++◌, ◌∷◌, sym, subst, IsCaptureLine, letter, space, IsOf}
 use Rattle.nbd_capture.proofs.SpellLemmas.{no_second, on_form, with_second}
 use Rattle.nbd_capture.proofs.form.spell.Goals as goal
 

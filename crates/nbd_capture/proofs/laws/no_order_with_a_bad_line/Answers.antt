@@ -1,4 +1,4 @@
-use Rattle.nbd_capture.specs.Order.{IsOrderLine}
+use Rattle.nbd_capture.proofs.Common.{IsOrderLine}
 use Rattle.nbd_capture.proofs.ReadingLemmas.{no_reading}
 use Rattle.nbd_capture.proofs.laws.no_order_with_a_bad_line.Goals as goal
 

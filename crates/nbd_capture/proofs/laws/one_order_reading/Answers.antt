@@ -1,4 +1,4 @@
-use Rattle.nbd_capture.specs.Order.{IsOrderLine}
+use Rattle.nbd_capture.proofs.Common.{IsOrderLine}
 use Rattle.nbd_capture.proofs.OrderLineLemmas.{one_entry}
 use Rattle.nbd_capture.proofs.ReadingLemmas.{one_reading}
 use Rattle.nbd_capture.proofs.laws.one_order_reading.Goals as goal

@@ -1,6 +1,4 @@
-use Rattle.std.proofs.Common.{subst, sym, ◌∷◌, [], Some}
-use Rattle.nbd_capture.specs.Order.{IsOrderLine}
-use Rattle.nbd_capture.specs.Order.IsOrderLine.{atomically, of_part}
+use Rattle.nbd_capture.proofs.Common.{subst, sym, ◌∷◌, [], Some, IsOrderLine, atomically, of_part}
 use Rattle.nbd_capture.proofs.OrderLineLemmas.{no_number, no_parted}
 use Rattle.nbd_capture.proofs.order.entry_on.Goals as goal
 

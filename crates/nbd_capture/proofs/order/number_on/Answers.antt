@@ -1,7 +1,4 @@
-use Rattle.std.proofs.Common.{◌≡◌, ◌+◌, ◌*◌, ◌^◌, ◌<◌, ◌∙◌, ap, arith, refl, subst, take}
-use Rattle.std.specs.Str.Parse.{AllDigits, digits_value}
-use Rattle.std.proofs.lemmas.List.{take_all}
-use Rattle.nbd_capture.specs.Order.{BeginsPlainly}
+use Rattle.nbd_capture.proofs.Common.{◌≡◌, ◌+◌, ◌*◌, ◌^◌, ◌<◌, ◌∙◌, ap, arith, refl, subst, take, AllDigits, digits_value, take_all, BeginsPlainly}
 use Rattle.nbd_capture.proofs.NumeralLemmas.{all_with, no_digit, some_digits, too_large, with_digit}
 use Rattle.nbd_capture.proofs.order.number_on.Goals as goal
 

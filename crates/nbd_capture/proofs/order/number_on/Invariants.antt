@@ -1,5 +1,4 @@
-use Rattle.std.proofs.Common.{◌≡◌, ◌<◌, ◌^◌, take}
-use Rattle.std.specs.Str.Parse.{AllDigits, digits_value}
+use Rattle.nbd_capture.proofs.Common.{◌≡◌, ◌<◌, ◌^◌, take, AllDigits, digits_value}
 use Rattle.nbd_capture.proofs.order.number_on.Given as goal
 
 -- the number of the digits so far

@@ -1,9 +1,5 @@
-use Rattle.std.proofs.Common.{◌≡◌, ◌∷◌, ◌++◌, [], ◌+◌, List, arith}
-use Rattle.std.proofs.lemmas.Result.{err_from_is_err_and}
-use Rattle.nbd_wire.specs.declared.entry.Entry.{Entry}
+use Rattle.nbd_capture.proofs.Common.{◌≡◌, ◌∷◌, ◌++◌, [], ◌+◌, List, arith, err_from_is_err_and, Entry, line_feed, IsUnbroken, IsOrderLine}
 use Rattle.nbd_capture.specs.declared.order.OrderTextFault.TheVariants.{Line}
-use Rattle.nbd_capture.specs.Lines.{line_feed, IsUnbroken}
-use Rattle.nbd_capture.specs.Order.{IsOrderLine}
 use Rattle.nbd_capture.proofs.ProgressLemmas.{advance, done, stopped, cut_off}
 use Rattle.nbd_capture.proofs.order.parse_into.Goals as goal
 

@@ -1,5 +1,4 @@
-use Rattle.std.proofs.Common.{length, vec_capacity, ◌≤◌}
-use Rattle.nbd_capture.specs.Order.{IsOrderLine}
+use Rattle.nbd_capture.proofs.Common.{length, vec_capacity, ◌≤◌, IsOrderLine}
 use Rattle.nbd_capture.proofs.ProgressLemmas.{Progress}
 use Rattle.nbd_capture.proofs.order.parse_into.Given as goal
 

@@ -1,5 +1,4 @@
-use borrow.Author.Tests.{tests}
-use Rattle.std.proofs.Common.{rules}
+use Rattle.nbd_capture.proofs.Common.{tests, rules}
 use Rattle.nbd_capture.proofs.OrderLineLemmas.{no_numbers, no_part}
 use Rattle.nbd_capture.proofs.order.part_on.Goals as goal
 

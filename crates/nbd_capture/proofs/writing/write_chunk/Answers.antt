@@ -1,10 +1,4 @@
-use Rattle.std.proofs.Common.{◌∷◌, ◌++◌, []}
-use Rattle.std.specs.Io.KnownBytes.{Appends}
-use Rattle.std.proofs.lemmas.Result.{err_from_is_err_and, on_err_weaker}
-use Rattle.hex.specs.Hex.{encode_lower}
-use Rattle.nbd_capture.specs.Lines.{line_feed}
-use Rattle.nbd_capture.specs.Capture.{letter, space}
-use Rattle.nbd_capture.specs.Writing.{AppendsPrefix}
+use Rattle.nbd_capture.proofs.Common.{◌∷◌, ◌++◌, [], Appends, err_from_is_err_and, on_err_weaker, encode_lower, line_feed, letter, space, AppendsPrefix}
 use Rattle.nbd_capture.proofs.WriterLemmas.{prefix_then, then_prefix}
 use Rattle.nbd_capture.proofs.writing.write_chunk.Goals as goal
 

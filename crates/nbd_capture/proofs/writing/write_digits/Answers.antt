@@ -1,6 +1,4 @@
-use Rattle.std.proofs.Common.{◌≡◌}
-use Rattle.std.proofs.lemmas.Result.{err_from_is_err_and}
-use Rattle.hex.specs.Hex.{encode_lower}
+use Rattle.nbd_capture.proofs.Common.{◌≡◌, err_from_is_err_and, encode_lower}
 use Rattle.nbd_capture.proofs.WriterLemmas.{broken_off, in_lower_case, nothing_yet, one_more}
 use Rattle.nbd_capture.proofs.writing.write_digits.Goals as goal
 

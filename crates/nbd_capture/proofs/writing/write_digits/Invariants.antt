@@ -1,5 +1,4 @@
-use Rattle.std.proofs.Common.{length}
-use Rattle.hex.specs.Hex.{encode_lower}
+use Rattle.nbd_capture.proofs.Common.{length, encode_lower}
 use Rattle.nbd_capture.proofs.WriterLemmas.{Wrote}
 use Rattle.nbd_capture.proofs.writing.write_digits.Given as goal
 

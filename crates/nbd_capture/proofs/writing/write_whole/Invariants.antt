@@ -1,4 +1,4 @@
-use Rattle.std.proofs.Common.{ℕ, List, length}
+use Rattle.nbd_capture.proofs.Common.{ℕ, List, length}
 use Rattle.nbd_capture.proofs.WriterLemmas.{Wrote}
 use Rattle.nbd_capture.proofs.writing.write_whole.Given as goal
 

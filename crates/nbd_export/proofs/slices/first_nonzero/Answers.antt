@@ -1,5 +1,4 @@
-use Rattle.std.proofs.Common.{◌<◌, sym, ◌∙◌, arith}
-use Rattle.nbd_export.specs.internal.Slices.{IsNonzeroAt}
+use Rattle.nbd_export.proofs.Common.{◌<◌, sym, ◌∙◌, arith, IsNonzeroAt}
 use Rattle.nbd_export.proofs.LeastLemmas.{none_further}
 use Rattle.nbd_export.proofs.slices.first_nonzero.Goals as goal
 

@@ -1,5 +1,4 @@
-use Rattle.std.proofs.Common.{◌-◌, ◌<◌, ◌≤◌, ℕ, length}
-use Rattle.nbd_export.specs.internal.Slices.{IsNonzeroAt}
+use Rattle.nbd_export.proofs.Common.{◌-◌, ◌<◌, ◌≤◌, ℕ, length, IsNonzeroAt}
 use Rattle.nbd_export.proofs.slices.first_nonzero.Given as goal
 
 abbrev pub invariant-loop-done : goal.invariant-loop-done

@@ -1,5 +1,4 @@
-use Rattle.std.proofs.Common.{◌<◌, ℕ}
-use Rattle.nbd_export.specs.internal.Slices.{DifferAt}
+use Rattle.nbd_export.proofs.Common.{◌<◌, ℕ, DifferAt}
 use Rattle.nbd_export.proofs.slices.first_unequal.Given as goal
 
 abbrev pub invariant-loop-i : goal.invariant-loop-i

@@ -1,6 +1,4 @@
-use Rattle.std.proofs.Common.{◌+◌, ◌<◌, ◌≤◌, ◌∙◌, arith, ⊎_elim}
-use Rattle.std.proofs.lemmas.Bool.{cases_lt}
-use Rattle.std.proofs.lemmas.List.{get_or-replicate, get_or_past}
+use Rattle.nbd_export.proofs.Common.{◌+◌, ◌<◌, ◌≤◌, ◌∙◌, arith, ⊎_elim, cases_lt, get_or-replicate, get_or_past}
 use Rattle.nbd_export.proofs.slices.zero_bytes.Goals as goal
 
 pub returns-clause-zeroes : goal.returns-clause-zeroes

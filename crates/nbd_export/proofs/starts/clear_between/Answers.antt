@@ -1,6 +1,4 @@
-use Rattle.std.proofs.Common.{◌<◌, ◌∙◌, inl, inr, arith}
-use Rattle.std.proofs.lemmas.Grind.{common_steps}
-use Rattle.std.proofs.lemmas.Bool.Decides.{nat_tests}
+use Rattle.nbd_export.proofs.Common.{◌<◌, ◌∙◌, inl, inr, arith, common_steps, nat_tests}
 use Rattle.nbd_export.proofs.KindLemmas.{other_key}
 use Rattle.nbd_export.proofs.starts.clear_between.Goals as goal
 

@@ -1,6 +1,4 @@
-use Rattle.std.proofs.Common.{◌≡◌, ◌≤◌, ℕ, ◌⊎◌}
-use Rattle.std.specs.BTreeMap.{btree_map_len}
-use Rattle.nbd_export.specs.Kinds.{kind_from}
+use Rattle.nbd_export.proofs.Common.{◌≡◌, ◌≤◌, ℕ, ◌⊎◌, btree_map_len, kind_from}
 use Rattle.nbd_export.proofs.starts.clear_between.Given as goal
 
 abbrev pub invariant-loop-start : goal.invariant-loop-start

@@ -1,6 +1,4 @@
-use Rattle.std.proofs.Common.{◌≡◌, ◌<◌, is_gt, nat_cmp, false, arith}
-use Rattle.std.proofs.lemmas.Bool.Decides.{nat_tests}
-use Rattle.nbd_export.specs.Kinds.{kind_from}
+use Rattle.nbd_export.proofs.Common.{◌≡◌, ◌<◌, is_gt, nat_cmp, false, arith, nat_tests, kind_from}
 use Rattle.nbd_export.proofs.KindLemmas.{none_unless}
 use Rattle.nbd_export.proofs.starts.end_of.Goals as goal
 

@@ -1,7 +1,4 @@
-use Rattle.std.proofs.Common.{◌≡◌, Some, refl, sym, ◌∙◌, ap, arith, rules}
-use denote.Enum.Bare.{same_true, same_false}
-use Rattle.nbd_export.specs.contracts.kind.Kind.{the_type}
-use Rattle.nbd_export.specs.Kinds.{kind_before, kind_from}
+use Rattle.nbd_export.proofs.Common.{◌≡◌, Some, refl, sym, ◌∙◌, ap, arith, rules, same_true, same_false, the_type, kind_before, kind_from}
 use Rattle.nbd_export.proofs.KindLemmas.{apart_at_first, kind_joined, kind_unjoined, kind_before-pred, other_key}
 use Rattle.nbd_export.proofs.starts.join.Goals as goal
 

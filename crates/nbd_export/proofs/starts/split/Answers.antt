@@ -1,5 +1,4 @@
-use Rattle.std.proofs.Common.{sym, ◌∙◌}
-use Rattle.nbd_export.specs.Kinds.{kind_from}
+use Rattle.nbd_export.proofs.Common.{sym, ◌∙◌, kind_from}
 use Rattle.nbd_export.proofs.KindLemmas.{kind_at-begun}
 use Rattle.nbd_export.proofs.starts.split.Goals as goal
 

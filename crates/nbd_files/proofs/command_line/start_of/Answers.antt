@@ -1,5 +1,4 @@
-use borrow.Author.Tests.{tests}
-use Rattle.std.proofs.Common.{rules}
+use Rattle.nbd_files.proofs.Common.{tests, rules}
 use Rattle.nbd_files.proofs.command_line.start_of.Goals as goal
 
 pub returns-in_default : goal.returns-in_default

@@ -1,4 +1,4 @@
-use Rattle.std.proofs.Common.{◌<◌, ◌+◌, sym, rules, arith, take}
+use Rattle.nbd_files.proofs.Common.{◌<◌, ◌+◌, sym, rules, arith, take}
 use Rattle.nbd_files.proofs.InputLemmas.{read_more}
 use Rattle.nbd_files.proofs.input.read_into.Goals as goal
 

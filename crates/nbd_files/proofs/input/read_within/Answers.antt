@@ -1,5 +1,4 @@
-use Rattle.std.proofs.Common.{◌≡◌, ◌∙◌, Ok, sym, arith, ap}
-use Rattle.nbd_files.specs.declared.input.Text.TheVariants.{Longer, Whole}
+use Rattle.nbd_files.proofs.Common.{◌≡◌, ◌∙◌, Ok, sym, arith, ap, Longer, Whole}
 use Rattle.nbd_files.proofs.InputLemmas.{all_counted, all_kept}
 use Rattle.nbd_files.proofs.input.read_within.Goals as goal
 use Rattle.nbd_files.proofs.input.read_within.Goals.{then-count-room, else-count-room}

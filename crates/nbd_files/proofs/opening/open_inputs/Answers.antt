@@ -1,11 +1,4 @@
-use Rattle.std.proofs.Common.{◌≡◌, ◌++◌, ◌∷◌, [], ◌∙◌, List, None, Some, ap, append_assoc, subst, sym}
-use Rattle.std.proofs.lemmas.Result.{err_from_is_err_and}
-use Rattle.std.specs.Prelude.{Option}
-use Rattle.nbd_files.specs.Opening.{AsksFor, HasPath, IsOpeningCause, Path, image_path}
-use Rattle.nbd_files.specs.declared.command_line.StartWord.{StartWord}
-use Rattle.nbd_files.specs.declared.command_line.StartWord.TheVariants.{Image, Unknown, Zero}
-use Rattle.nbd_files.specs.declared.fault.RunFault.{RunFault}
-use Rattle.nbd_files.specs.declared.fault.RunFault.TheVariants.{ImageRead}
+use Rattle.nbd_files.proofs.Common.{◌≡◌, ◌++◌, ◌∷◌, [], ◌∙◌, List, None, Some, ap, append_assoc, subst, sym, err_from_is_err_and, Option, AsksFor, HasPath, IsOpeningCause, Path, image_path, StartWord, Image, Unknown, Zero, RunFault, ImageRead}
 use Rattle.nbd_files.proofs.opening.open_inputs.Goals as goal
 
 AsksFor-trans : (old mid new : Option (List Path)) (first rest : List Path) → AsksFor old mid first → AsksFor mid new rest → AsksFor old new (first ++ rest)

@@ -1,8 +1,4 @@
-use Rattle.std.proofs.Common.{◌+◌, ◌-◌, ℕ, Option, length, ap, sym, ◌∙◌, slice_range}
-use Rattle.nbd_wire.specs.protocol.Reports.{Asked}
-use Rattle.nbd_export.specs.Ranges.{bytes_from, overlay}
-use Rattle.nbd_state.specs.Transcripts.{report_of_request}
-use Rattle.nbd_state.specs.declared.span.Span.{Span}
+use Rattle.nbd_judge.proofs.Common.{◌+◌, ◌-◌, ℕ, Option, length, ap, sym, ◌∙◌, slice_range, Asked, bytes_from, overlay, report_of_request, Span}
 use Rattle.nbd_judge.proofs.contents.RangeLemmas.{written}
 use Rattle.nbd_judge.proofs.change.change.Goals as goal
 

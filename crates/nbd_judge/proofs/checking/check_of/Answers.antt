@@ -1,6 +1,4 @@
-use Rattle.nbd_wire.specs.protocol.Captures.{flat}
-use Rattle.nbd_judge.specs.Beginnings.{initial_of}
-use Rattle.nbd_judge.specs.Captures.{records_of}
+use Rattle.nbd_judge.proofs.Common.{flat, initial_of, records_of}
 use Rattle.nbd_judge.proofs.verdicts.ChunkLemmas.{conclusion_checked}
 use Rattle.nbd_judge.proofs.checking.check_of.Goals as goal
 

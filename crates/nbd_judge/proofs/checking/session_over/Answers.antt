@@ -1,7 +1,4 @@
-use Rattle.std.proofs.Common.{◌++◌, length, sym, ◌∙◌, ap, arith, take}
-use Rattle.std.proofs.lemmas.List.{take_all}
-use Rattle.nbd_wire.specs.protocol.Captures.{flat, side_pairs}
-use Rattle.nbd_judge.specs.Captures.{IsFaultOf, records_of}
+use Rattle.nbd_judge.proofs.Common.{◌++◌, length, sym, ◌∙◌, ap, arith, take, take_all, flat, side_pairs, IsFaultOf, records_of}
 use Rattle.nbd_judge.proofs.verdicts.ChunkLemmas.{finish_told, prefix_more, handed_on, piece_fits}
 use Rattle.nbd_judge.proofs.verdicts.RefusalLemmas.{fault_in, finish_fault}
 use Rattle.nbd_judge.proofs.checking.session_over.Goals as goal

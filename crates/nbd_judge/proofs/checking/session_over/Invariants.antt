@@ -1,7 +1,4 @@
-use Rattle.std.proofs.Common.{◌≡◌, None, take}
-use Rattle.nbd_wire.specs.protocol.Captures.{flat}
-use Rattle.nbd_session.specs.Sessions.{pairs_of}
-use Rattle.nbd_judge.specs.Captures.{records_of}
+use Rattle.nbd_judge.proofs.Common.{◌≡◌, None, take, flat, pairs_of, records_of}
 use Rattle.nbd_judge.proofs.checking.session_over.Given as goal
 
 abbrev pub invariant-loop-side : goal.invariant-loop-side

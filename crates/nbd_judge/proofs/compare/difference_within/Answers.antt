@@ -1,9 +1,4 @@
-use Rattle.std.proofs.Common.{◌≡◌, ◌+◌, ◌≤◌, ◌∙◌, ℕ, IsTrue, Option, Bor, List, arith, length, map, subst, sym}
-use Rattle.std.proofs.lemmas.List.{length-map}
-use Rattle.nbd_export.specs.Ranges.{IsLeast}
-use Rattle.nbd_wire.specs.declared.payloads.Piece.{Piece}
-use Rattle.nbd_wire.specs.protocol.Pieces.{is_in, piece_offset, piece_size}
-use Rattle.nbd_judge.specs.internal.Pieces.{DiffersInOneWithin, DiffersWithin}
+use Rattle.nbd_judge.proofs.Common.{◌≡◌, ◌+◌, ◌≤◌, ◌∙◌, ℕ, IsTrue, Option, Bor, List, arith, length, map, subst, sym, length-map, IsLeast, Piece, is_in, piece_offset, piece_size, DiffersInOneWithin, DiffersWithin}
 use Rattle.nbd_judge.proofs.contents.CompareLemmas.{at_reference}
 use Rattle.nbd_judge.proofs.contents.RangeLemmas.{one_within}
 use Rattle.nbd_judge.proofs.contents.SortLemmas.{inside_those, least_references}

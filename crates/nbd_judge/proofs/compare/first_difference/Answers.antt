@@ -1,7 +1,4 @@
-use Rattle.std.proofs.Common.{map, subst, sym}
-use Rattle.std.proofs.lemmas.List.{length-map}
-use Rattle.nbd_export.specs.Ranges.{IsLeast}
-use Rattle.nbd_judge.specs.internal.Pieces.{DiffersInOneOf}
+use Rattle.nbd_judge.proofs.Common.{map, subst, sym, length-map, IsLeast, DiffersInOneOf}
 use Rattle.nbd_judge.proofs.contents.SortLemmas.{least_sorted}
 use Rattle.nbd_judge.proofs.compare.first_difference.Goals as goal
 

@@ -1,7 +1,4 @@
-use Rattle.std.proofs.Common.{ℕ, Option, length, map, sym, ◌∙◌, subst, arith, ◌≡◌, ◌+◌, ◌≤◌}
-use Rattle.nbd_export.specs.Ranges.{IsLeast}
-use Rattle.nbd_wire.specs.protocol.Pieces.{piece_offset, piece_size}
-use Rattle.nbd_judge.specs.internal.Pieces.{DiffersInOneOf, DiffersInPiece}
+use Rattle.nbd_judge.proofs.Common.{ℕ, Option, length, map, sym, ◌∙◌, subst, arith, ◌≡◌, ◌+◌, ◌≤◌, IsLeast, piece_offset, piece_size, DiffersInOneOf, DiffersInPiece}
 use Rattle.nbd_judge.proofs.contents.CompareLemmas.{at_reference, one_more}
 use Rattle.nbd_judge.proofs.compare.least_difference.Goals as goal
 

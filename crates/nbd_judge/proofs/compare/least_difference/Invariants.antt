@@ -1,6 +1,4 @@
-use Rattle.std.proofs.Common.{◌≡◌, map}
-use Rattle.nbd_export.specs.Ranges.{IsLeast}
-use Rattle.nbd_judge.specs.internal.Pieces.{DiffersInOneOf}
+use Rattle.nbd_judge.proofs.Common.{◌≡◌, map, IsLeast, DiffersInOneOf}
 use Rattle.nbd_judge.proofs.compare.least_difference.Given as goal
 
 abbrev pub invariant-loop-piece : goal.invariant-loop-piece

@@ -1,7 +1,4 @@
-use Rattle.std.proofs.Common.{ℕ, Option, Bor, List, length, map, rules, subst}
-use Rattle.nbd_export.specs.Ranges.{IsLeast}
-use Rattle.nbd_wire.specs.declared.payloads.Piece.{Piece}
-use Rattle.nbd_judge.specs.internal.Pieces.{AreInOrder, AreInside, DiffersInOneWithin}
+use Rattle.nbd_judge.proofs.Common.{ℕ, Option, Bor, List, length, map, rules, subst, IsLeast, Piece, AreInOrder, AreInside, DiffersInOneWithin}
 use Rattle.nbd_judge.proofs.contents.SortLemmas.{inside_those, least_in_part, sorted_there}
 use Rattle.nbd_judge.proofs.compare.part_difference.Goals as goal
 

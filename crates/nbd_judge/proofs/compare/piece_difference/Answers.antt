@@ -1,7 +1,4 @@
-use Rattle.std.proofs.Common.{ℕ, List, length, sym, subst}
-use Rattle.nbd_wire.specs.declared.payloads.Piece.{Piece}
-use Rattle.nbd_export.specs.Ranges.{DiffersIn, IsLeast, bytes_from}
-use Rattle.nbd_judge.specs.internal.Pieces.{DiffersInPiece}
+use Rattle.nbd_judge.proofs.Common.{ℕ, List, length, sym, subst, Piece, DiffersIn, IsLeast, bytes_from, DiffersInPiece}
 use Rattle.nbd_judge.proofs.contents.CompareLemmas.{bytes_difference, hole_difference}
 use Rattle.nbd_judge.proofs.compare.piece_difference.Goals as goal
 

@@ -1,8 +1,4 @@
-use Rattle.std.proofs.Common.{◌≡◌, ◌+◌, ◌-◌, ℕ, List, max, min, ap, ◌∙◌, slice_range}
-use Rattle.nbd_wire.specs.declared.entry.Part.{Part}
-use Rattle.nbd_wire.specs.declared.payloads.Piece.TheVariants.{Bytes, Hole}
-use Rattle.nbd_state.specs.declared.span.Span.{Span}
-use Rattle.nbd_state.specs.Spans.{span_of}
+use Rattle.nbd_judge.proofs.Common.{◌≡◌, ◌+◌, ◌-◌, ℕ, List, max, min, ap, ◌∙◌, slice_range, Part, Bytes, Hole, Span, span_of}
 use Rattle.nbd_judge.proofs.contents.RangeLemmas.{bytes_within, hole_within}
 use Rattle.nbd_judge.proofs.compare.piece_difference_within.Goals as goal
 

@@ -1,9 +1,4 @@
-use Rattle.std.proofs.Common.{ℕ, List, OnOk, Option, length, sym, subst, ◌∙◌, Some}
-use Rattle.std.proofs.lemmas.Result.{IfOk-weaker}
-use Rattle.nbd_export.specs.Ranges.{IsLeast}
-use Rattle.nbd_wire.specs.declared.payloads.Piece.{Piece}
-use Rattle.nbd_state.specs.Transcripts.{report_of_request}
-use Rattle.nbd_judge.specs.internal.Pieces.{AddsSorted, DiffersInOneOf, DiffersInOneWithin}
+use Rattle.nbd_judge.proofs.Common.{ℕ, List, OnOk, Option, length, sym, subst, ◌∙◌, Some, IfOk-weaker, IsLeast, Piece, report_of_request, AddsSorted, DiffersInOneOf, DiffersInOneWithin}
 use Rattle.nbd_judge.proofs.contents.CompareLemmas.{compared_of, wrong_part, wrong_read}
 use Rattle.nbd_judge.proofs.compare.wrong.Goals as goal
 

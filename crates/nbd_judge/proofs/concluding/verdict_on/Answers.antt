@@ -1,9 +1,4 @@
-use Rattle.std.proofs.Common.{◌≡◌, ℕ, ◌<◌, None, Some, sym, ◌∙◌, ap, subst}
-use Rattle.nbd_wire.specs.protocol.Explains.{FitsImage, start_byte}
-use Rattle.nbd_export.specs.Extents.{byte_of}
-use Rattle.nbd_export.specs.Ranges.{AreSameBelow}
-use Rattle.nbd_judge.specs.Beginnings.{initial_of}
-use Rattle.nbd_judge.specs.Servable.{size_of}
+use Rattle.nbd_judge.proofs.Common.{◌≡◌, ℕ, ◌<◌, None, Some, sym, ◌∙◌, ap, subst, FitsImage, start_byte, byte_of, AreSameBelow, initial_of, size_of}
 use Rattle.nbd_judge.proofs.contents.StartLemmas.{report_of_conclusion, exporting_of, image_fits, same_start}
 use Rattle.nbd_judge.proofs.concluding.verdict_on.Goals as goal
 use Rattle.nbd_judge.proofs.concluding.verdict_on.Goals.{in-Some-image_len+else-image-size, in_default-image_len}

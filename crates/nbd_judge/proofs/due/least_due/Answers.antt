@@ -1,11 +1,4 @@
-use Rattle.std.proofs.Common.{◌≡◌, ℕ, true, Some, sym, ◌∙◌, ap, subst}
-use Rattle.nbd_state.specs.declared.span.Span.{Span}
-use Rattle.nbd_state.specs.Transcripts.{report_of_request}
-use Rattle.nbd_wire.specs.protocol.Entries.{in_part}
-use Rattle.nbd_wire.specs.protocol.Pieces.{is_in}
-use Rattle.nbd_wire.specs.protocol.Reports.{Asked, Report, asked_at, due_in, inside_in}
-use Rattle.nbd_judge.specs.internal.Dues.{IsLeastDue}
-use Rattle.nbd_wire.specs.protocol.Operations.{is_chunked}
+use Rattle.nbd_judge.proofs.Common.{◌≡◌, ℕ, true, Some, sym, ◌∙◌, ap, subst, Span, report_of_request, in_part, is_in, Asked, Report, asked_at, due_in, inside_in, IsLeastDue, is_chunked}
 use Rattle.nbd_judge.proofs.orders.DueLemmas.{least_chunked, least_whole}
 use Rattle.nbd_judge.proofs.orders.TableLemmas.{span_of_request}
 use Rattle.nbd_judge.proofs.verdicts.SoundLemmas.{servable}

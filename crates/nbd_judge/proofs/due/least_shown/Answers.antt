@@ -1,11 +1,4 @@
-use Rattle.std.proofs.Common.{◌≡◌, ◌+◌, ◌&&◌, ℕ, Some, slice_get, slice_index_or, sym, ◌∙◌, ap, subst, arith, IsTrue}
-use Rattle.std.proofs.lemmas.Option.{slice_get-get_or}
-use Rattle.std.specs.Option.{option_copied}
-use Rattle.nbd_export.specs.Ranges.{IsLeast}
-use Rattle.nbd_state.specs.declared.span.Span.{Span}
-use Rattle.nbd_state.specs.Moments.{with_counts}
-use Rattle.nbd_wire.specs.protocol.Pieces.{is_in}
-use Rattle.nbd_wire.specs.protocol.Reports.{first_shown}
+use Rattle.nbd_judge.proofs.Common.{◌≡◌, ◌+◌, ◌&&◌, ℕ, Some, slice_get, slice_index_or, sym, ◌∙◌, ap, subst, arith, IsTrue, slice_get-get_or, option_copied, IsLeast, Span, with_counts, is_in, first_shown}
 use Rattle.nbd_judge.proofs.orders.FirstLemmas.{read_at}
 use Rattle.nbd_judge.proofs.orders.ShownLemmas.{ShownBefore, least_first, looked_up, read_shows, shown_apart, shown_met, shown_none, shown_one, shown_past, span_at}
 use Rattle.nbd_judge.proofs.due.least_shown.Goals as goal

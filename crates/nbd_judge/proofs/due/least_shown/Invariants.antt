@@ -1,5 +1,4 @@
-use Rattle.nbd_export.specs.Ranges.{IsLeast}
-use Rattle.nbd_state.specs.Moments.{with_counts}
+use Rattle.nbd_judge.proofs.Common.{IsLeast, with_counts}
 use Rattle.nbd_judge.proofs.orders.ShownLemmas.{ShownBefore}
 use Rattle.nbd_judge.proofs.due.least_shown.Given as goal
 

@@ -1,5 +1,4 @@
-use Rattle.std.proofs.Common.{inr}
-use Rattle.nbd_wire.specs.protocol.Verdicts.{IsFaultless}
+use Rattle.nbd_judge.proofs.Common.{inr, IsFaultless}
 use Rattle.nbd_judge.proofs.verdicts.AnswerLemmas.{order_unserved}
 use Rattle.nbd_judge.proofs.judging.judge.Goals as goal
 

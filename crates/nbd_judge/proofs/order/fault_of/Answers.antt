@@ -1,6 +1,4 @@
-use Rattle.std.proofs.Common.{not, sym, ◌∙◌, ap}
-use Rattle.nbd_state.specs.Transcripts.{report_of_request}
-use Rattle.nbd_wire.specs.protocol.Reports.{Asked, inside_in}
+use Rattle.nbd_judge.proofs.Common.{not, sym, ◌∙◌, ap, report_of_request, Asked, inside_in}
 use Rattle.nbd_judge.proofs.orders.TableLemmas.{all_due, ended, none_of, shown_due, some_of, started}
 use Rattle.nbd_judge.proofs.order.fault_of.Goals as goal
 use Rattle.nbd_judge.proofs.order.fault_of.Goals.{then-serves_by_chunk+else-is_none, else-serves_by_chunk+else-is_none-2}

@@ -1,13 +1,4 @@
-use Rattle.std.proofs.Common.{◌≡◌, ◌&&◌, ℕ, None, Some, slice_get, slice_index_or, inl, inr, sym, ◌∙◌, ap, subst, arith, IsTrue}
-use Rattle.std.proofs.lemmas.Bool.{and_from, and_parts, cases_eq}
-use Rattle.std.proofs.lemmas.Option.{slice_get-get_or}
-use Rattle.std.specs.Option.{option_copied}
-use Rattle.nbd_state.specs.declared.span.Span.{Span}
-use Rattle.nbd_state.specs.Moments.{shown_in, with_counts}
-use Rattle.nbd_wire.specs.declared.payloads.Piece.{Piece}
-use Rattle.nbd_wire.specs.protocol.Pieces.{is_in, piece_offset, piece_size}
-use Rattle.nbd_wire.specs.protocol.Reports.{first_shown}
-use Rattle.nbd_judge.specs.internal.Services.{IsFaultOfService}
+use Rattle.nbd_judge.proofs.Common.{◌≡◌, ◌&&◌, ℕ, None, Some, slice_get, slice_index_or, inl, inr, sym, ◌∙◌, ap, subst, arith, IsTrue, and_from, and_parts, cases_eq, slice_get-get_or, option_copied, Span, shown_in, with_counts, Piece, is_in, piece_offset, piece_size, first_shown, IsFaultOfService}
 use Rattle.nbd_judge.proofs.contents.CompareLemmas.{from_in}
 use Rattle.nbd_judge.proofs.orders.ShownLemmas.{fault_from, first_has, has_first, in_range, looked_up, place_of, read_shows, shown_none, shown_one, span_at}
 use Rattle.nbd_judge.proofs.order.fault_shown.Goals as goal

@@ -1,8 +1,4 @@
-use Rattle.std.proofs.Common.{ℕ, List, Bool, IsTrue, ◌<◌}
-use Rattle.nbd_state.specs.Moments.{with_counts}
-use Rattle.nbd_wire.specs.declared.entry.Entry.{Entry}
-use Rattle.nbd_wire.specs.protocol.Entries.{IsServedAt}
-use Rattle.nbd_judge.specs.internal.Services.{IsServiceOf, IsSpanOf}
+use Rattle.nbd_judge.proofs.Common.{ℕ, List, Bool, IsTrue, ◌<◌, with_counts, Entry, IsServedAt, IsServiceOf, IsSpanOf}
 use Rattle.nbd_judge.proofs.orders.ShownLemmas.{HasAt}
 use Rattle.nbd_judge.proofs.order.fault_shown.Given as goal
 

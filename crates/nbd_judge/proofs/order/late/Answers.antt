@@ -1,8 +1,4 @@
-use Rattle.std.proofs.Common.{◌≡◌, ◌+◌, ◌-◌, ℕ, List, Option, Some, None, slice_get, slice_index_or, sym, ◌∙◌, subst, arith}
-use Rattle.std.proofs.lemmas.Option.{slice_get-get_or}
-use Rattle.nbd_export.specs.Ranges.{IsLeast}
-use Rattle.nbd_wire.specs.declared.entry.Entry.{Entry}
-use Rattle.nbd_wire.specs.protocol.Reports.{due_in}
+use Rattle.nbd_judge.proofs.Common.{◌≡◌, ◌+◌, ◌-◌, ℕ, List, Option, Some, None, slice_get, slice_index_or, sym, ◌∙◌, subst, arith, slice_get-get_or, IsLeast, Entry, due_in}
 use Rattle.nbd_judge.proofs.orders.LateLemmas.{ServedDueFrom, found_first, found_later, found_now, is_late, least_step, not_late}
 use Rattle.nbd_judge.proofs.order.late.Goals as goal
 

@@ -1,6 +1,4 @@
-use Rattle.std.proofs.Common.{◌≤◌, length}
-use Rattle.nbd_export.specs.Ranges.{IsLeast}
-use Rattle.nbd_wire.specs.protocol.Reports.{due_in}
+use Rattle.nbd_judge.proofs.Common.{◌≤◌, length, IsLeast, due_in}
 use Rattle.nbd_judge.proofs.orders.LateLemmas.{IsFound, ServedDueFrom}
 use Rattle.nbd_judge.proofs.order.late.Given as goal
 

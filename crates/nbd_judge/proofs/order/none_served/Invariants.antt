@@ -1,5 +1,4 @@
-use Rattle.std.proofs.Common.{◌≡◌, ◌≤◌, replicate}
-use Rattle.nbd_judge.specs.declared.service.Service.TheVariants.{Unnamed}
+use Rattle.nbd_judge.proofs.Common.{◌≡◌, ◌≤◌, replicate, Unnamed}
 use Rattle.nbd_judge.proofs.order.none_served.Given as goal
 
 abbrev pub invariant-loop : goal.invariant-loop

@@ -1,5 +1,4 @@
-use Rattle.std.proofs.Common.{length, sym, subst}
-use Rattle.nbd_judge.specs.internal.Services.{AreServices}
+use Rattle.nbd_judge.proofs.Common.{length, sym, subst, AreServices}
 use Rattle.nbd_judge.proofs.orders.TableLemmas.{fair, none_bad, told_by_table}
 use Rattle.nbd_judge.proofs.order.order_fault.Goals as goal
 

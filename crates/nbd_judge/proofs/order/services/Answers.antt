@@ -1,9 +1,4 @@
-use Rattle.std.proofs.Common.{◌-◌, ◌<◌, length, Some, Ok, Err, sym, ◌∙◌, ap, subst, arith, slice_index_or, None}
-use Rattle.std.proofs.lemmas.Option.{slice_get-get_or}
-use Rattle.nbd_wire.specs.declared.entry.Entry.{Entry}
-use Rattle.nbd_wire.specs.protocol.Reports.{Asked}
-use Rattle.nbd_state.specs.Transcripts.{report_of_request}
-use Rattle.nbd_judge.specs.internal.Services.{AreServices, IsServiceAfter}
+use Rattle.nbd_judge.proofs.Common.{◌-◌, ◌<◌, length, Some, Ok, Err, sym, ◌∙◌, ap, subst, arith, slice_index_or, None, slice_get-get_or, Entry, Asked, report_of_request, AreServices, IsServiceAfter}
 use Rattle.nbd_judge.proofs.orders.FirstLemmas.{read_at}
 use Rattle.nbd_judge.proofs.orders.TableLemmas.{first_bad, one_more_served, request_within}
 use Rattle.nbd_judge.proofs.order.services.Goals as goal

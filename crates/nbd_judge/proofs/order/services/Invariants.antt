@@ -1,4 +1,4 @@
-use Rattle.nbd_judge.specs.internal.Services.{AreServices}
+use Rattle.nbd_judge.proofs.Common.{AreServices}
 use Rattle.nbd_judge.proofs.order.services.Given as goal
 
 abbrev pub invariant-loop-i : goal.invariant-loop-i

@@ -1,13 +1,7 @@
-use Rattle.std.proofs.Common.{◌≡◌, ◌+◌, ◌-◌, ℕ, List, Some, slice_get, inl, inr, sym, ◌∙◌, ap, subst, arith}
-use Rattle.std.specs.Option.{option_copied}
-use Rattle.nbd_state.specs.Transcripts.{report_of_request, report_of_request_if}
-use Rattle.nbd_state.specs.declared.span.Span.{Span}
-use Rattle.nbd_wire.specs.protocol.Reports.{Asked, Report}
-use Rattle.nbd_judge.specs.declared.service.Service.{Service}
-use Rattle.nbd_judge.specs.internal.Services.{IsAllServed, IsFaultOf, TellsFaultOf}
+use Rattle.nbd_judge.proofs.Common.{◌≡◌, ◌+◌, ◌-◌, ℕ, List, Some, slice_get, inl, inr, sym, ◌∙◌, ap, subst, arith, option_copied, report_of_request, report_of_request_if, Span, Asked, Report, Service, IsAllServed, TellsFaultOf, cases_eq}
+use Rattle.nbd_judge.specs.internal.Services.{IsFaultOf}
 use Rattle.nbd_judge.proofs.orders.FirstLemmas.{read_at}
 use Rattle.nbd_judge.proofs.orders.TableLemmas.{fault_here, not_asked, not_unserved}
-use Rattle.std.proofs.lemmas.Bool.{cases_eq}
 use Rattle.nbd_judge.proofs.order.unserved.Goals as goal
 use Rattle.nbd_judge.proofs.order.unserved.Goals.{in-Some+in_default-fault_of, in_default}
 

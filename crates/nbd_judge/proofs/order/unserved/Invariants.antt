@@ -1,6 +1,4 @@
-use Rattle.std.proofs.Common.{ℕ, List, ◌≤◌, length}
-use Rattle.nbd_wire.specs.declared.entry.Entry.{Entry}
-use Rattle.nbd_judge.specs.internal.Services.{AreServices, IsAllServed}
+use Rattle.nbd_judge.proofs.Common.{ℕ, List, ◌≤◌, length, Entry, AreServices, IsAllServed}
 use Rattle.nbd_judge.proofs.order.unserved.Given as goal
 
 abbrev pub invariant-loop-i : goal.invariant-loop-i

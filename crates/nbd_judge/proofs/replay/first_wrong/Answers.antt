@@ -1,12 +1,4 @@
-use Rattle.std.proofs.Common.{◌≡◌, ◌<◌, ℕ, Option, length, Some, None, slice_get, slice_index_or, refl, sym, ◌∙◌, ap, subst, arith}
-use Rattle.std.proofs.lemmas.Option.{slice_get-get_or, slice_get_within}
-use Rattle.nbd_wire.specs.declared.entry.Entry.{Entry}
-use Rattle.nbd_wire.specs.protocol.ExportBytes.{Effect, IsWrong, effect, effect_if, effects}
-use Rattle.nbd_wire.specs.protocol.Reports.{Asked}
-use Rattle.nbd_export.specs.Ranges.{AreSameBelow}
-use Rattle.nbd_state.specs.Transcripts.{report_of_request}
-use Rattle.nbd_judge.specs.Folding.{contents_with_effect}
-use Rattle.nbd_judge.specs.internal.Servable.{IsServable}
+use Rattle.nbd_judge.proofs.Common.{◌≡◌, ◌<◌, ℕ, Option, length, Some, None, slice_get, slice_index_or, refl, sym, ◌∙◌, ap, subst, arith, slice_get-get_or, slice_get_within, Entry, Effect, IsWrong, effect, effect_if, effects, Asked, AreSameBelow, report_of_request, contents_with_effect, IsServable}
 use Rattle.nbd_judge.proofs.contents.EffectLemmas.{next, none_through, served}
 use Rattle.nbd_judge.proofs.contents.PartLemmas.{well_placed}
 use Rattle.nbd_judge.proofs.contents.SortLemmas.{kept_sorted}

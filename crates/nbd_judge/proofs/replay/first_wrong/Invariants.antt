@@ -1,10 +1,4 @@
-use Rattle.std.proofs.Common.{◌≡◌, ◌<◌, ℕ, Some, take}
-use Rattle.nbd_wire.specs.protocol.ExportBytes.{effects}
-use Rattle.nbd_wire.specs.protocol.Reports.{Asked, asked_at}
-use Rattle.nbd_export.specs.Ranges.{AreSameBelow}
-use Rattle.nbd_judge.specs.Folding.{contents_after}
-use Rattle.nbd_judge.specs.internal.Pieces.{IsSortedAt}
-use Rattle.nbd_judge.specs.Verdicts.{HasWrongFrom}
+use Rattle.nbd_judge.proofs.Common.{◌≡◌, ◌<◌, ℕ, Some, take, effects, Asked, asked_at, AreSameBelow, contents_after, IsSortedAt, HasWrongFrom}
 use Rattle.nbd_judge.proofs.replay.first_wrong.Given as goal
 
 abbrev pub invariant-loop-i : goal.invariant-loop-i

@@ -1,6 +1,4 @@
-use Rattle.std.proofs.Common.{Some, sym, ◌∙◌}
-use Rattle.nbd_laws.proofs.service.EntryLemmas.{Names-push}
-use Rattle.nbd_state.specs.Sizes.{sizes_of}
+use Rattle.nbd_judge.proofs.Common.{Some, sym, ◌∙◌, Names-push, sizes_of}
 use Rattle.nbd_judge.proofs.orders.ServiceLemmas.{in_span, may_serve, meets_part, off_span, one_more, out_of_span}
 use Rattle.nbd_judge.proofs.service.with_span.Goals as goal
 use Rattle.nbd_judge.proofs.service.with_span.Goals.{then-not-lies_in-via-then-not-lies_in, then-not-lies_in-via-else-not-lies_in+in_ok-insert+then-not-branch}

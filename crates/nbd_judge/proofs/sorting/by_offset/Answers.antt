@@ -1,9 +1,4 @@
-use Rattle.std.proofs.Common.{◌≡◌, map, rules, subst, Bor, List, filter, nat_lt}
-use Rattle.std.proofs.lemmas.Fn.{filter_same}
-use Rattle.std.proofs.lemmas.List.Sorted.{IsNonDecreasingBy-from_sort_by_key}
-use Rattle.std.specs.List.Sorted.{IsPermutation, IsNonDecreasingBy}
-use Rattle.nbd_wire.specs.declared.payloads.Piece.{Piece}
-use Rattle.nbd_wire.specs.protocol.Pieces.{piece_offset, piece_size}
+use Rattle.nbd_judge.proofs.Common.{◌≡◌, map, rules, subst, Bor, List, filter, nat_lt, filter_same, IsNonDecreasingBy-from_sort_by_key, IsPermutation, IsNonDecreasingBy, Piece, piece_offset, piece_size}
 use Rattle.nbd_judge.proofs.contents.SortLemmas.{sorted_references}
 use Rattle.nbd_judge.proofs.sorting.by_offset.Goals as goal
 

@@ -1,7 +1,4 @@
-use Rattle.std.proofs.Common.{rules, ◌+◌, ◌-◌, Bor, nat_le, nat_lt, length, take, drop, List}
-use Rattle.std.proofs.lemmas.List.Sorted.{IsNonDecreasingBy-drop, IsNonDecreasingBy-take, IsPartitionPoint-from_clause, IsPartitionedBy-leb, IsPartitionedBy-ltb}
-use Rattle.nbd_wire.specs.declared.payloads.Piece.{Piece}
-use Rattle.nbd_wire.specs.protocol.Pieces.{piece_offset, piece_size}
+use Rattle.nbd_judge.proofs.Common.{rules, ◌+◌, ◌-◌, Bor, nat_le, nat_lt, length, take, drop, List, IsNonDecreasingBy-drop, IsNonDecreasingBy-take, IsPartitionPoint-from_clause, IsPartitionedBy-leb, IsPartitionedBy-ltb, Piece, piece_offset, piece_size}
 use Rattle.nbd_judge.proofs.contents.SortLemmas.{begins_rise, ends_rise, those_between}
 use Rattle.nbd_judge.proofs.sorting.meeting.Goals as goal
 

@@ -1,6 +1,4 @@
-use Rattle.std.proofs.Common.{◌≡◌, ◌≤◌, length, take, count_by}
-use Rattle.nbd_wire.specs.protocol.Reports.{Asked}
-use Rattle.nbd_wire.specs.protocol.Verdicts.{is_answered}
+use Rattle.nbd_judge.proofs.Common.{◌≡◌, ◌≤◌, length, take, count_by, Asked, is_answered}
 use Rattle.nbd_judge.proofs.tally.answered_count.Given as goal
 
 abbrev pub invariant-loop-i : goal.invariant-loop-i

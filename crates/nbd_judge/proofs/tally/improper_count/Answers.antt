@@ -1,7 +1,4 @@
-use Rattle.std.proofs.Common.{◌≡◌, ◌+◌, ◌<◌, Bool, List, length, sym, ◌∙◌, ap, arith}
-use Rattle.nbd_wire.specs.protocol.Reports.{Asked}
-use Rattle.nbd_wire.specs.protocol.Verdicts.{is_amiss}
-use Rattle.nbd_state.specs.Transcripts.{report_of_request}
+use Rattle.nbd_judge.proofs.Common.{◌≡◌, ◌+◌, ◌<◌, Bool, List, length, sym, ◌∙◌, ap, arith, Asked, is_amiss, report_of_request}
 use Rattle.nbd_judge.proofs.verdicts.CountLemmas.{none_there, one_counted, one_passed}
 use Rattle.nbd_judge.proofs.tally.improper_count.Goals as goal
 use Rattle.nbd_judge.proofs.tally.improper_count.Goals.{in-Some+then-is_amiss, in-Some+else-is_amiss, in_default}

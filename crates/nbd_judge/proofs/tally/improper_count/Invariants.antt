@@ -1,5 +1,4 @@
-use Rattle.std.proofs.Common.{◌≡◌, ◌≤◌, length, take, count_by}
-use Rattle.nbd_wire.specs.protocol.Verdicts.{is_amiss}
+use Rattle.nbd_judge.proofs.Common.{◌≡◌, ◌≤◌, length, take, count_by, is_amiss}
 use Rattle.nbd_judge.proofs.tally.improper_count.Given as goal
 
 abbrev pub invariant-loop-i : goal.invariant-loop-i

@@ -1,16 +1,8 @@
 -- Explicit runs of negotiation: each is checked by computing.
-use Rattle.std.proofs.Common.{◌+◌, [], ◌∷◌, ◌++◌, refl, true, false}
-use Rattle.byteorder.specs.Endian.{big_bytes}
-use Rattle.nbd_wire.specs.protocol.Entries.{whole}
+use Rattle.nbd_laws.proofs.Common.{◌+◌, [], ◌∷◌, ◌++◌, refl, true, false, big_bytes, whole, Greeting, ClientFlags, Choice, Answer, Exported, Zeroes, Serves, flat, Wide, IsYes, IsYesOf}
 use Rattle.nbd_wire.specs.declared.answers.TheConstants as answers
 use Rattle.nbd_wire.specs.declared.options.TheConstants as options
-use Rattle.nbd_wire.specs.declared.message.Message.TheVariants.{Greeting, ClientFlags, Choice, Answer, Exported}
-use Rattle.nbd_wire.specs.protocol.Explains.{Zeroes}
-use Rattle.nbd_wire.specs.protocol.Marks.{Serves}
-use Rattle.nbd_wire.specs.protocol.Captures.{flat}
-use Rattle.nbd_wire.specs.declared.profile.Profile.TheVariants.{Wide}
 use Rattle.nbd_laws.specs.captures.Options as captures
-use Rattle.nbd_laws.specs.Explaining.{IsYes, IsYesOf}
 use Rattle.nbd_laws.proofs.worked.SessionLemmas.{gives, gone, greeted, read, sends}
 use Rattle.nbd_laws.proofs.worked.AnswerLemmas.{computing, yes}
 use Rattle.nbd_laws.proofs.examples.options.Goals as goal

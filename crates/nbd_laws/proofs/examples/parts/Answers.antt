@@ -1,13 +1,6 @@
 -- Explicit runs of requests that are served in parts: each is checked by computing.
-use Rattle.std.proofs.Common.{◌≡◌, List, [], ◌∷◌, ◌++◌, refl, inl, inr, lit<, lit≤, true, false}
-use Rattle.nbd_wire.specs.protocol.Entries.{part, whole}
-use Rattle.nbd_wire.specs.protocol.Explains.{Zeroes}
-use Rattle.nbd_wire.specs.protocol.Marks.{Item, Serves}
-use Rattle.nbd_wire.specs.protocol.Captures.{flat}
-use Rattle.nbd_wire.specs.declared.profile.Profile.TheVariants.{Base}
-use Rattle.nbd_wire.specs.protocol.Rules.{IsRunOf}
+use Rattle.nbd_laws.proofs.Common.{◌≡◌, List, [], ◌∷◌, ◌++◌, refl, inl, inr, lit<, lit≤, true, false, part, whole, Zeroes, Item, Serves, flat, Base, IsRunOf, IsNo, IsYes}
 use Rattle.nbd_laws.specs.captures.Reads as captures
-use Rattle.nbd_laws.specs.Explaining.{IsNo, IsYes}
 use Rattle.nbd_laws.proofs.worked.DecidingRunLemmas.{is_run}
 use Rattle.nbd_laws.proofs.service.ExplainingLemmas.{failing_is_no}
 use Rattle.nbd_laws.proofs.worked.SessionLemmas.{fails, gives, gone, greeted, read, sends, succeeds, write}

@@ -1,12 +1,7 @@
 -- Explicit runs of proper and improper requests: each is checked by computing.
-use Rattle.std.proofs.Common.{[], ◌∷◌, ◌++◌, refl}
-use Rattle.nbd_wire.specs.protocol.Entries.{whole}
+use Rattle.nbd_laws.proofs.Common.{[], ◌∷◌, ◌++◌, refl, whole, Zeroes, Serves, flat, IsYes}
 use Rattle.nbd_wire.specs.declared.commands.TheConstants as commands
-use Rattle.nbd_wire.specs.protocol.Explains.{Zeroes}
-use Rattle.nbd_wire.specs.protocol.Marks.{Serves}
-use Rattle.nbd_wire.specs.protocol.Captures.{flat}
 use Rattle.nbd_laws.specs.captures.Requests as captures
-use Rattle.nbd_laws.specs.Explaining.{IsYes}
 use Rattle.nbd_laws.proofs.worked.SessionLemmas.{fails, flagged, gives, gone, gone_with, greeted, read, sends, succeeds, trim, write, zero_out}
 use Rattle.nbd_laws.proofs.worked.AnswerLemmas.{computing, yes}
 use Rattle.nbd_laws.proofs.examples.requests.Goals as goal

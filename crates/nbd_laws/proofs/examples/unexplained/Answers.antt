@@ -1,16 +1,6 @@
 -- Refusals that need no search over runs.
-use Rattle.std.proofs.Common.{◌≡◌, ℕ, List, [], ◌∷◌, ◌++◌, length, refl, subst, inl, inr, arith}
-use Rattle.nbd_wire.specs.declared.entry.Entry.{Entry}
-use Rattle.nbd_wire.specs.protocol.Entries.{whole}
-use Rattle.nbd_wire.specs.protocol.Explains.{Image, Start}
-use Rattle.nbd_wire.specs.protocol.Marks.{Item}
-use Rattle.nbd_wire.specs.protocol.Captures.{Pair, flat}
-use Rattle.nbd_wire.specs.declared.profile.Profile.TheVariants.{Base}
-use Rattle.nbd_wire.specs.protocol.Reports.{report}
-use Rattle.nbd_wire.specs.protocol.Rules.{IsRunOf, MayStartIn}
-use Rattle.nbd_wire.specs.protocol.Verdicts.{IsFaultless}
+use Rattle.nbd_laws.proofs.Common.{◌≡◌, ℕ, List, [], ◌∷◌, ◌++◌, length, refl, subst, inl, inr, arith, Entry, whole, Image, Start, Item, Pair, flat, Base, report, IsRunOf, MayStartIn, IsFaultless, IsNo}
 use Rattle.nbd_laws.specs.captures.Openings as captures
-use Rattle.nbd_laws.specs.Explaining.{IsNo}
 use Rattle.nbd_laws.proofs.worked.DecidingRunLemmas.{is_run}
 use Rattle.nbd_laws.proofs.service.ExplainingLemmas.{failing_is_no}
 use Rattle.nbd_laws.proofs.runs.FollowLemmas.{bare, follows, follows_unserved, pairs_unserved, walk_unserved}

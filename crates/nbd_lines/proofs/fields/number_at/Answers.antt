@@ -1,8 +1,4 @@
-use Rattle.std.proofs.Common.{◌≡◌, ◌^◌, ◌<◌, ◌∷◌, ◌++◌, arith, ap, ◌∙◌, sym, List, ℕ}
-use Rattle.std.proofs.lemmas.Fmt.{decimal_injective}
-use Rattle.nbd_capture.specs.Capture.{space}
-use Rattle.nbd_lines.specs.Line.{equals}
-use Rattle.nbd_lines.specs.Table.{field_name}
+use Rattle.nbd_lines.proofs.Common.{◌≡◌, ◌^◌, ◌<◌, ◌∷◌, ◌++◌, arith, ap, ◌∙◌, sym, List, ℕ, decimal_injective, space, equals, field_name}
 use Rattle.nbd_lines.proofs.NumberLemmas.{number_read, number_word}
 use Rattle.nbd_lines.proofs.fields.number_at.Goals as goal
 

@@ -1,7 +1,4 @@
-use Rattle.std.proofs.Common.{◌≡◌, refl, true, false}
-use Rattle.std.specs.Str.{IsUtf8, IsValidUpTo, valid_up_to}
-use Rattle.std.specs.Str.Parse.{ParsesUnsigned}
-use Rattle.nbd_capture.specs.Order.{BeginsPlainly}
+use Rattle.nbd_lines.proofs.Common.{◌≡◌, refl, true, false, IsUtf8, IsValidUpTo, valid_up_to, ParsesUnsigned, BeginsPlainly}
 use Rattle.nbd_lines.proofs.DecimalLemmas.{not_utf8, plain_digits_parse, plain_as_decimal, utf8_as_decimal, utf8_text}
 use Rattle.nbd_lines.proofs.fields.number_of.Goals as goal
 

@@ -1,5 +1,4 @@
-use Rattle.nbd_capture.proofs.ReadingLemmas.{no_reading}
-use Rattle.nbd_lines.specs.Script.{IsScriptLine}
+use Rattle.nbd_lines.proofs.Common.{no_reading, IsScriptLine}
 use Rattle.nbd_lines.proofs.laws.no_script_with_a_bad_line.Goals as goal
 
 pub returns : goal.returns

@@ -1,5 +1,4 @@
-use Rattle.nbd_capture.proofs.ReadingLemmas.{one_first_bad}
-use Rattle.nbd_lines.specs.Script.{IsScriptLine}
+use Rattle.nbd_lines.proofs.Common.{one_first_bad, IsScriptLine}
 use Rattle.nbd_lines.proofs.laws.one_first_bad_script_line.Goals as goal
 
 pub returns : goal.returns

@@ -1,5 +1,4 @@
-use borrow.Author.Tests.{tests}
-use Rattle.std.proofs.Common.{rules}
+use Rattle.nbd_lines.proofs.Common.{tests, rules}
 use Rattle.nbd_lines.proofs.make_command.run_make.Goals as goal
 
 pub returns-in_err-make-clause-cause : goal.returns-in_err-make-clause-cause

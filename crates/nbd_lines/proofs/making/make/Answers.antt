@@ -1,5 +1,4 @@
-use borrow.Author.Tests.{tests}
-use Rattle.std.proofs.Common.{rules}
+use Rattle.nbd_lines.proofs.Common.{tests, rules}
 use Rattle.nbd_lines.proofs.MakeLemmas.{all_fit}
 use Rattle.nbd_lines.proofs.making.make.Goals as goal
 

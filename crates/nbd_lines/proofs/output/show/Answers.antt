@@ -1,9 +1,4 @@
-use Rattle.std.proofs.Common.{◌≡◌, ◌++◌, ◌∷◌, [], ap, ◌∙◌}
-use Rattle.std.specs.Io.KnownBytes.{Appends}
-use Rattle.std.proofs.lemmas.Result.{err_from_is_err_and}
-use Rattle.nbd_capture.specs.Lines.{line_feed}
-use Rattle.nbd_capture.specs.Writing.{AppendsPrefix}
-use Rattle.nbd_lines.specs.Script.{shown_line}
+use Rattle.nbd_lines.proofs.Common.{◌≡◌, ◌++◌, ◌∷◌, [], ap, ◌∙◌, Appends, err_from_is_err_and, line_feed, AppendsPrefix, shown_line}
 use Rattle.nbd_lines.proofs.WrittenLineLemmas.{all_written, broken_line, none_written, one_written, stopped_before}
 use Rattle.nbd_lines.proofs.output.show.Goals as goal
 

@@ -1,9 +1,4 @@
-use Rattle.std.proofs.Common.{◌≡◌, ◌∙◌}
-use Rattle.std.specs.Io.KnownBytes.{Appends}
-use Rattle.std.proofs.lemmas.Result.{err_from_is_err_and}
-use Rattle.nbd_wire.specs.protocol.Encoding.{enc}
-use Rattle.nbd_capture.specs.Writing.{AppendsPrefix}
-use Rattle.nbd_lines.specs.Script.{made_line}
+use Rattle.nbd_lines.proofs.Common.{◌≡◌, ◌∙◌, Appends, err_from_is_err_and, enc, AppendsPrefix, made_line}
 use Rattle.nbd_lines.proofs.WrittenLineLemmas.{all_written, broken_line, each_fits, none_written, one_written, stopped_before}
 use Rattle.nbd_lines.proofs.output.write_chunks.Goals as goal
 

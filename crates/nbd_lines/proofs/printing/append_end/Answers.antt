@@ -1,6 +1,4 @@
-use Rattle.std.proofs.Common.{◌≡◌, ◌++◌, ◌∙◌}
-use Rattle.hex.specs.Hex.{encode_lower}
-use Rattle.nbd_lines.specs.Line.{payload_words}
+use Rattle.nbd_lines.proofs.Common.{◌≡◌, ◌++◌, ◌∙◌, encode_lower, payload_words}
 use Rattle.nbd_lines.proofs.PrintedLemmas.{end_printed}
 use Rattle.nbd_lines.proofs.printing.append_end.Goals as goal
 

@@ -1,6 +1,4 @@
-use Rattle.std.proofs.Common.{◌≡◌, ◌++◌}
-use Rattle.nbd_lines.specs.Line.{end_text, numbers_text}
-use Rattle.nbd_lines.specs.Table.{payload_of, fields, has_payload, line_form, words}
+use Rattle.nbd_lines.proofs.Common.{◌≡◌, ◌++◌, end_text, numbers_text, payload_of, fields, has_payload, line_form, words}
 use Rattle.nbd_lines.proofs.PrintedLemmas.{line_printed}
 use Rattle.nbd_lines.proofs.printing.append_parts.Goals as goal
 

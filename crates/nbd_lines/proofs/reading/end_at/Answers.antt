@@ -1,5 +1,4 @@
-use Rattle.std.proofs.Common.{inl, inr, sym, ◌∙◌}
-use Rattle.nbd_lines.specs.Table.{has_payload}
+use Rattle.nbd_lines.proofs.Common.{inl, inr, sym, ◌∙◌, has_payload}
 use Rattle.nbd_lines.proofs.EndLemmas.{empty, nothing_at, payload_at, bad_digits_are_no_end}
 use Rattle.nbd_lines.proofs.reading.end_at.Goals as goal
 

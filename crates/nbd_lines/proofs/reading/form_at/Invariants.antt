@@ -1,6 +1,4 @@
-use Rattle.std.proofs.Common.{◌≡◌, ◌++◌, ℕ, List, ◌<◌, slice_index_or}
-use Rattle.nbd_lines.specs.declared.forms.Form.TheVariants.{Greeting}
-use Rattle.nbd_lines.specs.Table.{words}
+use Rattle.nbd_lines.proofs.Common.{◌≡◌, ◌++◌, ℕ, List, ◌<◌, slice_index_or, Greeting, words}
 use Rattle.nbd_lines.proofs.reading.form_at.Given as goal
 
 abbrev pub invariant-loop-form : goal.invariant-loop-form

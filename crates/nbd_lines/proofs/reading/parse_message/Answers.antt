@@ -1,9 +1,4 @@
-use Rattle.std.proofs.Common.{◌≡◌, ℕ, List, MatchOption, None, Option, Some, length, subst, sym, take}
-use Rattle.nbd_wire.specs.codec.Fits.{FitsItsHead}
-use Rattle.nbd_wire.specs.declared.message.Message.{Message}
-use Rattle.nbd_lines.specs.Line.{IsEnd, IsMessageLine}
-use Rattle.nbd_lines.specs.internal.Reading.{ReadsNumbers}
-use Rattle.nbd_lines.specs.Table.{fields, has_payload}
+use Rattle.nbd_lines.proofs.Common.{◌≡◌, ℕ, List, MatchOption, None, Option, Some, length, subst, sym, take, FitsItsHead, Message, IsEnd, IsMessageLine, ReadsNumbers, fields, has_payload}
 use Rattle.nbd_lines.proofs.MessageLineLemmas.{from_parts, misfit}
 use Rattle.nbd_lines.proofs.reading.parse_message.Goals as goal
 

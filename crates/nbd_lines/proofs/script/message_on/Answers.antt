@@ -1,6 +1,4 @@
-use Rattle.nbd_wire.specs.codec.Fits.{FitsItsHead}
-use Rattle.nbd_lines.specs.Line.{IsMessageLine}
-use Rattle.nbd_lines.specs.Script.IsScriptLine.{message}
+use Rattle.nbd_lines.proofs.Common.{FitsItsHead, IsMessageLine, message}
 use Rattle.nbd_lines.proofs.script.message_on.Goals as goal
 
 pub returns-clause-said : goal.returns-clause-said

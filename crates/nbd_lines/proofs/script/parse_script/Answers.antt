@@ -1,11 +1,4 @@
-use Rattle.std.proofs.Common.{◌≡◌, ◌∷◌, ◌++◌, ◌+◌}
-use Rattle.std.proofs.lemmas.Result.{err_from_is_err_and}
-use Rattle.nbd_capture.specs.Lines.{line_feed, IsUnbroken}
-use Rattle.nbd_capture.proofs.ProgressLemmas.{advance, done, cut_off}
-use Rattle.nbd_capture.proofs.ReadingLemmas.{one_reading}
-use Rattle.nbd_lines.specs.declared.script.ScriptFault.TheVariants.{Line}
-use Rattle.nbd_lines.specs.Script.{IsScriptLine}
-use Rattle.nbd_lines.specs.internal.Steps.{said_by}
+use Rattle.nbd_lines.proofs.Common.{◌≡◌, ◌∷◌, ◌++◌, ◌+◌, err_from_is_err_and, line_feed, IsUnbroken, advance, done, cut_off, one_reading, Line, IsScriptLine, said_by}
 use Rattle.nbd_lines.proofs.ScriptLineLemmas.{one_saying, only_memory, stopped_script}
 use Rattle.nbd_lines.proofs.script.parse_script.Goals as goal
 

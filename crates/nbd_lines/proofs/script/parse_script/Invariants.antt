@@ -1,6 +1,4 @@
-use Rattle.std.proofs.Common.{length}
-use Rattle.nbd_lines.specs.Script.{IsScriptLine}
-use Rattle.nbd_capture.proofs.ProgressLemmas.{Progress}
+use Rattle.nbd_lines.proofs.Common.{length, IsScriptLine, Progress}
 use Rattle.nbd_lines.proofs.script.parse_script.Given as goal
 
 abbrev pub invariant-loop-rest : goal.invariant-loop-rest

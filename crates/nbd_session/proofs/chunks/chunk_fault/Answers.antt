@@ -1,5 +1,4 @@
-use Rattle.std.proofs.Common.{◌∙◌, ap, sym}
-use Rattle.nbd_session.specs.internal.Asking.{elsewhere_fault}
+use Rattle.nbd_session.proofs.Common.{◌∙◌, ap, sym, elsewhere_fault}
 use Rattle.nbd_session.proofs.judge.ChunkFaultLemmas.{elsewhere_last, fault_first}
 use Rattle.nbd_session.proofs.chunks.chunk_fault.Goals as goal
 

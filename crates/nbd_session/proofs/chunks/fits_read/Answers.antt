@@ -1,5 +1,4 @@
-use borrow.Author.Tests.{tests}
-use Rattle.std.proofs.Common.{rules}
+use Rattle.nbd_session.proofs.Common.{tests, rules}
 use Rattle.nbd_session.proofs.chunks.fits_read.Goals as goal
 
 pub returns-then-not-is_to_be_whole : goal.returns-then-not-is_to_be_whole

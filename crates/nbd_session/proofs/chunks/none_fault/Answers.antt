@@ -1,9 +1,4 @@
-use Rattle.std.proofs.Common.{◌≡◌, ◌==◌, ◌||◌, ◌∙◌, ap, arith, length, not, sym, true}
-use Rattle.nbd_wire.specs.declared.fault.WireFault.TheVariants.{BadChunk}
-use Rattle.nbd_wire.specs.protocol.Operations.{has_failed, is_proper, pieces}
-use Rattle.nbd_wire.specs.protocol.Tests.{fault_if}
-use Rattle.nbd_wire.specs.protocol.Transmission.{total}
-use Rattle.nbd_session.specs.internal.Asking.{done_by, finish_by, lacks_by}
+use Rattle.nbd_session.proofs.Common.{◌≡◌, ◌==◌, ◌||◌, ◌∙◌, ap, arith, length, not, sym, true, BadChunk, has_failed, is_proper, pieces, fault_if, total, done_by, finish_by, lacks_by}
 use Rattle.nbd_session.proofs.chunks.none_fault.Goals as goal
 
 pub returns-else-not-done : goal.returns-else-not-done

@@ -1,21 +1,5 @@
-use Rattle.std.proofs.Common.{◌≡◌, ◌∙◌, ◌+◌, ◌==◌, ◌||◌, not, length, refl, sym, ap, is_some, None, Bool, true, false}
-use Rattle.nbd_wire.specs.declared.payloads.Piece.{Piece}
+use Rattle.nbd_session.proofs.Common.{◌≡◌, ◌∙◌, ◌+◌, ◌==◌, ◌||◌, not, length, refl, sym, ap, is_some, None, Bool, true, false, Piece, Message, piece_of, has, failure_of, has_failed, is_proper, pieces, with_reply, is_settled, BadChunk, BadContent, done_by, finish_by, fault_if, chunk_fault, fits_read, read_as, status_kind, total, chunk_of, chunk_with, chunk_ends, told_without, status_read}
 use Rattle.nbd_wire.specs.declared.chunks.TheConstants as chunks
-use Rattle.nbd_wire.specs.declared.message.Message.{Message}
-use Rattle.nbd_wire.specs.codec.Contents.{piece_of}
-use Rattle.nbd_wire.specs.protocol.Flags.{has}
-use Rattle.nbd_wire.specs.protocol.Payloads.{failure_of}
-use Rattle.nbd_wire.specs.protocol.Operations.{has_failed, is_proper, pieces}
-use Rattle.nbd_wire.specs.protocol.States.{with_reply}
-use Rattle.nbd_wire.specs.protocol.Statuses.{is_settled}
-use Rattle.nbd_wire.specs.declared.fault.WireFault.TheVariants.{BadChunk, BadContent}
-use Rattle.nbd_session.specs.internal.Asking.{done_by, finish_by}
-use Rattle.nbd_wire.specs.protocol.Tests.{fault_if}
-use Rattle.nbd_wire.specs.protocol.Transmission.{chunk_fault, fits_read, read_as, status_kind, total}
-use Rattle.nbd_state.specs.Heads.{chunk_of, chunk_with}
-use Rattle.nbd_state.proofs.HeadLemmas.{chunk_ends}
-use Rattle.nbd_state.proofs.RecordingLemmas.{told_without}
-use Rattle.nbd_laws.proofs.judge.KindLemmas.{status_read}
 use Rattle.nbd_session.proofs.judge.ChunkFaultLemmas.{bad-chunk, none-chunk, content-chunk, failure-chunk, lacks, other_status, status_only}
 use Rattle.nbd_session.proofs.chunks.payload_fault.Goals as goal
 

@@ -1,8 +1,6 @@
-use Rattle.std.proofs.Common.{refl, sym, ◌∙◌, ap, rules, tests}
-use Rattle.nbd_wire.specs.declared.message.Side.TheVariants.{Client}
+use Rattle.nbd_session.proofs.Common.{refl, sym, ◌∙◌, ap, rules, Client, choice, client_flags, request, request_unless}
+use Rattle.std.proofs.Common.{tests}
 use Rattle.nbd_wire.specs.protocol.States as definitions
-use Rattle.nbd_wire.specs.protocol.Decisions.{choice, client_flags, request}
-use Rattle.nbd_wire.specs.protocol.Reading.{request_unless}
 use Rattle.nbd_session.proofs.expecting.PhaseLemmas.{choosing_of, decided_in, flags_of, head_in, transmission_of}
 use Rattle.nbd_session.proofs.expecting.RequestLemmas.{request_head_is}
 use Rattle.nbd_session.proofs.deciding.client_head_length.Goals as goal

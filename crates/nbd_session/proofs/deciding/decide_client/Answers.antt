@@ -1,10 +1,6 @@
-use Rattle.std.proofs.Common.{◌≡◌, length, refl, sym, ◌∙◌, ap, subst}
-use Rattle.nbd_wire.specs.declared.message.Side.TheVariants.{Client}
+use Rattle.nbd_session.proofs.Common.{◌≡◌, length, refl, sym, ◌∙◌, ap, subst, Client, choice, client_flags, request, request_unless, whole_head_by}
 use Rattle.nbd_wire.specs.protocol.States as definitions
-use Rattle.nbd_wire.specs.protocol.Decisions.{choice, client_flags, request}
-use Rattle.nbd_wire.specs.protocol.Reading.{request_unless}
 use Rattle.nbd_state.specs.declared.state.Phase.{Phase}
-use Rattle.nbd_session.specs.internal.Expecting.{whole_head_by}
 use Rattle.nbd_session.proofs.expecting.PhaseLemmas.{choosing_of, flags_of, refused_in, transmission_of}
 use Rattle.nbd_session.proofs.expecting.ReplyLemmas.{if_err}
 use Rattle.nbd_session.proofs.expecting.RequestLemmas.{request_head_is}

@@ -1,11 +1,6 @@
-use Rattle.std.proofs.Common.{◌≡◌, length, refl, sym, ◌∙◌, subst}
-use Rattle.nbd_wire.specs.declared.message.Side.TheVariants.{Server}
+use Rattle.nbd_session.proofs.Common.{◌≡◌, length, refl, sym, ◌∙◌, subst, Server, operation_counted, abort_answer, answer, greeting, reply_with, exporting_if, IsReplyHead, whole_head_by}
 use Rattle.nbd_wire.specs.protocol.States as definitions
-use Rattle.nbd_session.specs.internal.Counted.{operation_counted}
-use Rattle.nbd_wire.specs.protocol.Decisions.{abort_answer, answer, greeting, reply_with}
 use Rattle.nbd_state.specs.declared.state.Phase.{Phase}
-use Rattle.nbd_state.specs.Showing.{exporting_if}
-use Rattle.nbd_session.specs.internal.Expecting.{IsReplyHead, whole_head_by}
 use Rattle.nbd_session.proofs.expecting.PhaseLemmas.{aborting_of, answering_of, exporting-shown, greet_of, refused_in, transmission_of}
 use Rattle.nbd_session.proofs.expecting.ReplyLemmas.{if_err, reply_head_is}
 use Rattle.nbd_session.proofs.deciding.decide_server.Goals as goal

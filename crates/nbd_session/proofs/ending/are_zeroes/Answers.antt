@@ -1,8 +1,5 @@
-use Rattle.std.proofs.Common.{◌≡◌, ◌==◌, ◌&&◌, ℕ, List, [], ◌∷◌, refl, ◌∙◌, ap, rules, tests}
-use Rattle.std.specs.List.{list_all}
-use Rattle.std.proofs.lemmas.Iterator.{YieldsList-from_slice}
-use Rattle.std.proofs.lemmas.Iterator.Search.{all_from_yields_List}
-use Rattle.nbd_wire.specs.protocol.Negotiation.{are_zeroes}
+use Rattle.nbd_session.proofs.Common.{◌≡◌, ◌==◌, ◌&&◌, ℕ, List, [], ◌∷◌, refl, ◌∙◌, ap, rules, list_all, YieldsList-from_slice, all_from_yields_List, are_zeroes}
+use Rattle.std.proofs.Common.{tests}
 use Rattle.nbd_session.proofs.ending.are_zeroes.Goals as goal
 
 are_zeroes-all : (bytes : List ℕ) → list_all (λ b. b == 0) bytes ≡ are_zeroes bytes

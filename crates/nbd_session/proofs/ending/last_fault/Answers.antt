@@ -1,6 +1,4 @@
-use Rattle.std.proofs.Common.{◌∙◌, ap, sym, subst}
-use Rattle.nbd_session.specs.declared.expected.Expected.{Expected}
-use Rattle.nbd_session.specs.internal.Expecting.{StandsIn, last_fault_by}
+use Rattle.nbd_session.proofs.Common.{◌∙◌, ap, sym, subst, Expected, StandsIn, last_fault_by}
 use Rattle.nbd_session.proofs.expecting.EndLemmas.{chunk_end, simple_end}
 use Rattle.nbd_session.proofs.ending.last_fault.Goals as goal
 

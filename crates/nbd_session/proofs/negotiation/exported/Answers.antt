@@ -1,13 +1,7 @@
-use Rattle.std.proofs.Common.{rules, refl, sym, ◌∙◌, ap, not, true, false}
-use Rattle.std.proofs.lemmas.Option.{same_Some}
-use Rattle.nbd_wire.specs.declared.fault.WireFault.TheVariants.{BadExport, ExportTooLarge}
+use Rattle.nbd_session.proofs.Common.{rules, refl, sym, ◌∙◌, ap, not, true, false, same_Some, BadExport, ExportTooLarge, has, Exported, expected_decision, lt-ltb, le-ltb}
 use Rattle.nbd_wire.specs.declared.handshake.TheConstants as handshake
-use Rattle.nbd_wire.specs.protocol.Flags.{has}
 use Rattle.nbd_session.proofs.expecting.NegotiationLemmas.{bad_export, fault_of_export, good_export}
 use Rattle.nbd_session.proofs.parsing.LeadingLemmas.{leading_export-is}
-use Rattle.nbd_session.specs.declared.expected.Expected.TheVariants.{Exported}
-use Rattle.nbd_session.specs.internal.Expecting.{expected_decision}
-use Rattle.std.proofs.lemmas.Bool.{lt-ltb, le-ltb}
 use Rattle.nbd_session.proofs.negotiation.exported.Goals as goal
 
 pub unwrap-size-requires : goal.unwrap-size-requires

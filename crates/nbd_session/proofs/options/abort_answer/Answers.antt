@@ -1,4 +1,4 @@
-use Rattle.std.proofs.Common.{sym, ◌∙◌}
+use Rattle.nbd_session.proofs.Common.{sym, ◌∙◌}
 use Rattle.nbd_session.proofs.expecting.OptionLemmas.{good_abort, ok_parts}
 use Rattle.nbd_session.proofs.options.abort_answer.Goals as goal
 

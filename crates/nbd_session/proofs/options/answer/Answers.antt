@@ -1,5 +1,4 @@
-use Rattle.std.proofs.Common.{sym, ◌∙◌}
-use Rattle.std.proofs.lemmas.Result.{err_from_is_err_and}
+use Rattle.nbd_session.proofs.Common.{sym, ◌∙◌, err_from_is_err_and}
 use Rattle.nbd_session.proofs.expecting.OptionLemmas.{bad_success, err_parts, good_error, good_success, ok_parts, right_option}
 use Rattle.nbd_session.proofs.options.answer.Goals as goal
 

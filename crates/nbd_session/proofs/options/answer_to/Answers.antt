@@ -1,5 +1,4 @@
-use Rattle.std.proofs.Common.{sym, ◌∙◌, ap, Ok}
-use Rattle.nbd_session.specs.internal.Leading.{answer_fields_of, unless_fault}
+use Rattle.nbd_session.proofs.Common.{sym, ◌∙◌, ap, Ok, answer_fields_of, unless_fault}
 use Rattle.nbd_session.proofs.expecting.OptionLemmas.{no_answer, other_answer, this_answer}
 use Rattle.nbd_session.proofs.parsing.LeadingLemmas.{leading_answer-is}
 use Rattle.nbd_session.proofs.options.answer_to.Goals as goal

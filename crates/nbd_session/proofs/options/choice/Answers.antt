@@ -1,4 +1,4 @@
-use Rattle.std.proofs.Common.{rules, sym, ◌∙◌}
+use Rattle.nbd_session.proofs.Common.{rules, sym, ◌∙◌}
 use Rattle.nbd_session.proofs.expecting.OptionLemmas.{good_choice, no_choice}
 use Rattle.nbd_session.proofs.parsing.LeadingLemmas.{leading_choice-is}
 use Rattle.nbd_session.proofs.options.choice.Goals as goal

@@ -1,4 +1,4 @@
-use Rattle.std.proofs.Common.{sym, ◌∙◌}
+use Rattle.nbd_session.proofs.Common.{sym, ◌∙◌}
 use Rattle.nbd_session.proofs.expecting.ReplyLemmas.{chunk_is}
 use Rattle.nbd_session.proofs.replies.chunk.Goals as goal
 

@@ -1,4 +1,4 @@
-use Rattle.std.proofs.Common.{rules}
+use Rattle.nbd_session.proofs.Common.{rules}
 use Rattle.nbd_session.proofs.parsing.ShownOperationLemmas.{none_beyond, place_within}
 use Rattle.nbd_session.proofs.replies.place_of.Goals as goal
 

@@ -1,7 +1,4 @@
-use Rattle.std.proofs.Common.{◌≡◌, length, rules, sym, ◌∙◌, ap, subst, true, false}
-use Rattle.std.proofs.lemmas.Option.{same_Some}
-use Rattle.nbd_wire.specs.protocol.Decisions.{begins}
-use Rattle.nbd_session.specs.internal.Leading.{chunk_fields, chunk_head_length, chunk_magic}
+use Rattle.nbd_session.proofs.Common.{◌≡◌, length, rules, sym, ◌∙◌, ap, subst, true, false, same_Some, begins, chunk_fields, chunk_head_length, chunk_magic}
 use Rattle.nbd_session.proofs.expecting.ReplyLemmas.{chunk_found}
 use Rattle.nbd_session.proofs.parsing.LeadingLemmas.{leading_chunk-is, leading_extended_chunk-is}
 use Rattle.nbd_session.proofs.replies.read_chunk.Goals as goal

@@ -1,6 +1,4 @@
-use Rattle.std.proofs.Common.{rules, sym, ◌∙◌}
-use Rattle.std.proofs.lemmas.Option.{same_Some}
-use Rattle.nbd_session.specs.internal.Expecting.{expected_decision}
+use Rattle.nbd_session.proofs.Common.{rules, sym, ◌∙◌, same_Some, expected_decision}
 use Rattle.nbd_session.proofs.expecting.ReplyLemmas.{chunk_decision, chunk_refused, if_err, if_ok, is_chunk, is_simple, simple_decision, simple_found, simple_refused}
 use Rattle.nbd_session.proofs.parsing.LeadingLemmas.{leading_simple-is}
 use Rattle.nbd_session.proofs.replies.reply.Goals as goal

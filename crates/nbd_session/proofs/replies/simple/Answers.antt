@@ -1,5 +1,4 @@
-use Rattle.std.proofs.Common.{◌≡◌, sym, ◌∙◌, ap, slice_get, Some, rules}
-use Rattle.std.specs.Option.{option_copied}
+use Rattle.nbd_session.proofs.Common.{◌≡◌, sym, ◌∙◌, ap, slice_get, Some, rules, option_copied}
 use Rattle.nbd_session.proofs.expecting.ReplyLemmas.{forbidden_of, simple_is}
 use Rattle.nbd_session.proofs.parsing.ShownOperationLemmas.{copied_at}
 use Rattle.nbd_session.proofs.replies.simple.Goals as goal

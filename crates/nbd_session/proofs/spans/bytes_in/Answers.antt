@@ -1,6 +1,4 @@
-use Rattle.std.proofs.Common.{◌≡◌, ◌+◌, ◌∙◌, ap, arith, fold, min, rules, zero-add}
-use Rattle.nbd_wire.specs.protocol.Pieces.{piece_size}
-use Rattle.nbd_wire.specs.protocol.Transmission.{total}
+use Rattle.nbd_session.proofs.Common.{◌≡◌, ◌+◌, ◌∙◌, ap, arith, fold, min, rules, zero-add, piece_size, total}
 use Rattle.nbd_session.proofs.judge.ChunkFaultLemmas.{fold-total}
 use Rattle.nbd_session.proofs.spans.bytes_in.Goals as goal
 

@@ -1,5 +1,4 @@
-use borrow.Author.Tests.{tests}
-use Rattle.std.proofs.Common.{rules}
+use Rattle.nbd_session.proofs.Common.{tests, rules}
 use Rattle.nbd_session.proofs.statuses.is_one_within.Goals as goal
 
 pub returns-then-is_none : goal.returns-then-is_none

@@ -1,6 +1,4 @@
-use Rattle.std.proofs.Common.{◌≡◌, ◌∷◌, ap, arith, length, refl, sym}
-use Rattle.nbd_wire.specs.codec.Contents.{extent_of}
-use Rattle.nbd_wire.specs.protocol.Payloads.{extents_of}
+use Rattle.nbd_session.proofs.Common.{◌≡◌, ◌∷◌, ap, arith, length, refl, sym, extent_of, extents_of}
 use Rattle.nbd_session.proofs.judge.ExtentLemmas.{Within, within_last, within_next, within_passed}
 use Rattle.nbd_session.proofs.statuses.last_begins_within.Goals as goal
 

@@ -1,6 +1,4 @@
-use Rattle.std.proofs.Common.{◌≡◌, ◌∷◌, length}
-use Rattle.nbd_wire.specs.codec.Contents.{extent_of}
-use Rattle.nbd_wire.specs.protocol.Payloads.{extents_of}
+use Rattle.nbd_session.proofs.Common.{◌≡◌, ◌∷◌, length, extent_of, extents_of}
 use Rattle.nbd_session.proofs.judge.ExtentLemmas.{Within}
 use Rattle.nbd_session.proofs.statuses.last_begins_within.Given as goal
 

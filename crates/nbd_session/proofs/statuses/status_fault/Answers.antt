@@ -1,18 +1,5 @@
-use Rattle.std.proofs.Common.{◌==◌, ◌∙◌, ap, arith, length, sym}
+use Rattle.nbd_session.proofs.Common.{◌==◌, ◌∙◌, ap, arith, length, sym, status_kind, total, chunk_with, chunk_ends, option_to_list, Status, has, Operation, has_failed, is_proper, pieces, extents_of, with_reply, is_settled, not_false, not_true, done_by, finish_by, told_with}
 use Rattle.nbd_wire.specs.declared.chunks.TheConstants as chunks
-use Rattle.nbd_wire.specs.protocol.Transmission.{status_kind, total}
-use Rattle.nbd_state.specs.Heads.{chunk_with}
-use Rattle.nbd_state.proofs.HeadLemmas.{chunk_ends}
-use Rattle.std.specs.Prelude.{option_to_list}
-use Rattle.nbd_wire.specs.protocol.Contexts.{Status}
-use Rattle.nbd_wire.specs.protocol.Flags.{has}
-use Rattle.nbd_wire.specs.protocol.Operations.{Operation, has_failed, is_proper, pieces}
-use Rattle.nbd_wire.specs.protocol.Payloads.{extents_of}
-use Rattle.nbd_wire.specs.protocol.States.{with_reply}
-use Rattle.nbd_wire.specs.protocol.Statuses.{is_settled}
-use Rattle.nbd_laws.proofs.judge.BoolLemmas.{not_false, not_true}
-use Rattle.nbd_session.specs.internal.Asking.{done_by, finish_by}
-use Rattle.nbd_state.proofs.RecordingLemmas.{told_with}
 use Rattle.nbd_session.proofs.judge.ChunkFaultLemmas.{lacks, malformed_status, right_status, status_is, unknown_status, wrong_status}
 use Rattle.nbd_session.proofs.statuses.status_fault.Goals as goal
 

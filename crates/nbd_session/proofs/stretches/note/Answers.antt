@@ -1,7 +1,4 @@
-use Rattle.std.proofs.Common.{◌≡◌, ◌+◌, ◌-◌, ◌<◌, length, refl, sym, ◌∙◌, ap, arith, slice_get}
-use Rattle.std.specs.Vec.{vec_len}
-use Rattle.nbd_session.specs.internal.Holdings.{is_of}
-use Rattle.nbd_session.specs.Views.{stretches_of}
+use Rattle.nbd_session.proofs.Common.{◌≡◌, ◌+◌, ◌-◌, ◌<◌, length, refl, sym, ◌∙◌, ap, arith, slice_get, vec_len, is_of, stretches_of}
 use Rattle.nbd_session.proofs.pushed.NoteLemmas.{is_last_of, last_within, noted_after, noted_grown}
 use Rattle.nbd_session.proofs.stretches.note.Goals as goal
 

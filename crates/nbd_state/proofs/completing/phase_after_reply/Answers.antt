@@ -1,4 +1,4 @@
-use Rattle.std.proofs.Common.{◌∙◌, sym}
+use Rattle.nbd_state.proofs.Common.{◌∙◌, sym}
 use Rattle.nbd_state.proofs.PhaseLemmas.{behind_abort, behind_none, behind_option}
 use Rattle.nbd_state.proofs.completing.phase_after_reply.Goals as goal
 

@@ -1,5 +1,4 @@
-use Rattle.std.proofs.Common.{◌≡◌, drop}
-use Rattle.nbd_wire.specs.protocol.Pieces.{byte_at}
+use Rattle.nbd_state.proofs.Common.{◌≡◌, drop, byte_at}
 use Rattle.nbd_state.proofs.offsets.byte_read.Given as goal
 
 abbrev pub invariant-loop-piece : goal.invariant-loop-piece

@@ -1,6 +1,4 @@
-use Rattle.std.proofs.Common.{◌≡◌, refl, rules}
-use Rattle.nbd_wire.specs.protocol.Operations.{is_known, is_proper}
-use Rattle.nbd_state.specs.internal.Showing.{operation_of_head}
+use Rattle.nbd_state.proofs.Common.{◌≡◌, refl, rules, is_known, is_proper, operation_of_head}
 use Rattle.nbd_state.proofs.proper.is_proper.Goals as goal
 
 pub returns-then-request-ne-FLUSH : goal.returns-then-request-ne-FLUSH

@@ -1,8 +1,4 @@
-use Rattle.std.proofs.Common.{◌≡◌, ◌+◌, ◌-◌, ◌∷◌, ◌++◌, ◌∙◌, ap, append-nil, append_assoc, arith, length, min, sym}
-use Rattle.nbd_wire.specs.codec.Contents.{extent_of}
-use Rattle.nbd_wire.specs.protocol.Payloads.{extents_of}
-use Rattle.nbd_wire.specs.protocol.Statuses.{zeroes_in}
-use Rattle.nbd_laws.proofs.requests.ZeroLemmas.{zero_part}
+use Rattle.nbd_state.proofs.Common.{◌≡◌, ◌+◌, ◌-◌, ◌∷◌, ◌++◌, ◌∙◌, ap, append-nil, append_assoc, arith, length, min, sym, extent_of, extents_of, zeroes_in, zero_part}
 use Rattle.nbd_state.proofs.ZeroLemmas.{next_zeroes}
 use Rattle.nbd_state.proofs.statuses.zeroes_in.Goals as goal
 

@@ -1,6 +1,4 @@
-use Rattle.std.proofs.Common.{◌≡◌, ◌+◌, ◌-◌, ◌<◌, ◌≤◌, ◌^◌, ◌++◌, length}
-use Rattle.nbd_wire.specs.protocol.Payloads.{extents_of}
-use Rattle.nbd_wire.specs.protocol.Statuses.{zeroes_in}
+use Rattle.nbd_state.proofs.Common.{◌≡◌, ◌+◌, ◌-◌, ◌<◌, ◌≤◌, ◌^◌, ◌++◌, length, extents_of, zeroes_in}
 use Rattle.nbd_state.proofs.statuses.zeroes_in.Given as goal
 
 -- what was found, and what is found of the rest

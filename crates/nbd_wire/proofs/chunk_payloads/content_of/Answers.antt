@@ -1,6 +1,4 @@
-use Rattle.std.proofs.Common.{None, arith, sym, ◌∙◌, ap}
-use Rattle.nbd_wire.specs.codec.Contents.{piece_of}
-use Rattle.nbd_wire.specs.protocol.Payloads.{content_of}
+use Rattle.nbd_wire.proofs.Common.{None, arith, sym, ◌∙◌, ap, piece_of, content_of}
 use Rattle.nbd_wire.proofs.ChunkReadLemmas.{content-none, content-form}
 use Rattle.nbd_wire.proofs.chunk_payloads.content_of.Goals as goal
 

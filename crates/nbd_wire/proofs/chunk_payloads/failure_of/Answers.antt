@@ -1,5 +1,4 @@
-use Rattle.std.proofs.Common.{◌≡◌, ◌+◌, ◌≤◌, ℕ, length, sym, ◌∙◌, ap, arith}
-use Rattle.nbd_wire.specs.protocol.Payloads.{number_at}
+use Rattle.nbd_wire.proofs.Common.{◌≡◌, ◌+◌, ◌≤◌, ℕ, length, sym, ◌∙◌, ap, arith, number_at}
 use Rattle.nbd_wire.proofs.ChunkReadLemmas.{failure-none, failure-plain, failure-placed, failure-form}
 use Rattle.nbd_wire.proofs.chunk_payloads.failure_of.Goals as goal
 

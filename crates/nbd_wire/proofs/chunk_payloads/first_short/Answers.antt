@@ -1,5 +1,4 @@
-use Rattle.std.proofs.Common.{false, ◌≡◌, ◌∷◌, ◌∙◌, arith, sym}
-use Rattle.nbd_wire.specs.protocol.Payloads.{extents_of, number_at}
+use Rattle.nbd_wire.proofs.Common.{false, ◌≡◌, ◌∷◌, ◌∙◌, arith, sym, extents_of, number_at}
 use Rattle.nbd_wire.proofs.ListedReadLemmas.{cut_behind}
 use Rattle.nbd_wire.proofs.StatusLemmas.{extents-first, extents-none}
 use Rattle.nbd_wire.proofs.chunk_payloads.first_short.Goals as goal

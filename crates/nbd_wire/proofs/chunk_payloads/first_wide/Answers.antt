@@ -1,5 +1,4 @@
-use Rattle.std.proofs.Common.{true, ◌≡◌, ◌∷◌, ◌∙◌, arith, sym}
-use Rattle.nbd_wire.specs.protocol.Payloads.{extents_of, number_at}
+use Rattle.nbd_wire.proofs.Common.{true, ◌≡◌, ◌∷◌, ◌∙◌, arith, sym, extents_of, number_at}
 use Rattle.nbd_wire.proofs.ListedReadLemmas.{cut_behind}
 use Rattle.nbd_wire.proofs.StatusLemmas.{wide-first, wide-none}
 use Rattle.nbd_wire.proofs.chunk_payloads.first_wide.Goals as goal

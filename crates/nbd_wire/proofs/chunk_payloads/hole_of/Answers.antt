@@ -1,4 +1,4 @@
-use Rattle.std.proofs.Common.{sym, ◌∙◌}
+use Rattle.nbd_wire.proofs.Common.{sym, ◌∙◌}
 use Rattle.nbd_wire.proofs.ChunkReadLemmas.{hole-none, hole-whole}
 use Rattle.nbd_wire.proofs.chunk_payloads.hole_of.Goals as goal
 

@@ -1,5 +1,4 @@
-use Rattle.std.proofs.Common.{◌≡◌, length}
-use Rattle.nbd_wire.specs.protocol.Payloads.{extents_of, has_empty}
+use Rattle.nbd_wire.proofs.Common.{◌≡◌, length, extents_of, has_empty}
 use Rattle.nbd_wire.proofs.chunk_payloads.is_one_empty.Given as goal
 
 -- what is left answers for the whole

@@ -1,6 +1,4 @@
-use Rattle.std.proofs.Common.{◌≡◌, ◌*◌, true, false, None, Some, length, sym, ◌∙◌, ap, arith}
-use Rattle.nbd_wire.specs.protocol.Contexts.{Status}
-use Rattle.nbd_wire.specs.protocol.Payloads.{extents_of, has_empty, number_at}
+use Rattle.nbd_wire.proofs.Common.{◌≡◌, ◌*◌, true, false, None, Some, length, sym, ◌∙◌, ap, arith, Status, extents_of, has_empty, number_at}
 use Rattle.nbd_wire.proofs.ListedReadLemmas.{cut_behind}
 use Rattle.nbd_wire.proofs.NumberLemmas.{AreBytes-from_places}
 use Rattle.nbd_wire.proofs.StatusLemmas.{IsWhole, status-none, status-reads, status-some}

@@ -1,4 +1,4 @@
-use Rattle.std.proofs.Common.{length, arith, ap}
+use Rattle.nbd_wire.proofs.Common.{length, arith, ap}
 use Rattle.nbd_wire.proofs.EncodingLemmas.{length-tail}
 use Rattle.nbd_wire.proofs.encoding.append.Goals as goal
 

@@ -1,6 +1,4 @@
-use Rattle.std.proofs.Common.{◌%◌, None, Some, sym, ◌∙◌, ap, arith, length-drop}
-use Rattle.nbd_wire.specs.protocol.Contexts.{Filter}
-use Rattle.nbd_wire.specs.protocol.Payloads.{ids_of}
+use Rattle.nbd_wire.proofs.Common.{◌%◌, None, Some, sym, ◌∙◌, ap, arith, length-drop, Filter, ids_of}
 use Rattle.nbd_wire.proofs.ListedReadLemmas.{cut_behind}
 use Rattle.nbd_wire.proofs.NumberLemmas.{AreBytes-from_places}
 use Rattle.nbd_wire.proofs.FilterLemmas.{IsWhole, filter-none, filter-reads, filter-some}

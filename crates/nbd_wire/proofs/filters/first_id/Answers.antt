@@ -1,5 +1,4 @@
-use Rattle.std.proofs.Common.{◌∷◌, ◌∙◌, arith, sym}
-use Rattle.nbd_wire.specs.protocol.Payloads.{ids_of}
+use Rattle.nbd_wire.proofs.Common.{◌∷◌, ◌∙◌, arith, sym, ids_of}
 use Rattle.nbd_wire.proofs.ListedReadLemmas.{cut_behind}
 use Rattle.nbd_wire.proofs.FilterLemmas.{ids-first, ids-none}
 use Rattle.nbd_wire.proofs.filters.first_id.Goals as goal

@@ -1,5 +1,4 @@
-use Rattle.std.proofs.Common.{arith, refl, sym, ◌∙◌, ap, ◌-◌}
-use Rattle.nbd_wire.specs.protocol.Payloads.{are_queries}
+use Rattle.nbd_wire.proofs.Common.{arith, refl, sym, ◌∙◌, ap, ◌-◌, are_queries}
 use Rattle.nbd_wire.proofs.QueryLemmas.{behind, no_more, none_less, one_less}
 use Rattle.nbd_wire.proofs.option_payloads.are_queries.Goals as goal
 

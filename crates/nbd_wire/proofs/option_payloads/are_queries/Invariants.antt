@@ -1,5 +1,4 @@
-use Rattle.std.proofs.Common.{◌≡◌}
-use Rattle.nbd_wire.specs.protocol.Payloads.{are_queries}
+use Rattle.nbd_wire.proofs.Common.{◌≡◌, are_queries}
 use Rattle.nbd_wire.proofs.option_payloads.are_queries.Given as goal
 
 -- what is left answers for the whole

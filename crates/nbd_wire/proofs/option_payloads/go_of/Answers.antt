@@ -1,6 +1,5 @@
-use Rattle.std.proofs.Common.{arith, None, Some, refl, sym, ◌∙◌, ap, ◌+◌, ◌*◌, ℕ, List, subst}
+use Rattle.nbd_wire.proofs.Common.{arith, None, Some, refl, sym, ◌∙◌, ap, ◌+◌, ◌*◌, ℕ, List, subst, ReadsAs}
 use Rattle.nbd_wire.proofs.NumberLemmas.{AreBytes-from_places}
-use Rattle.nbd_wire.specs.codec.Reads.{ReadsAs}
 use Rattle.nbd_wire.proofs.ListedReadLemmas.{Go, go-no_name, go-no_rest, go-reads, go-tells}
 use Rattle.nbd_wire.proofs.option_payloads.go_of.Goals as goal
 

@@ -1,7 +1,4 @@
-use Rattle.std.proofs.Common.{None, Some, refl, sym, ◌∙◌, ap, ℕ, List, Bor, drop, subst, arith}
-use Rattle.std.specs.Option.{option_map}
-use Rattle.nbd_wire.specs.protocol.Payloads.{are_queries}
-use Rattle.nbd_wire.specs.codec.Reads.{ReadsAs}
+use Rattle.nbd_wire.proofs.Common.{None, Some, refl, sym, ◌∙◌, ap, ℕ, List, Bor, drop, subst, arith, option_map, are_queries, ReadsAs}
 use Rattle.nbd_wire.proofs.ListedReadLemmas.{cut_behind}
 use Rattle.nbd_wire.proofs.NumberLemmas.{AreBytes-from_places}
 use Rattle.nbd_wire.proofs.QueryLemmas.{Asked, name_is, queries-long, queries-reads, queries-short, queries-unnamed}

@@ -1,7 +1,5 @@
-use Rattle.std.proofs.Common.{◌≡◌, ◌+◌, ◌*◌, ◌&&◌, true, false, length, drop, refl, sym, ◌∙◌, ap, arith, length-drop}
+use Rattle.nbd_wire.proofs.Common.{◌≡◌, ◌+◌, ◌*◌, ◌&&◌, true, false, length, drop, refl, sym, ◌∙◌, ap, arith, length-drop, behind_name, is_go, is_listed, number_at, has_number}
 use Rattle.nbd_wire.specs.declared.infos.TheConstants as infos
-use Rattle.nbd_wire.specs.protocol.Payloads.{behind_name, is_go, is_listed, number_at}
-use Rattle.nbd_wire.specs.protocol.Sizes.{has_number}
 use Rattle.nbd_wire.proofs.ListedFormLemmas.{go-only}
 use Rattle.nbd_wire.proofs.ListedReadLemmas.{cut_behind}
 use Rattle.nbd_wire.proofs.NumberLemmas.{AreBytes-from_places}

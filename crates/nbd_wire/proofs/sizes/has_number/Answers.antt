@@ -1,5 +1,4 @@
-use Rattle.std.proofs.Common.{◌-◌, length, sym, ◌∙◌, ap, arith, length-drop, ◌≡◌, ◌*◌}
-use Rattle.nbd_wire.specs.protocol.Sizes.{has_number}
+use Rattle.nbd_wire.proofs.Common.{◌-◌, length, sym, ◌∙◌, ap, arith, length-drop, ◌≡◌, ◌*◌, has_number}
 use Rattle.nbd_wire.proofs.ListedReadLemmas.{cut_behind}
 use Rattle.nbd_wire.proofs.SizeLemmas.{first_is_not}
 use Rattle.nbd_wire.proofs.sizes.has_number.Goals as goal

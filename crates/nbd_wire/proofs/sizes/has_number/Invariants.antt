@@ -1,5 +1,4 @@
-use Rattle.std.proofs.Common.{◌≡◌, ◌*◌, length}
-use Rattle.nbd_wire.specs.protocol.Sizes.{has_number}
+use Rattle.nbd_wire.proofs.Common.{◌≡◌, ◌*◌, length, has_number}
 use Rattle.nbd_wire.proofs.sizes.has_number.Given as goal
 
 -- what is left answers for the whole

@@ -1,4 +1,4 @@
-use Rattle.std.proofs.Common.{true≢false, sym}
+use Rattle.nbd_capture.proofs.Common.{true≢false, sym}
 use Rattle.nbd_capture.proofs.SpellLemmas.{filled}
 use Rattle.nbd_capture.proofs.form.Form.is_empty.Goals as goal
 

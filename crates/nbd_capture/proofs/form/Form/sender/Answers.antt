@@ -1,6 +1,4 @@
-use Rattle.std.proofs.Common.{refl, subst, ◌∙◌, ap}
-use Rattle.nbd_capture.specs.declared.form.Form.TheVariants.{Digits}
-use Rattle.nbd_capture.specs.internal.Kept.{IsOf}
+use Rattle.nbd_capture.proofs.Common.{refl, subst, ◌∙◌, ap, Digits, IsOf}
 use Rattle.nbd_capture.proofs.SpellLemmas.{bad, letter_alone, odd_digits, sent, silent}
 use Rattle.nbd_capture.proofs.form.Form.sender.Goals as goal
 

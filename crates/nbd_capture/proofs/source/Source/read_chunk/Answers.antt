@@ -1,7 +1,4 @@
-use Rattle.std.proofs.Common.{◌∷◌, [], refl, arith}
-use Rattle.std.proofs.KnownBytes.{Keeps-refl}
-use Rattle.std.proofs.lemmas.Result.{err_from_is_err_and}
-use Rattle.nbd_capture.specs.internal.Kept.{kept}
+use Rattle.nbd_capture.proofs.Common.{◌∷◌, [], refl, arith, Keeps-refl, err_from_is_err_and, kept}
 use Rattle.nbd_capture.proofs.PieceLemmas.{bad_line, countable_end, next_line, no_line, unended_line}
 use Rattle.nbd_capture.proofs.ReadingStepLemmas.{reads_none, takes_none}
 use Rattle.nbd_capture.proofs.SizeLemmas.{chunk_shrinks}

@@ -1,7 +1,4 @@
-use Rattle.std.proofs.Common.{[]}
-use Rattle.nbd_capture.specs.Reading.{Reads}
-use Rattle.nbd_capture.specs.declared.reader.State.TheVariants.{Open}
-use Rattle.nbd_capture.specs.internal.Pieces.{reading}
+use Rattle.nbd_capture.proofs.Common.{[], Reads, Open, reading}
 use Rattle.nbd_capture.proofs.source.Source.read_chunk.Given as goal
 
 abbrev pub invariant-loop-side : goal.invariant-loop-side

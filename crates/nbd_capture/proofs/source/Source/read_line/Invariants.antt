@@ -1,6 +1,4 @@
-use Rattle.nbd_capture.specs.declared.reader.State.TheVariants.{Open}
-use Rattle.nbd_capture.specs.internal.Kept.{kept}
-use Rattle.nbd_capture.specs.internal.Pieces.{reading}
+use Rattle.nbd_capture.proofs.Common.{Open, kept, reading}
 use Rattle.nbd_capture.proofs.PieceLemmas.{Begins}
 use Rattle.nbd_capture.proofs.source.Source.read_line.Given as goal
 

@@ -1,6 +1,4 @@
-use Rattle.std.proofs.Common.{sym, ◌∙◌, subst, arith, refl, rules}
-use Rattle.std.specs.Io.BufRead.{FillKeeps}
-use Rattle.nbd_capture.specs.internal.Kept.{kept}
+use Rattle.nbd_capture.proofs.Common.{sym, ◌∙◌, subst, arith, refl, rules, FillKeeps, kept}
 use Rattle.nbd_capture.proofs.PieceLemmas.{some_left, takes_last, takes_part}
 use Rattle.nbd_capture.proofs.source.Source.read_piece.Goals as goal
 

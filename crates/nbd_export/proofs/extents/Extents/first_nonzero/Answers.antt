@@ -1,8 +1,4 @@
-use Rattle.std.proofs.Common.{Some, ◌∙◌, ap, ⊎_elim}
-use Rattle.nbd_export.specs.declared.kind.Kind.TheVariants.{Unknown, Zeroes, Bytes}
-use Rattle.nbd_export.specs.Extents.{byte_of}
-use Rattle.nbd_export.specs.Pages.{stored_byte}
-use Rattle.nbd_export.specs.Ranges.{zeroes}
+use Rattle.nbd_export.proofs.Common.{Some, ◌∙◌, ap, ⊎_elim, Unknown, Zeroes, Bytes, byte_of, stored_byte, zeroes}
 use Rattle.nbd_export.proofs.ExtentLemmas.{byte_of-kind}
 use Rattle.nbd_export.proofs.LeastLemmas.{least_along, none_same, none_unknown}
 use Rattle.nbd_export.proofs.extents.Extents.first_nonzero.Goals as goal

@@ -1,8 +1,4 @@
-use Rattle.std.proofs.Common.{◌+◌, Some, length, get_or, sym, ◌∙◌, ap, arith}
-use Rattle.nbd_export.specs.declared.kind.Kind.TheVariants.{Unknown, Zeroes, Bytes}
-use Rattle.nbd_export.specs.Extents.{byte_of}
-use Rattle.nbd_export.specs.Pages.{stored_byte}
-use Rattle.nbd_export.specs.Ranges.{bytes_from}
+use Rattle.nbd_export.proofs.Common.{◌+◌, Some, length, get_or, sym, ◌∙◌, ap, arith, Unknown, Zeroes, Bytes, byte_of, stored_byte, bytes_from}
 use Rattle.nbd_export.proofs.ExtentLemmas.{byte_of-kind}
 use Rattle.nbd_export.proofs.LeastLemmas.{bytes_from-here, least_along, least_unequal, none_below, none_unequal, none_unknown}
 use Rattle.nbd_export.proofs.extents.Extents.first_other.Goals as goal

@@ -1,8 +1,4 @@
-use Rattle.std.proofs.Common.{◌<◌, Some, length, slice_index, sym, ◌∙◌, ap, subst, arith}
-use Rattle.std.proofs.lemmas.Option.{slice_get-get_or}
-use Rattle.nbd_export.specs.RangeKinds.{byte_by_kind}
-use Rattle.nbd_export.specs.Pages.{stored_byte}
-use Rattle.nbd_export.specs.Starts.{FitsSize, start_byte}
+use Rattle.nbd_export.proofs.Common.{◌<◌, Some, length, slice_index, sym, ◌∙◌, ap, subst, arith, slice_get-get_or, byte_by_kind, stored_byte, FitsSize, start_byte}
 use Rattle.nbd_export.proofs.ExtentLemmas.{byte_of-kind}
 use Rattle.nbd_export.proofs.extents.Extents.new.Goals as goal
 use Rattle.nbd_export.proofs.extents.Extents.new.Goals.{in-Unknown, in-Zeroes, in-Image}

@@ -1,6 +1,4 @@
-use Rattle.std.proofs.Common.{◌+◌, refl, arith}
-use Rattle.nbd_export.specs.Extents.{byte_of}
-use Rattle.nbd_export.specs.Ranges.{zeroes}
+use Rattle.nbd_export.proofs.Common.{◌+◌, refl, arith, byte_of, zeroes}
 use Rattle.nbd_export.proofs.LeastLemmas.{least_in_part, none_in_part}
 use Rattle.nbd_export.proofs.extents.Extents.nonzero.Goals as goal
 

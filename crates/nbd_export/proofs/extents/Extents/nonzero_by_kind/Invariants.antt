@@ -1,6 +1,4 @@
-use Rattle.std.proofs.Common.{◌+◌, ◌-◌, ◌<◌, ◌≤◌, ℕ}
-use Rattle.nbd_export.specs.Extents.{byte_of}
-use Rattle.nbd_export.specs.Ranges.{DiffersIn, zeroes}
+use Rattle.nbd_export.proofs.Common.{◌+◌, ◌-◌, ◌<◌, ◌≤◌, ℕ, byte_of, DiffersIn, zeroes}
 use Rattle.nbd_export.proofs.extents.Extents.nonzero_by_kind.Given as goal
 
 abbrev pub invariant-loop-done : goal.invariant-loop-done

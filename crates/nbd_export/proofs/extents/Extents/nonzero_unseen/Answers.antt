@@ -1,4 +1,4 @@
-use Rattle.std.proofs.Common.{Some, ◌∙◌, ap}
+use Rattle.nbd_export.proofs.Common.{Some, ◌∙◌, ap}
 use Rattle.nbd_export.proofs.ExtentLemmas.{seen_same}
 use Rattle.nbd_export.proofs.extents.Extents.nonzero_unseen.Goals as goal
 

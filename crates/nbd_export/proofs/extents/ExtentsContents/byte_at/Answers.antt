@@ -1,5 +1,4 @@
-use Rattle.std.proofs.Common.{Some, sym, ◌∙◌, ap}
-use Rattle.nbd_export.specs.declared.kind.Kind.TheVariants.{Unknown, Zeroes, Bytes}
+use Rattle.nbd_export.proofs.Common.{Some, sym, ◌∙◌, ap, Unknown, Zeroes, Bytes}
 use Rattle.nbd_export.proofs.ExtentLemmas.{byte_of-kind}
 use Rattle.nbd_export.proofs.extents.ExtentsContents.byte_at.Goals as goal
 

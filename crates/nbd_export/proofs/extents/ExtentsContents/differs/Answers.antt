@@ -1,7 +1,4 @@
-use Rattle.std.proofs.Common.{◌≡◌, ◌+◌, ◌-◌, length, take, drop, arith}
-use Rattle.std.proofs.lemmas.List.{length-drop, length-take}
-use Rattle.nbd_export.specs.Extents.{byte_of}
-use Rattle.nbd_export.specs.Ranges.{bytes_from}
+use Rattle.nbd_export.proofs.Common.{◌≡◌, ◌+◌, ◌-◌, length, take, drop, arith, length-drop, length-take, byte_of, bytes_from}
 use Rattle.nbd_export.proofs.LeastLemmas.{bytes_from-same, least_in_part, none_in_part}
 use Rattle.nbd_export.proofs.extents.ExtentsContents.differs.Goals as goal
 

@@ -1,6 +1,4 @@
-use Rattle.std.proofs.Common.{◌+◌, ◌-◌, ◌<◌, ◌≤◌, ℕ, length}
-use Rattle.nbd_export.specs.Extents.{byte_of}
-use Rattle.nbd_export.specs.Ranges.{DiffersIn, bytes_from}
+use Rattle.nbd_export.proofs.Common.{◌+◌, ◌-◌, ◌<◌, ◌≤◌, ℕ, length, byte_of, DiffersIn, bytes_from}
 use Rattle.nbd_export.proofs.extents.ExtentsContents.differs.Given as goal
 
 abbrev pub invariant-loop-done : goal.invariant-loop-done

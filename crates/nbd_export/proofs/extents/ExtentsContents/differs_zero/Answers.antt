@@ -1,4 +1,4 @@
-use Rattle.std.proofs.Common.{refl, ◌∙◌}
+use Rattle.nbd_export.proofs.Common.{refl, ◌∙◌}
 use Rattle.nbd_export.proofs.ExtentLemmas.{byte_of-noted, zeroes_noted}
 use Rattle.nbd_export.proofs.extents.ExtentsContents.differs_zero.Goals as goal
 

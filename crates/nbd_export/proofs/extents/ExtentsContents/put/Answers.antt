@@ -1,8 +1,4 @@
-use Rattle.std.proofs.Common.{length, refl, ◌∙◌}
-use Rattle.std.proofs.lemmas.Result.{err_from_is_err_and}
-use Rattle.nbd_export.specs.declared.kind.Kind.TheVariants.{Bytes}
-use Rattle.nbd_export.specs.Pages.{stored_byte}
-use Rattle.nbd_export.specs.Ranges.{bytes_from}
+use Rattle.nbd_export.proofs.Common.{length, refl, ◌∙◌, err_from_is_err_and, Bytes, stored_byte, bytes_from}
 use Rattle.nbd_export.proofs.ExtentLemmas.{byte_of-same, range_made, written_byte}
 use Rattle.nbd_export.proofs.extents.ExtentsContents.put.Goals as goal
 

@@ -1,7 +1,4 @@
-use Rattle.std.proofs.Common.{refl}
-use Rattle.std.proofs.lemmas.Result.{err_from_is_err_and}
-use Rattle.nbd_export.specs.declared.kind.Kind.TheVariants.{Zeroes}
-use Rattle.nbd_export.specs.Ranges.{zeroes}
+use Rattle.nbd_export.proofs.Common.{refl, err_from_is_err_and, Zeroes, zeroes}
 use Rattle.nbd_export.proofs.ExtentLemmas.{byte_of-same, range_made}
 use Rattle.nbd_export.proofs.extents.ExtentsContents.zero.Goals as goal
 

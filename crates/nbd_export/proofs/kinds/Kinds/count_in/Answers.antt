@@ -1,6 +1,4 @@
-use Rattle.std.proofs.Common.{◌≡◌, ℕ, ◌-◌, ◌+◌, ◌<◌, ◌≤◌, ◌⊎◌, inl, inr, IsSome, ◌∙◌, ap, sym, subst, refl, arith, ⊎_elim}
-use Rattle.std.proofs.lemmas.Bool.{cases_lt}
-use Rattle.nbd_export.specs.Kinds.{kind_from, ranges_met}
+use Rattle.nbd_export.proofs.Common.{◌≡◌, ℕ, ◌-◌, ◌+◌, ◌<◌, ◌≤◌, ◌⊎◌, inl, inr, IsSome, ◌∙◌, ap, sym, subst, refl, arith, ⊎_elim, cases_lt, kind_from, ranges_met}
 use Rattle.nbd_export.proofs.KindLemmas.{met_one}
 use Rattle.nbd_export.proofs.kinds.Kinds.count_in.Goals as goal
 

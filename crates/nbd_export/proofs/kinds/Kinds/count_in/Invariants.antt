@@ -1,5 +1,4 @@
-use Rattle.std.proofs.Common.{◌≡◌, ◌-◌, ◌≤◌, ◌⊎◌, IsSome}
-use Rattle.nbd_export.specs.Kinds.{kind_from, ranges_met}
+use Rattle.nbd_export.proofs.Common.{◌≡◌, ◌-◌, ◌≤◌, ◌⊎◌, IsSome, kind_from, ranges_met}
 use Rattle.nbd_export.proofs.kinds.Kinds.count_in.Given as goal
 
 abbrev pub invariant-loop-at : goal.invariant-loop-at

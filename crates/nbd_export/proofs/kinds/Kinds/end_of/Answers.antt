@@ -1,5 +1,4 @@
-use Rattle.std.proofs.Common.{arith}
-use Rattle.nbd_export.specs.Kinds.{kind_from}
+use Rattle.nbd_export.proofs.Common.{arith, kind_from}
 use Rattle.nbd_export.proofs.KindLemmas.{kind_at-along}
 use Rattle.nbd_export.proofs.kinds.Kinds.end_of.Goals as goal
 

@@ -1,8 +1,5 @@
-use Rattle.std.proofs.Common.{◌≡◌, ℕ, ◌<◌, None, IsSome, sym, ◌∙◌, subst, ap, refl, arith}
-use Rattle.std.specs.BTreeMap.{is_at}
-use Rattle.std.specs.Map.{lookup}
+use Rattle.nbd_export.proofs.Common.{◌≡◌, ℕ, ◌<◌, None, IsSome, sym, ◌∙◌, subst, ap, refl, arith, is_at, lookup, kind_from}
 use Rattle.std.specs.Ordering.{nat_cmp}
-use Rattle.nbd_export.specs.Kinds.{kind_from}
 use Rattle.nbd_export.proofs.KindLemmas.{none_apart, one_apart, one_kind, other_key}
 use Rattle.nbd_export.proofs.kinds.Kinds.new.Goals as goal
 use Rattle.nbd_export.proofs.kinds.Kinds.new.Goals.{then-size-gt0+in_ok-insert, else-size-gt0}

@@ -1,6 +1,4 @@
-use Rattle.std.proofs.Common.{◌+◌, ◌-◌, ◌<◌, ◌≤◌, ℕ, Some}
-use Rattle.nbd_export.specs.Pages.{stored_byte}
-use Rattle.nbd_export.specs.Ranges.{DiffersIn, zeroes}
+use Rattle.nbd_export.proofs.Common.{◌+◌, ◌-◌, ◌<◌, ◌≤◌, ℕ, Some, stored_byte, DiffersIn, zeroes}
 use Rattle.nbd_export.proofs.pages.Pages.first_nonzero.Given as goal
 
 abbrev pub invariant-loop-done : goal.invariant-loop-done

@@ -1,7 +1,4 @@
-use Rattle.std.proofs.Common.{◌≡◌, ◌+◌, ◌-◌, ◌<◌, ℕ, Option, Some, length, get_or, take, drop, sym, ◌∙◌, ap, arith}
-use Rattle.std.proofs.lemmas.List.{get_or-take, length-take}
-use Rattle.nbd_export.specs.Pages.{stored_byte}
-use Rattle.nbd_export.specs.Ranges.{bytes_from}
+use Rattle.nbd_export.proofs.Common.{◌≡◌, ◌+◌, ◌-◌, ◌<◌, ℕ, Option, Some, length, get_or, take, drop, sym, ◌∙◌, ap, arith, get_or-take, length-take, stored_byte, bytes_from}
 use Rattle.nbd_export.proofs.LeastLemmas.{bytes_from-part, least_unequal, none_unequal}
 use Rattle.nbd_export.proofs.pages.Pages.first_other.Goals as goal
 

@@ -1,6 +1,4 @@
-use Rattle.std.proofs.Common.{◌+◌, ◌-◌, ◌<◌, ◌≤◌, ℕ, Some, length}
-use Rattle.nbd_export.specs.Pages.{stored_byte}
-use Rattle.nbd_export.specs.Ranges.{DiffersIn, bytes_from}
+use Rattle.nbd_export.proofs.Common.{◌+◌, ◌-◌, ◌<◌, ◌≤◌, ℕ, Some, length, stored_byte, DiffersIn, bytes_from}
 use Rattle.nbd_export.proofs.pages.Pages.first_other.Given as goal
 
 abbrev pub invariant-loop-done : goal.invariant-loop-done

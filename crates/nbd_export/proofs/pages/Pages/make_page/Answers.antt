@@ -1,10 +1,4 @@
-use Rattle.std.proofs.Common.{◌≡◌, ◌+◌, ◌/◌, ◌<◌, ◌≤◌, Some, length, slice_index, refl, sym, ◌∙◌, ap, arith, nat_cmp, ⊎_elim}
-use Rattle.std.proofs.lemmas.Bool.{cases_lt}
-use Rattle.std.proofs.lemmas.List.{get_or-replicate}
-use Rattle.std.specs.BTreeMap.{is_at}
-use Rattle.std.specs.Map.{lookup}
-use Rattle.std.specs.Option.{option_map}
-use Rattle.nbd_export.specs.declared.pages.TheConstants.{PAGE}
+use Rattle.nbd_export.proofs.Common.{◌≡◌, ◌+◌, ◌/◌, ◌<◌, ◌≤◌, Some, length, slice_index, refl, sym, ◌∙◌, ap, arith, nat_cmp, ⊎_elim, cases_lt, get_or-replicate, is_at, lookup, option_map, PAGE}
 use Rattle.nbd_export.proofs.KindLemmas.{other_key}
 use Rattle.nbd_export.proofs.PageLemmas.{stored_made, stored_same}
 use Rattle.nbd_export.proofs.pages.Pages.make_page.Goals as goal

@@ -1,5 +1,4 @@
-use Rattle.std.proofs.Common.{◌≡◌, ◌<◌, ◌≤◌, ℕ, IsSome}
-use Rattle.nbd_export.specs.Pages.{page_from, stored_byte}
+use Rattle.nbd_export.proofs.Common.{◌≡◌, ◌<◌, ◌≤◌, ℕ, IsSome, page_from, stored_byte}
 use Rattle.nbd_export.proofs.pages.Pages.make_room.Given as goal
 
 abbrev pub invariant-loop-number : goal.invariant-loop-number

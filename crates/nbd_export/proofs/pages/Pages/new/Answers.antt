@@ -1,8 +1,4 @@
-use Rattle.std.proofs.Common.{ap, ◌/◌, nat_cmp}
-use Rattle.std.specs.BTreeMap.{is_at}
-use Rattle.std.specs.Map.{lookup}
-use Rattle.std.specs.Option.{option_map}
-use Rattle.nbd_export.specs.declared.pages.TheConstants.{PAGE}
+use Rattle.nbd_export.proofs.Common.{ap, ◌/◌, nat_cmp, is_at, lookup, option_map, PAGE}
 use Rattle.nbd_export.proofs.PageLemmas.{stored_off}
 use Rattle.nbd_export.proofs.pages.Pages.new.Goals as goal
 

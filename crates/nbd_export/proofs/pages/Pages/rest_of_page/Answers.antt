@@ -1,7 +1,4 @@
-use Rattle.std.proofs.Common.{◌≡◌, ◌+◌, ◌/◌, ◌%◌, None, Some, slice_index, sym, ◌∙◌, ap, arith, rules}
-use Rattle.std.proofs.lemmas.List.{get_or_past}
-use Rattle.nbd_export.specs.declared.pages.TheConstants.{PAGE}
-use Rattle.nbd_export.specs.Pages.{page_from}
+use Rattle.nbd_export.proofs.Common.{◌≡◌, ◌+◌, ◌/◌, ◌%◌, None, Some, slice_index, sym, ◌∙◌, ap, arith, rules, get_or_past, PAGE, page_from}
 use Rattle.nbd_export.proofs.PageLemmas.{stored_along, stored_along_image}
 use Rattle.nbd_export.proofs.pages.Pages.rest_of_page.Goals as goal
 

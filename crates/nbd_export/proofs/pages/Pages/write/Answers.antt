@@ -1,8 +1,4 @@
-use Rattle.std.proofs.Common.{◌≡◌, ◌+◌, ◌-◌, ◌/◌, ◌<◌, ◌≤◌, length, slice_index, take, drop, ◌∙◌, ap, arith, ⊎_elim}
-use Rattle.std.proofs.lemmas.Bool.{cases_lt}
-use Rattle.std.proofs.lemmas.List.{length-drop, length-take, get_or-drop, get_or-take}
-use Rattle.nbd_export.specs.declared.pages.TheConstants.{PAGE}
-use Rattle.nbd_export.specs.Pages.{stored_byte}
+use Rattle.nbd_export.proofs.Common.{◌≡◌, ◌+◌, ◌-◌, ◌/◌, ◌<◌, ◌≤◌, length, slice_index, take, drop, ◌∙◌, ap, arith, ⊎_elim, cases_lt, length-drop, length-take, get_or-drop, get_or-take, PAGE, stored_byte}
 use Rattle.nbd_export.proofs.pages.Pages.write.Goals as goal
 
 pub loop-done-preserved : goal.loop-done-preserved

@@ -1,6 +1,4 @@
-use Rattle.std.proofs.Common.{◌≡◌, ◌+◌, ◌-◌, ◌/◌, ◌<◌, ◌≤◌, ℕ, IsSome, length, slice_index}
-use Rattle.nbd_export.specs.declared.pages.TheConstants.{PAGE}
-use Rattle.nbd_export.specs.Pages.{page_from, stored_byte}
+use Rattle.nbd_export.proofs.Common.{◌≡◌, ◌+◌, ◌-◌, ◌/◌, ◌<◌, ◌≤◌, ℕ, IsSome, length, slice_index, PAGE, page_from, stored_byte}
 use Rattle.nbd_export.proofs.pages.Pages.write.Given as goal
 
 abbrev pub invariant-loop-done : goal.invariant-loop-done

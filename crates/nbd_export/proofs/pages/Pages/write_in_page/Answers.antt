@@ -1,9 +1,4 @@
-use Rattle.std.proofs.Common.{◌≡◌, ◌/◌, ◌%◌, Some, slice_index, refl, sym, ◌∙◌, ap, arith, nat_cmp, IsSome, subst}
-use Rattle.std.specs.BTreeMap.{get}
-use Rattle.std.specs.Option.{option_copied_mut, option_map}
-use Rattle.std.specs.Box.{with_value}
-use Rattle.nbd_export.specs.declared.pages.Pages.{Pages}
-use Rattle.nbd_export.specs.declared.pages.TheConstants.{PAGE}
+use Rattle.nbd_export.proofs.Common.{◌≡◌, ◌/◌, ◌%◌, Some, slice_index, refl, sym, ◌∙◌, ap, arith, nat_cmp, IsSome, subst, get, option_copied_mut, option_map, with_value, Pages, PAGE}
 use Rattle.nbd_export.proofs.KindLemmas.{other_key}
 use Rattle.nbd_export.proofs.PageLemmas.{write_inside, write_outside}
 use Rattle.nbd_export.proofs.pages.Pages.write_in_page.Goals as goal

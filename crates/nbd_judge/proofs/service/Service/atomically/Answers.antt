@@ -1,4 +1,4 @@
-use Rattle.nbd_laws.proofs.service.EntryLemmas.{NamesWhole-push, whole_names}
+use Rattle.nbd_judge.proofs.Common.{NamesWhole-push, whole_names}
 use Rattle.nbd_judge.proofs.service.Service.atomically.Goals as goal
 use Rattle.nbd_judge.proofs.service.Service.atomically.Goals.{in-Unnamed, in-Whole, in-InParts}
 

@@ -1,5 +1,4 @@
-use Rattle.nbd_laws.proofs.service.EntryLemmas.{served_atomically}
-use Rattle.nbd_state.specs.Sizes.{sizes_of}
+use Rattle.nbd_judge.proofs.Common.{served_atomically, sizes_of}
 use Rattle.nbd_judge.proofs.orders.ServiceLemmas.{full, not_full}
 use Rattle.nbd_judge.proofs.service.Service.fault.Goals as goal
 

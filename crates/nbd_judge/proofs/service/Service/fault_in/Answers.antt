@@ -1,5 +1,4 @@
-use Rattle.nbd_laws.proofs.service.EntryLemmas.{served_atomically}
-use Rattle.nbd_state.specs.Sizes.{sizes_of}
+use Rattle.nbd_judge.proofs.Common.{served_atomically, sizes_of}
 use Rattle.nbd_judge.proofs.orders.ServiceLemmas.{bare_here, covered_here}
 use Rattle.nbd_judge.proofs.service.Service.fault_in.Goals as goal
 

@@ -1,5 +1,4 @@
-use Rattle.std.proofs.lemmas.Result.{IfOk-weaker}
-use Rattle.nbd_state.specs.Sizes.{sizes_of}
+use Rattle.nbd_judge.proofs.Common.{IfOk-weaker, sizes_of}
 use Rattle.nbd_judge.proofs.orders.ServiceLemmas.{no_parts}
 use Rattle.nbd_judge.proofs.service.Service.with_part.Goals as goal
 

@@ -1,16 +1,4 @@
-use Rattle.std.proofs.Common.{◌≡◌, ◌∙◌, ◌++◌, ◌∷◌, [], ap, sym, refl, subst}
-use Rattle.nbd_wire.specs.declared.message.Side.{Side}
-use Rattle.nbd_state.specs.Completions.{Answers}
-use Rattle.nbd_state.specs.Shows.{AreKnown, Shows}
-use Rattle.nbd_state.specs.declared.state.State.{State}
-use Rattle.nbd_wire.specs.protocol.Reading.{by_tests, Whole, fresh_of}
-use Rattle.nbd_session.specs.declared.held.Held.{Held}
-use Rattle.nbd_session.specs.Incoming.{IncomingView}
-use Rattle.nbd_session.specs.internal.Expecting.{message_of}
-use Rattle.nbd_session.specs.internal.Holdings.{holding_of, incoming_of}
-use Rattle.nbd_session.specs.internal.Logging.{log_of_pairs}
-use Rattle.nbd_session.specs.internal.Standing.{held_pairs}
-use Rattle.nbd_session.specs.internal.Steps.{Stands}
+use Rattle.nbd_session.proofs.Common.{◌≡◌, ◌∙◌, ◌++◌, ◌∷◌, [], ap, sym, refl, subst, Side, Answers, AreKnown, Shows, State, by_tests, Whole, fresh_of, Held, IncomingView, message_of, holding_of, incoming_of, log_of_pairs, held_pairs, Stands}
 use Rattle.nbd_session.proofs.steps.ConcludeLemmas.{answers_at, on_err, on_ok_both, whole_read}
 use Rattle.nbd_session.proofs.steps.EmptiedLemmas.{emptied_here, kept_other, mid_counted, mid_messages, mid_state, mid_stretches, mid_taken, new_holding, same_room, sides_same}
 use Rattle.nbd_session.proofs.steps.AcceptLemmas.{accepted_shut, accepted_stands, may_take, same_but_message}

@@ -1,4 +1,4 @@
-use Rattle.std.proofs.Common.{◌≤◌, ◌<◌, ◌∙◌, sym, subst, length}
+use Rattle.nbd_session.proofs.Common.{◌≤◌, ◌<◌, ◌∙◌, sym, subst, length}
 use Rattle.nbd_session.proofs.steps.ConcludeLemmas.{refused_at_end, stands_in, still_missing, whole_at_end}
 use Rattle.nbd_session.proofs.steps.SettleLemmas.{same_held}
 use Rattle.nbd_session.proofs.held.Held.conclude.Goals as goal

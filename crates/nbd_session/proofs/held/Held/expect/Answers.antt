@@ -1,4 +1,4 @@
-use Rattle.nbd_session.specs.internal.Steps.{IsHeadRefused}
+use Rattle.nbd_session.proofs.Common.{IsHeadRefused}
 use Rattle.nbd_session.proofs.steps.ConcludeLemmas.{head_refused, head_whole, knows_again, knows_expected, knows_short, length_refused}
 use Rattle.nbd_session.proofs.steps.SettleLemmas.{handed_on}
 use Rattle.nbd_session.proofs.held.Held.expect.Goals as goal

@@ -1,7 +1,4 @@
-use Rattle.std.proofs.Common.{sym, subst, None}
-use Rattle.nbd_wire.specs.declared.message.Side.TheVariants.{Client, Server}
-use Rattle.nbd_session.specs.Sessions.{IsReported, bytes_taken, open_end_fault}
-use Rattle.nbd_session.specs.Views.{session_view}
+use Rattle.nbd_session.proofs.Common.{sym, subst, None, Client, Server, IsReported, bytes_taken, open_end_fault, session_view}
 use Rattle.nbd_session.proofs.log.ReportLemmas.{reported, sound_told}
 use Rattle.nbd_session.proofs.steps.TakenLemmas.{none_on}
 use Rattle.nbd_session.proofs.held.Held.finish.Goals as goal

@@ -1,6 +1,4 @@
-use Rattle.std.proofs.Common.{◌≡◌, ◌∙◌, ap, sym, length, length-append, arith, None}
-use Rattle.nbd_session.specs.Incoming.{IncomingView}
-use Rattle.nbd_session.specs.internal.Holdings.{incoming_of}
+use Rattle.nbd_session.proofs.Common.{◌≡◌, ◌∙◌, ap, sym, length, length-append, arith, None, IncomingView, incoming_of}
 use Rattle.nbd_session.proofs.steps.HoldingLemmas.{rest_is}
 use Rattle.nbd_session.proofs.steps.MissingLemmas.{bare, first_is_missing, head_is_missing, payload_missing}
 use Rattle.nbd_session.proofs.held.Held.missing.Goals as goal

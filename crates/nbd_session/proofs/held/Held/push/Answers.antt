@@ -1,7 +1,4 @@
-use Rattle.std.proofs.Common.{◌∙◌, arith, refl, subst, sym}
-use Rattle.nbd_session.specs.internal.Holdings.{holding_of}
-use Rattle.nbd_session.specs.internal.Standing.{held_pairs}
-use Rattle.nbd_session.specs.internal.Steps.{AddsHeld, IsRefused}
+use Rattle.nbd_session.proofs.Common.{◌∙◌, arith, refl, subst, sym, holding_of, held_pairs, AddsHeld, IsRefused}
 use Rattle.nbd_session.proofs.judge.PieceLemmas.{added_then, refused_then}
 use Rattle.nbd_session.proofs.steps.SettleLemmas.{handed_on}
 use Rattle.nbd_session.proofs.held.Held.push.Goals as goal

@@ -1,5 +1,4 @@
-use Rattle.std.proofs.Common.{◌≡◌, ◌+◌, ◌<◌, length}
-use Rattle.nbd_session.specs.internal.Steps.{AddsHeld, Stands}
+use Rattle.nbd_session.proofs.Common.{◌≡◌, ◌+◌, ◌<◌, length, AddsHeld, Stands}
 use Rattle.nbd_session.proofs.held.Held.push.Given as goal
 
 -- what is held stands, and all but what is left of the piece was taken

@@ -1,8 +1,4 @@
-use Rattle.std.proofs.Common.{◌∙◌, ap, sym, subst, Some}
-use Rattle.nbd_session.specs.declared.held.Held.{Held}
-use Rattle.nbd_session.specs.declared.fault.SessionFault.TheVariants.{Wire}
-use Rattle.nbd_session.specs.internal.Holdings.{with_expected}
-use Rattle.nbd_session.specs.internal.Steps.{IsExpecting, IsSame, IsShut, Knows, Stands}
+use Rattle.nbd_session.proofs.Common.{◌∙◌, ap, sym, subst, Some, Held, Wire, with_expected, IsExpecting, IsSame, IsShut, Knows, Stands}
 use Rattle.nbd_session.proofs.steps.ConcludeLemmas.{head_missing, head_shut, is_expecting, same_expected}
 use Rattle.nbd_session.proofs.held.Held.settle.Goals as goal
 

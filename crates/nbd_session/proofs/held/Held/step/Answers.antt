@@ -1,11 +1,7 @@
-use Rattle.std.proofs.Common.{◌≤◌, ◌∙◌, ap, arith, length, drop, take}
-use Rattle.std.proofs.lemmas.List.{length-take-le}
-use Rattle.nbd_state.specs.declared.state.State.{State}
-use Rattle.nbd_session.specs.internal.Steps.{IsRefused}
+use Rattle.nbd_session.proofs.Common.{◌≤◌, ◌∙◌, ap, arith, length, drop, take, length-take-le, State, IsRefused, Memory}
 use Rattle.nbd_session.proofs.judge.PieceLemmas.{awaits_some, prefix_added, is_taken, refused_memory, refused_settling, settled_added, total_fits}
 use Rattle.nbd_session.proofs.steps.SettleLemmas.{handed_on}
 use Rattle.nbd_session.proofs.steps.TakenLemmas.{taken_count, taken_here, taken_holding, taken_other, taken_state}
-use Rattle.nbd_session.specs.declared.fault.SessionFault.TheVariants.{Memory}
 use Rattle.nbd_session.proofs.held.Held.step.Goals as goal
 
 pub take-requires-clause-stretches : goal.take-requires-clause-stretches

@@ -1,5 +1,4 @@
-use Rattle.std.proofs.Common.{◌≡◌, ◌+◌, ◌++◌, ◌∙◌, ap, sym, length, rules, false, is_some, take}
-use Rattle.std.proofs.lemmas.Slice.{take-put_mid}
+use Rattle.nbd_session.proofs.Common.{◌≡◌, ◌+◌, ◌++◌, ◌∙◌, ap, sym, length, rules, false, is_some, take, take-put_mid}
 use Rattle.nbd_session.proofs.steps.IncomingLemmas.{head_with, none_of}
 use Rattle.nbd_session.proofs.incoming.Incoming.add.Goals as goal
 

@@ -1,4 +1,4 @@
-use Rattle.std.proofs.Common.{rules}
+use Rattle.nbd_session.proofs.Common.{rules}
 use Rattle.nbd_session.proofs.judge.BeginningLemmas.{adds_nothing}
 use Rattle.nbd_session.proofs.judge.RefusalLemmas.{refuses, refuses_again, stands_exactly, stands_placeless, stands_under_way}
 use Rattle.nbd_session.proofs.session.Session.push.Goals as goal

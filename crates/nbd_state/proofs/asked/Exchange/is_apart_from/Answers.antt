@@ -1,8 +1,4 @@
-use Rattle.std.proofs.Common.{◌+◌, ◌∙◌, ◌||◌, nat_le, rules}
-use Rattle.std.proofs.lemmas.Iterator.{YieldsList-from_slice}
-use Rattle.std.proofs.lemmas.Iterator.Search.{all_from_yields_List}
-use borrow.Author.Tests.{tests}
-use Rattle.nbd_wire.specs.protocol.Pieces.{piece_offset, piece_size}
+use Rattle.nbd_state.proofs.Common.{◌+◌, ◌∙◌, ◌||◌, nat_le, rules, YieldsList-from_slice, all_from_yields_List, tests, piece_offset, piece_size}
 use Rattle.nbd_state.proofs.IndexLemmas.{all-apart}
 use Rattle.nbd_state.proofs.asked.Exchange.is_apart_from.Goals as goal
 

@@ -1,5 +1,4 @@
-use Rattle.std.proofs.Common.{[], refl, rules, sym}
-use Rattle.nbd_state.specs.internal.Showing.{carried, operation_of_head}
+use Rattle.nbd_state.proofs.Common.{[], refl, rules, sym, carried, operation_of_head}
 use Rattle.nbd_state.proofs.asked.Exchange.new.Goals as goal
 
 pub returns-clause-shown : goal.returns-clause-shown

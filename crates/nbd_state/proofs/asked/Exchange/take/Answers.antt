@@ -1,5 +1,4 @@
-use Rattle.std.proofs.Common.{◌≡◌, ◌++◌, ◌∷◌, [], ◌∙◌, ◌&&◌, ap, if◌then◌else◌, length, not, refl, sym}
-use Rattle.nbd_wire.specs.protocol.Rules.{noted}
+use Rattle.nbd_state.proofs.Common.{◌≡◌, ◌++◌, ◌∷◌, [], ◌∙◌, ◌&&◌, ap, if◌then◌else◌, length, not, refl, sym, noted}
 use Rattle.nbd_state.proofs.NotingLemmas.{counted_more, more_counts, noted_piece, open_still}
 use Rattle.nbd_state.proofs.RecordingLemmas.{exchange_shows_reply, pieces_kept, told_kept}
 use Rattle.nbd_state.proofs.asked.Exchange.take.Goals as goal

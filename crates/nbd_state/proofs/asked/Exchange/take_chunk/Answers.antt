@@ -1,12 +1,4 @@
-use Rattle.std.proofs.Common.{◌≡◌, ◌∙◌, ◌∷◌, [], ap, Bool, false, is_some, refl, sym, true}
-use Rattle.nbd_wire.specs.protocol.Contexts.{Status}
-use Rattle.nbd_wire.specs.protocol.Payloads.{extents_of}
-use Rattle.nbd_wire.specs.protocol.Pieces.{chunk_piece}
-use Rattle.nbd_wire.specs.protocol.Operations.{is_error_chunk}
-use Rattle.nbd_wire.specs.protocol.Transmission.{status_kind}
-use Rattle.nbd_laws.proofs.requests.GoodLemmas.{status_content}
-use Rattle.nbd_state.specs.internal.Completing.{is_allocation_told}
-use Rattle.nbd_state.specs.Heads.{chunk_of}
+use Rattle.nbd_state.proofs.Common.{◌≡◌, ◌∙◌, ◌∷◌, [], ap, Bool, false, is_some, refl, sym, true, Status, extents_of, chunk_piece, is_error_chunk, status_kind, status_content, is_allocation_told, chunk_of}
 use Rattle.nbd_state.proofs.HeadLemmas.{chunk_ends, chunk_fails, chunk_gives}
 use Rattle.nbd_state.proofs.RecordingLemmas.{weaken}
 use Rattle.nbd_state.proofs.asked.Exchange.take_chunk.Goals as goal

@@ -1,14 +1,5 @@
-use Rattle.std.proofs.Common.{◌≡◌, ◌<◌, ◌^◌, ◌++◌, ◌∷◌, [], ◌∙◌, ap, false, is_some, length, refl, sym}
-use Rattle.nbd_wire.specs.declared.message.Message.{Message}
-use Rattle.nbd_wire.specs.protocol.Operations.{Exporting, Operation, pieces}
-use Rattle.nbd_wire.specs.protocol.Pieces.{piece_of}
-use Rattle.nbd_wire.specs.protocol.Rules.{noted}
-use Rattle.nbd_wire.specs.protocol.States.{with_reply}
-use Rattle.nbd_wire.specs.protocol.Statuses.{is_allocation, status_in, zeroes}
-use Rattle.nbd_state.specs.Showing.{IsShown}
+use Rattle.nbd_state.proofs.Common.{◌≡◌, ◌<◌, ◌^◌, ◌++◌, ◌∷◌, [], ◌∙◌, ap, false, is_some, length, refl, sym, Message, Exporting, Operation, pieces, piece_of, noted, with_reply, is_allocation, status_in, zeroes, IsShown, Status, extents_of}
 use Rattle.nbd_state.proofs.NotingLemmas.{counted_none, none_noted, noted_first, open_still}
-use Rattle.nbd_wire.specs.protocol.Contexts.{Status}
-use Rattle.nbd_wire.specs.protocol.Payloads.{extents_of}
 use Rattle.nbd_state.proofs.RecordingLemmas.{exchange_shows_reply, no_reply_yet, pieces_first, told_more}
 use Rattle.nbd_state.proofs.ReplyLemmas.{or-false}
 use Rattle.nbd_state.proofs.ZeroLemmas.{if_proper}

@@ -1,7 +1,4 @@
-use Rattle.std.proofs.Common.{◌∙◌, ap, refl, sym}
-use Rattle.nbd_wire.specs.declared.message.Message.TheVariants.{Simple}
-use Rattle.nbd_wire.specs.protocol.Operations.{ends_reply, is_failing}
-use Rattle.nbd_wire.specs.protocol.Pieces.{piece_of, simple_piece}
+use Rattle.nbd_state.proofs.Common.{◌∙◌, ap, refl, sym, Simple, ends_reply, is_failing, piece_of, simple_piece}
 use Rattle.nbd_state.proofs.RecordingLemmas.{weaken}
 use Rattle.nbd_state.proofs.asked.Exchange.take_simple.Goals as goal
 

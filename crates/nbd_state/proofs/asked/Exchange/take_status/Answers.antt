@@ -1,9 +1,6 @@
-use Rattle.std.proofs.Common.{◌++◌, ◌∙◌, ap, append-nil, false, if◌then◌else◌, ◌==◌, refl, sym, true}
-use Rattle.nbd_state.specs.Filters.{is_settled_by}
+use Rattle.nbd_state.proofs.Common.{◌++◌, ◌∙◌, ap, append-nil, false, if◌then◌else◌, ◌==◌, refl, sym, true, is_settled_by, noted, shown_in}
 use Rattle.nbd_state.proofs.RecordingLemmas.{exchange_shows_reply, pieces_kept, some_reply_yet, told_more}
 use Rattle.nbd_state.proofs.ReplyLemmas.{or-false}
-use Rattle.nbd_wire.specs.protocol.Rules.{noted}
-use Rattle.nbd_state.specs.Moments.{shown_in}
 use Rattle.nbd_state.proofs.NotingLemmas.{open_still, shows_none}
 use Rattle.nbd_state.proofs.asked.Exchange.take_status.Goals as goal
 

@@ -1,4 +1,4 @@
-use Rattle.nbd_state.specs.Indexes.{size_from}
+use Rattle.nbd_state.proofs.Common.{size_from}
 use Rattle.nbd_state.proofs.IndexLemmas.{bare-next}
 use Rattle.nbd_state.proofs.index.SpanIndex.covers.Goals as goal
 

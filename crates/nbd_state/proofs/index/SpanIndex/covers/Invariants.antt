@@ -1,5 +1,4 @@
-use Rattle.std.proofs.Common.{◌≤◌, ◌-◌}
-use Rattle.nbd_state.specs.Indexes.{Covers, size_from}
+use Rattle.nbd_state.proofs.Common.{◌≤◌, ◌-◌, Covers, size_from}
 use Rattle.nbd_state.proofs.index.SpanIndex.covers.Given as goal
 
 abbrev pub invariant-loop-covered : goal.invariant-loop-covered

@@ -1,7 +1,5 @@
-use Rattle.std.proofs.Common.{◌≡◌, arith, is_lt, nat_cmp, false}
-use Rattle.std.proofs.lemmas.Bool.Decides.{nat_tests}
-use Rattle.std.proofs.lemmas.Grind.{common_steps}
-use Rattle.nbd_state.specs.Indexes.{size_from}
+use Rattle.nbd_state.proofs.Common.{◌≡◌, arith, is_lt, false, nat_tests, common_steps, size_from}
+use Rattle.std.proofs.Common.{nat_cmp}
 use Rattle.nbd_state.proofs.IndexLemmas.{held-from}
 use Rattle.nbd_state.proofs.index.SpanIndex.held_from.Goals as goal
 

@@ -1,7 +1,4 @@
-use Rattle.std.proofs.Common.{◌≡◌, ◌∷◌, [], arith, subst, rules}
-use Rattle.nbd_wire.specs.protocol.Pieces.{piece_offset, piece_size}
-use Rattle.nbd_state.specs.declared.span.Span.{Span}
-use Rattle.nbd_state.specs.Indexes.{HasMore, IsIndex, size_from}
+use Rattle.nbd_state.proofs.Common.{◌≡◌, ◌∷◌, [], arith, subst, rules, piece_offset, piece_size, Span, HasMore, IsIndex, size_from}
 use Rattle.nbd_state.proofs.IndexLemmas.{index-first, index-more, only-piece}
 use Rattle.nbd_state.proofs.index.SpanIndex.with.Goals as goal
 use Rattle.nbd_state.proofs.index.SpanIndex.with.Goals.{then-is_empty+in-len1+in_ok-insert+else-not-branch, else-is_empty}

@@ -1,4 +1,4 @@
-use Rattle.std.proofs.Common.{◌∙◌, ap, sym}
+use Rattle.nbd_state.proofs.Common.{◌∙◌, ap, sym}
 use Rattle.std.specs.Prelude.{◌+◌, ◌-◌, ◌==◌, ◌&&◌, Some, None, false, get_or, nat_le, if◌then◌else◌}
 use Rattle.nbd_state.proofs.PlaceLemmas.{row_more}
 use Rattle.nbd_state.proofs.outstanding.Row.extend.Goals as goal

@@ -1,11 +1,4 @@
-use Rattle.std.proofs.Common.{◌≡◌, ◌∙◌, ◌||◌, not, rules, subst, sym}
-use Rattle.std.proofs.lemmas.Iterator.Consumers.{YieldsList-from_rest}
-use Rattle.std.proofs.lemmas.Iterator.Search.{all_from_yields_List}
-use Rattle.std.specs.BTreeSet.{contains}
-use Rattle.std.specs.Ordering.{nat_cmp}
-use borrow.Author.Tests.{tests}
-use Rattle.nbd_wire.specs.protocol.Rules.{is_this}
-use Rattle.nbd_state.specs.Shows.{TellsThese}
+use Rattle.nbd_state.proofs.Common.{◌≡◌, ◌∙◌, ◌||◌, not, rules, subst, sym, YieldsList-from_rest, all_from_yields_List, contains, nat_cmp, tests, is_this, TellsThese}
 use Rattle.nbd_state.proofs.SelectionLemmas.{all_told, none_left}
 use Rattle.nbd_state.proofs.selection.Selection.are_told.Goals as goal
 

@@ -1,9 +1,5 @@
-use Rattle.std.proofs.Common.{ℕ, ◌≡◌, ◌==◌, ◌∙◌, [], Some, ap, false, if◌then◌else◌, length, not, sym, true}
-use Rattle.nbd_wire.specs.protocol.Payloads.{ids_of}
-use Rattle.nbd_laws.proofs.judge.BoolLemmas.{not_true}
+use Rattle.nbd_state.proofs.Common.{ℕ, ◌≡◌, ◌==◌, ◌∙◌, [], Some, ap, false, if◌then◌else◌, length, not, sym, true, ids_of, not_true, Asks, filter_of_head, HasSelection}
 use Rattle.nbd_wire.specs.protocol.Contexts as contexts
-use Rattle.nbd_state.specs.Filters.{Asks, filter_of_head}
-use Rattle.nbd_state.specs.Shows.{HasSelection}
 use Rattle.nbd_state.proofs.FilterLemmas.{asks_same, needs_contexts}
 use Rattle.nbd_state.proofs.RecordingLemmas.{weaken}
 use Rattle.nbd_state.proofs.selection.Selection.asking.Goals as goal

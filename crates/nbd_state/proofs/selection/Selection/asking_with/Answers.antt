@@ -1,8 +1,4 @@
-use Rattle.std.proofs.Common.{ℕ, ◌≡◌, ◌&&◌, ◌∙◌, ap, false, not, refl, rules, sym, true}
-use Rattle.std.specs.BTreeSet.{contains}
-use Rattle.std.specs.Ordering.{nat_cmp}
-use Rattle.nbd_wire.specs.protocol.Contexts.{are_once, has_id, is_among}
-use Rattle.nbd_wire.specs.protocol.Payloads.{ids_of}
+use Rattle.nbd_state.proofs.Common.{ℕ, ◌≡◌, ◌&&◌, ◌∙◌, ap, false, not, refl, rules, sym, true, contains, nat_cmp, are_once, has_id, is_among, ids_of}
 use Rattle.nbd_state.proofs.selection.Selection.asking_with.Goals as goal
 use Rattle.nbd_state.proofs.selection.Selection.asking_with.Goals.{then-has, else-has}
 

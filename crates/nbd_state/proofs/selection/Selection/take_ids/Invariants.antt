@@ -1,10 +1,5 @@
-use Rattle.std.proofs.Common.{ℕ, ◌≡◌, ◌&&◌, ◌||◌, false, not, length}
-use Rattle.std.specs.BTreeSet.{contains}
-use Rattle.std.specs.Ordering.{nat_cmp}
+use Rattle.nbd_state.proofs.Common.{ℕ, ◌≡◌, ◌&&◌, ◌||◌, false, not, length, contains, nat_cmp, are_once, has_id, is_among, ids_of, HasSelection}
 use Rattle.nbd_wire.specs.protocol.Contexts as contexts
-use Rattle.nbd_wire.specs.protocol.Contexts.{are_once, has_id, is_among}
-use Rattle.nbd_wire.specs.protocol.Payloads.{ids_of}
-use Rattle.nbd_state.specs.Shows.{HasSelection}
 use Rattle.nbd_state.proofs.selection.Selection.take_ids.Given as goal
 
 -- what was taken, and what the ids that are left say, is what all of them say

@@ -1,8 +1,4 @@
-use Rattle.std.proofs.Common.{◌∙◌, ap, refl, subst}
-use Rattle.nbd_wire.specs.declared.message.Message.TheVariants.{Answer}
-use Rattle.nbd_wire.specs.protocol.Options.{next_phase, selection_after}
-use Rattle.nbd_wire.specs.protocol.Sizes.{sizing_after}
-use Rattle.nbd_state.specs.Shows.{HasSelection, phase_shown}
+use Rattle.nbd_state.proofs.Common.{◌∙◌, ap, refl, subst, Answer, next_phase, selection_after, sizing_after, HasSelection, phase_shown}
 use Rattle.nbd_state.proofs.CompletionLemmas.{on}
 use Rattle.nbd_state.proofs.PhaseLemmas.{shows_answered}
 use Rattle.nbd_state.proofs.state.State.answer.Goals as goal

@@ -1,7 +1,4 @@
-use Rattle.std.proofs.Common.{◌∙◌, ◌&&◌, ap, refl, subst}
-use Rattle.nbd_wire.specs.protocol.Options.{agrees, choice_phase, selection_at}
-use Rattle.nbd_wire.specs.protocol.Sizes.{sizing_at}
-use Rattle.nbd_state.specs.Shows.{HasSelection, phase_shown}
+use Rattle.nbd_state.proofs.Common.{◌∙◌, ◌&&◌, ap, refl, subst, agrees, choice_phase, selection_at, sizing_at, HasSelection, phase_shown}
 use Rattle.nbd_state.proofs.CompletionLemmas.{on}
 use Rattle.nbd_state.proofs.PhaseLemmas.{shows_chosen}
 use Rattle.nbd_state.proofs.state.State.choice.Goals as goal

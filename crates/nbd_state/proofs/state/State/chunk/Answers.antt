@@ -1,7 +1,4 @@
-use Rattle.std.proofs.Common.{subst}
-use Rattle.nbd_wire.specs.protocol.Rules.{core_with_reply}
-use Rattle.nbd_state.specs.Heads.{chunk_of}
-use Rattle.nbd_state.specs.Shows.{Shows}
+use Rattle.nbd_state.proofs.Common.{subst, core_with_reply, chunk_of, Shows}
 use Rattle.nbd_state.proofs.CompletionLemmas.{on}
 use Rattle.nbd_state.proofs.state.State.chunk.Goals as goal
 

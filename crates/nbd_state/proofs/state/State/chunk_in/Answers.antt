@@ -1,12 +1,6 @@
-use Rattle.std.proofs.Common.{◌<◌, ◌∙◌, ◌&&◌, ◌==◌, if◌then◌else◌, ap, length, refl, sym, subst, None, slice_set}
-use Rattle.nbd_state.specs.Places.{place_at}
-use Rattle.nbd_state.specs.Heads.{chunk_of}
+use Rattle.nbd_state.proofs.Common.{◌<◌, ◌∙◌, ◌&&◌, ◌==◌, if◌then◌else◌, ap, length, refl, sym, subst, None, slice_set, place_at, chunk_of, State, status_in, is_allocation_told, known_first, Counts}
 use Rattle.nbd_state.proofs.HeadLemmas.{chunk_cookie, chunk_ends}
-use Rattle.nbd_state.specs.declared.state.State.{State}
-use Rattle.nbd_wire.specs.protocol.Statuses.{status_in}
-use Rattle.nbd_state.specs.internal.Completing.{is_allocation_told, known_first}
 use Rattle.nbd_state.proofs.CompletionLemmas.{counted_now, indexed, on_both, on_one, replied_shows, size_fits}
-use Rattle.nbd_state.specs.declared.recording.Counts.{Counts}
 use Rattle.nbd_state.proofs.TellingLemmas.{tells_at}
 use Rattle.nbd_state.proofs.state.State.chunk_in.Goals as goal
 

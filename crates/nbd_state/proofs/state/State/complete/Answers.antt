@@ -1,10 +1,5 @@
-use Rattle.std.proofs.Common.{◌==◌, None, ap, false, refl, subst}
+use Rattle.nbd_state.proofs.Common.{◌==◌, None, ap, false, refl, subst, MayAsk, Chunk, ExtendedChunk, ExtendedRequest, Request, Simple, MayComplete, complete, cookie_of, core_with_reply, core_with_request, operation_asked, MayTake, Shows}
 use Rattle.nbd_wire.specs.declared.commands.TheConstants as commands
-use Rattle.nbd_laws.specs.Allowed.{MayAsk}
-use Rattle.nbd_wire.specs.declared.message.Message.TheVariants.{Chunk, ExtendedChunk, ExtendedRequest, Request, Simple}
-use Rattle.nbd_wire.specs.protocol.Rules.{MayComplete, complete, cookie_of, core_with_reply, core_with_request, operation_asked}
-use Rattle.nbd_state.specs.Completions.{MayTake}
-use Rattle.nbd_state.specs.Shows.{Shows}
 use Rattle.nbd_state.proofs.CompletionLemmas.{on}
 use Rattle.nbd_state.proofs.PhaseLemmas.{answered_chunk, answered_extended, answered_simple, asked_in, chunk_in, extended_asked_in, extended_chunk_in, extended_transmits, shows_exported, shows_flags, shows_greeted, shows_same, simple_in, transmits}
 use Rattle.nbd_state.proofs.TellingLemmas.{known_added, known_kept, known_told}

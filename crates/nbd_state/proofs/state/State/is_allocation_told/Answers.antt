@@ -1,6 +1,4 @@
-use Rattle.std.proofs.Common.{◌∙◌, ap, sym}
-use Rattle.nbd_wire.specs.protocol.States.{in_force}
-use Rattle.nbd_state.specs.internal.Completing.{is_allocation_told}
+use Rattle.nbd_state.proofs.Common.{◌∙◌, ap, sym, in_force, is_allocation_told}
 use Rattle.nbd_state.proofs.state.State.is_allocation_told.Goals as goal
 
 pub returns-in-Some : goal.returns-in-Some

@@ -1,5 +1,4 @@
-use Rattle.std.proofs.Common.{refl, rules}
-use Rattle.nbd_wire.specs.protocol.States.{target}
+use Rattle.nbd_state.proofs.Common.{refl, rules, target}
 use Rattle.nbd_state.proofs.state.State.of.Goals as goal
 
 pub returns : goal.returns

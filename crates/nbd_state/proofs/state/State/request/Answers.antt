@@ -1,12 +1,5 @@
-use Rattle.std.proofs.Common.{◌≡◌, [], ◌==◌, refl, sym, subst, false, if◌then◌else◌, length, ne_eqb, not, ◌∙◌, ap}
-use Rattle.nbd_wire.specs.protocol.Rules.{core_with_request}
-use Rattle.nbd_wire.specs.protocol.Sizes.{sizes_for, sizes_kept}
-use Rattle.nbd_wire.specs.protocol.States.{has_contexts, in_force}
+use Rattle.nbd_state.proofs.Common.{◌≡◌, [], ◌==◌, refl, sym, subst, false, if◌then◌else◌, length, ne_eqb, not, ◌∙◌, ap, core_with_request, sizes_for, sizes_kept, has_contexts, in_force, Asks, filter_of_head, carried, operation_of_head, IsShown, exporting, Shows}
 use Rattle.nbd_wire.specs.declared.commands.TheConstants as commands
-use Rattle.nbd_state.specs.Filters.{Asks, filter_of_head}
-use Rattle.nbd_state.specs.internal.Showing.{carried, operation_of_head}
-use Rattle.nbd_state.specs.Showing.{IsShown, exporting}
-use Rattle.nbd_state.specs.Shows.{Shows}
 use Rattle.nbd_state.proofs.CompletionLemmas.{added_unanswered, exporting_is, on_all, requested_shows}
 use Rattle.nbd_state.proofs.state.State.request.Goals as goal
 

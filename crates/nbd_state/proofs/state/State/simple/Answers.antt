@@ -1,11 +1,5 @@
-use Rattle.std.proofs.Common.{◌<◌, ◌∙◌, ap, length, refl, sym, subst, slice_set}
-use Rattle.nbd_state.specs.Places.{place_at}
-use Rattle.nbd_wire.specs.declared.message.Message.TheVariants.{Simple}
-use Rattle.nbd_wire.specs.protocol.Operations.{ends_reply}
-use Rattle.nbd_state.specs.declared.state.State.{State}
+use Rattle.nbd_state.proofs.Common.{◌<◌, ◌∙◌, ap, length, refl, sym, subst, slice_set, place_at, Simple, ends_reply, State, Counts, known_first}
 use Rattle.nbd_state.proofs.CompletionLemmas.{counted_now, indexed, on_both, on_one, replied_shows}
-use Rattle.nbd_state.specs.declared.recording.Counts.{Counts}
-use Rattle.nbd_state.specs.internal.Completing.{known_first}
 use Rattle.nbd_state.proofs.TellingLemmas.{tells_at}
 use Rattle.nbd_state.proofs.state.State.simple.Goals as goal
 

@@ -1,7 +1,4 @@
-use Rattle.std.proofs.Common.{◌≡◌, ◌∙◌, ap, subst, length, nat_lt, slice_index_or, true, Some}
-use Rattle.nbd_wire.specs.protocol.Reports.{asked_at}
-use Rattle.nbd_state.specs.declared.asked.Exchange.{Exchange}
-use Rattle.nbd_state.specs.Transcripts.{report_of_request}
+use Rattle.nbd_state.proofs.Common.{◌≡◌, ◌∙◌, ap, subst, length, nat_lt, slice_index_or, true, Some, asked_at, Exchange, report_of_request}
 use Rattle.nbd_state.proofs.TranscriptLemmas.{counted_from_one, told_at}
 use Rattle.nbd_state.proofs.transcript.Transcript.asked.Goals as goal
 

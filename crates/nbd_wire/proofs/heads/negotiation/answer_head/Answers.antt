@@ -1,4 +1,4 @@
-use Rattle.std.proofs.Common.{arith, sym, ◌∙◌}
+use Rattle.nbd_wire.proofs.Common.{arith, sym, ◌∙◌}
 use Rattle.nbd_wire.proofs.NumberLemmas.{AreBytes-from_places}
 use Rattle.nbd_wire.proofs.HeadReadLemmas.{answer-reads, answer-none}
 use Rattle.nbd_wire.proofs.heads.negotiation.answer_head.Goals as goal

@@ -1,4 +1,4 @@
-use Rattle.std.proofs.Common.{arith}
+use Rattle.nbd_wire.proofs.Common.{arith}
 use Rattle.nbd_wire.proofs.NumberLemmas.{AreBytes-from_places}
 use Rattle.nbd_wire.proofs.HeadReadLemmas.{client_flags-reads, client_flags-none}
 use Rattle.nbd_wire.proofs.heads.negotiation.client_flags_head.Goals as goal

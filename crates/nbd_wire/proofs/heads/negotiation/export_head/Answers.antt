@@ -1,4 +1,4 @@
-use Rattle.std.proofs.Common.{arith}
+use Rattle.nbd_wire.proofs.Common.{arith}
 use Rattle.nbd_wire.proofs.NumberLemmas.{AreBytes-from_places}
 use Rattle.nbd_wire.proofs.HeadReadLemmas.{export-reads, export-none}
 use Rattle.nbd_wire.proofs.heads.negotiation.export_head.Goals as goal

@@ -1,4 +1,4 @@
-use Rattle.std.proofs.Common.{arith, sym, ◌∙◌}
+use Rattle.nbd_wire.proofs.Common.{arith, sym, ◌∙◌}
 use Rattle.nbd_wire.proofs.NumberLemmas.{AreBytes-from_places}
 use Rattle.nbd_wire.proofs.HeadReadLemmas.{greeting-reads, greeting-none}
 use Rattle.nbd_wire.proofs.heads.negotiation.greeting_head.Goals as goal

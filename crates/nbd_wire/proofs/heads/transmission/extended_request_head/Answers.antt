@@ -1,4 +1,4 @@
-use Rattle.std.proofs.Common.{arith, sym, ◌∙◌}
+use Rattle.nbd_wire.proofs.Common.{arith, sym, ◌∙◌}
 use Rattle.nbd_wire.proofs.NumberLemmas.{AreBytes-from_places}
 use Rattle.nbd_wire.proofs.HeadReadLemmas.{extended_request-reads, extended_request-none}
 use Rattle.nbd_wire.proofs.heads.transmission.extended_request_head.Goals as goal
