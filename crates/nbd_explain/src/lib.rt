@@ -1,4 +1,5 @@
-//! What is said of a session for people: why it was refused, its messages in words, an order that explains it, and that of arrival.
+//! What is said of a session for people: why it was refused, its messages in words, what it breaks of proto.md beside that, an order that
+//! explains it, and that of arrival.
 #![tactic(auto)]
 
 pub mod answer;
@@ -6,6 +7,7 @@ mod arrival;
 mod explain;
 mod fates;
 mod found;
+mod linting;
 mod listing;
 pub mod ordering;
 mod reading;
@@ -15,5 +17,6 @@ mod writing;
 pub use answer::{Answer, explain_status};
 pub use arrival::{run_arrival, run_arrival_of};
 pub use explain::{run_explain, run_explain_of};
+pub use linting::{run_lint, write_rules};
 pub use listing::{run_names, run_names_of};
 pub use ordering::{Ordered, order_status, run_order, run_order_of};
