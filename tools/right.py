@@ -40,13 +40,13 @@ class Session:
         self.random = random.Random(seed)
         self.records = [greeting(), client_flags()]
         self.structured = self.extended = self.gone = self.shut = False
-        self.mode = self.pick("none", "none", "forced", "selective")
+        self.mode = self.pick("none", "none", "none", "forced", "selective", "selective")
         self.size = self.pick(0, 512, 1000, 4096, 1 << 17, 1 << 20, 1 << 40)
         self.offers = self.random.getrandbits(12) & (FLUSHES | FUAS | TRIMS | ZEROES | CACHES) | HAS_FLAGS
         self.fast = self.offers & ZEROES and self.coin()
         self.sizes = self.pick(None, None, (1, 512, 512), (512, 512, 4096), (1, 4096, 1 << 25), (4096, 65536, 0xFFFFFFFF))
         self.unasked = self.coin()
-        self.contexts = self.random.sample(CONTEXTS, self.random.randrange(5))
+        self.contexts = self.random.sample(CONTEXTS, self.random.randrange(1, 5))
         self.selected, self.for_name = {}, None
 
     def pick(self, *choices):
@@ -78,7 +78,7 @@ class Session:
 
     def is_refused(self, number, name=None):
         """An option that the server refuses, whatever it says."""
-        if self.shut or self.coin(0.02):
+        if self.shut or self.coin(0.01):
             self.refuse(number, SHUTDOWN)
         elif self.mode == "forced" or self.mode == "selective" and name == b"secret" and number in (INFO, GO):
             self.refuse(number, TLS_REQD)
@@ -154,7 +154,7 @@ class Session:
             return
         for name_of in self.contexts:
             space = name_of.split(b":")[0] + b":"
-            if name_of in wanted or space in wanted and space != b"base:" and self.coin():
+            if name_of in wanted or space in wanted and space != b"base:":
                 number = len(self.selected) + 5
                 self.selected[number] = name_of
                 self.send(answer(SET_META_CONTEXT, META_CONTEXT, struct.pack(">I", number) + name_of))
@@ -163,7 +163,7 @@ class Session:
 
     def negotiate(self):
         """Whether it leads into transmission."""
-        for _ in range(self.random.randrange(9)):
+        for _ in range(self.random.randrange(14)):
             if self.shut:
                 break
             what = self.random.randrange(9)
@@ -192,7 +192,7 @@ class Session:
             self.send(option(EXPORT_NAME, name), entered(size=self.size, flags=self.flags()))
             self.asked_sizes, self.told_sizes = False, None
             return self.enter(name)
-        name = self.name()
+        name = self.for_name if self.selected and self.coin(0.9) else self.name()
         return self.ask(GO, name, self.infos()) and self.enter(name)
 
     def infos(self):

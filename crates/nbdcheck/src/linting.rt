@@ -50,7 +50,11 @@ impl Linting {
 }
 
 fn form_in(words: &ArgMatches<'_>) -> Form {
-    if words.get_flag("json") { Form::Json } else { Form::Text }
+    if words.get_flag("json") {
+        Form::Json
+    } else {
+        Form::Text
+    }
 }
 
 // The same without the rules that may be broken; None where one of them is none.
