@@ -116,6 +116,10 @@ ROWS = [
     ("the list comes later and lacks one", [*CHUNKS, *granted(), listing(b"base:"), ack(9)], {"base-wildcard": 1}),
     ("an option between", [*CHUNKS, *granted(), option(LIST), ack(LIST), listing(b"base:"), ack(9)], {}),
     ("the list is too big", [*CHUNKS, *granted(), listing(b"base:"), error(9, TOO_BIG)], {}),
+    ("the same selection again", [*CHUNKS, *granted(), *granted()], {"option-repeated": 1}),
+    ("another selection between", [*CHUNKS, *granted(), *granted(name=b"a"), *granted()], {}),
+    ("queries without a leaf, the other one last", [*CHUNKS, setting(b"base:", b"base:", b"qemu:"), context(1, b"qemu:a"), ack(10)],
+     {"context-by-empty-leaf": 1}),
     # Requests.
     ("DISC with FUA, which is not offered", [*begun(flags=0x65), request(DISC, 1, 0, 0, flags=FUA)], {"disc-with-flags": 1}),
     ("DISC with FUA, which is", [*begun(), request(DISC, 1, 0, 0, flags=FUA)], {"fua-on-reading": 1}),

@@ -1,5 +1,5 @@
 """docs/COVERAGE.md: it is made of tools/coverage.tsv, and it names each fault and each rule of the program, and no other; its sections are
-headings of proto.md, and its last line counts its rows."""
+headings of proto.md, and its last line counts its rows. docs/LINT.md has a row for each rule."""
 
 import re
 
@@ -25,7 +25,20 @@ def rules():
     return {name: level.lower() for level, name in found}
 
 
+def rows_of_lint():
+    """The rows of docs/LINT.md: the name of a rule, whom it binds, and its section, in their order."""
+    return re.findall(r"(?m)^\| `([\w-]+)` \| (\w+) \| ([^|]+) \| [^|]+ \| [^|]+ \|$", (TOP / "docs/LINT.md").read_text())
+
+
+def stated():
+    """The same of the program."""
+    table = (TOP / "crates/nbd_lint/src/table.rt").read_text()
+    found = re.findall(r'who: Who::(\w+),\s+name: "([\w-]+)",\s+lines: "[^"]*",\s+section: "([^"]*)"', table)
+    return [(name, who.lower(), section) for who, name, section in found]
+
+
 def run(tally):
+    tally.want("docs/LINT.md: its rules", rows_of_lint(), stated())
     table, page = coverage.rows(), coverage.PAGE.read_text()
     tally.want("docs/COVERAGE.md is made by tools/coverage.py write", page.split("\n"), coverage.page().split("\n"))
     known = {name.replace("`", "") for name in (TOP / "tests/repository/headings.txt").read_text().splitlines()}
