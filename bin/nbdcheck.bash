@@ -20,6 +20,7 @@ _nbdcheck() {
         [explain]="--start --profile --states --steps --hints --help"
         [order]="--start --profile --whole --arrival --states --steps --hints --help"
         [show]="--names --profile --hints --help"
+        [lint]="--profile --level --allow --json --list --hints --help"
         [make]="--hints --help"
         [help]=""
     )
@@ -34,6 +35,10 @@ _nbdcheck() {
         _nbdcheck_words "$starts" "$word"
     elif [ "$before" = --profile ]; then
         _nbdcheck_words "base wide" "$word"
+    elif [ "$before" = --level ]; then
+        _nbdcheck_words "must should hint" "$word"
+    elif [ "$before" = --allow ]; then
+        _nbdcheck_words "$(nbdcheck lint --list 2>/dev/null | cut -d ' ' -f 3)" "$word"
     elif [[ $word = -* ]]; then
         _nbdcheck_words "${options[$name]:-}" "$word"
     else

@@ -36,7 +36,7 @@ def examples(tally, room):
 
 def words(tally, room):
     """Help, the version, and words that have no form."""
-    for asked in (["--help"], ["--version"], *([name, "--help"] for name in ("check", "explain", "order", "show", "make"))):
+    for asked in (["--help"], ["--version"], *([name, "--help"] for name in ("check", "explain", "order", "show", "lint", "make"))):
         found = room.run(*asked)
         tally.want(f"{asked}", (found.status, found.err), (0, b""))
         tally.holds(f"{asked}", b"nbdcheck" in found.out, found.out)

@@ -1,4 +1,5 @@
-//! What is said of a session: its messages as lines and in words, why it was refused, an order that explains it, and that of arrival.
+//! What is said of a session: its messages as lines and in words, why it was refused, what it breaks of proto.md beside that, an order
+//! that explains it, and that of arrival.
 #![tactic(auto)]
 
 pub mod answer;
@@ -7,6 +8,7 @@ mod explain;
 mod fates;
 mod found;
 pub mod laws;
+mod linting;
 mod listing;
 pub mod ordering;
 mod reading;
@@ -17,6 +19,7 @@ mod writing;
 pub use answer::{Answer, explain_status};
 pub use arrival::{run_arrival, run_arrival_of};
 pub use explain::{run_explain, run_explain_of};
+pub use linting::{run_lint, write_rules};
 pub use listing::{run_names, run_names_of};
 pub use ordering::{Ordered, order_status, run_order, run_order_of};
 pub use show::{run_show, run_show_of};

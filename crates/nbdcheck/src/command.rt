@@ -8,6 +8,7 @@ ghost use Rattle.nbd_explain.specs.Ordering as ordering;
 use crate::asked::{Asked, BadWord};
 use crate::files::{Output, explain_files, order_files, write_of};
 use crate::hints::{tell_of_capture, tell_of_fault};
+use crate::linting::{Linting, lint_files};
 use crate::words::command;
 use clap::error::ErrorKind;
 use clap::{ArgMatches, Error};
@@ -58,6 +59,10 @@ fn words(rt: &HostRuntime) -> io::Result<Vec<String>> {
 
 fn run_matched(rt: &HostRuntime, matches: &ArgMatches<'_>) -> u8 {
     match matches.subcommand() {
+        Some(("lint", words)) => {
+            let files = Files::new(rt, words.get_flag("hints"));
+            run_lint(files, Asked::of(words), Linting::of(words))
+        }
         Some((command, words)) => {
             let files = Files::new(rt, words.get_flag("hints"));
             run_command(files, command, Asked::of(words))
@@ -70,11 +75,26 @@ fn run_command(files: Files<'_>, command: &str, asked: Result<Asked<'_>, BadWord
     let mut files = files;
     match asked {
         Ok(asked) => run_asked(&mut files, command, &asked),
-        Err(word) => {
-            tell(files.rt, word.fault);
-            files.hint(word.reason);
-            USAGE
-        }
+        Err(word) => refuse(&files, word),
+    }
+}
+
+/// Says what is wrong with a word.
+fn refuse(files: &Files<'_>, word: BadWord) -> u8 {
+    tell(files.rt, word.fault);
+    files.hint(word.reason);
+    USAGE
+}
+
+fn run_lint(
+    files: Files<'_>,
+    asked: Result<Asked<'_>, BadWord>,
+    linting: Result<Linting, BadWord>,
+) -> u8 {
+    let mut files = files;
+    match (asked, linting) {
+        (Ok(asked), Ok(linting)) => lint(&mut files, &asked, &linting),
+        (Err(word), _) | (_, Err(word)) => refuse(&files, word),
     }
 }
 
@@ -180,6 +200,16 @@ fn show(files: &mut Files<'_>, asked: &Asked<'_>) -> u8 {
     };
     let answer = write_of(files, asked.input, output);
     reported(files, &answer, asked)
+}
+
+/// `nbdcheck lint CAPTURE`.
+fn lint(files: &mut Files<'_>, asked: &Asked<'_>, linting: &Linting) -> u8 {
+    let answer = lint_files(files, asked, linting);
+    if linting.is_list {
+        files.report(&answer)
+    } else {
+        reported(files, &answer, asked)
+    }
 }
 
 /// `nbdcheck make SCRIPT`.

@@ -6,6 +6,7 @@ mod command;
 mod files;
 mod glance;
 mod hints;
+mod linting;
 mod mistakes;
 mod words;
 

@@ -38,12 +38,20 @@ enum Form {
         value: &'static str,
         usual: &'static str,
     },
+    // An option and what is named so in help, which may stand more than once.
+    Many {
+        value: &'static str,
+    },
 }
 
 /// What the export held at first, where it is not said.
 pub const USUAL_START: &str = "unknown";
 /// What the session is held to, where it is not said.
 pub const USUAL_PROFILE: &str = "base";
+/// How far a session is read to be judged by `lint`, where it is not said.
+const WIDEST_PROFILE: &str = "wide";
+/// Down to which level `lint` tells, where it is not said.
+pub const USUAL_LEVEL: &str = "should";
 
 const CAPTURE: Word = Word {
     name: "CAPTURE",
@@ -128,6 +136,54 @@ const HINTS: Word = Word {
     excludes: &[],
 };
 
+const CAPTURE_OR_LIST: Word = Word {
+    name: "CAPTURE",
+    form: Form::File { is_required: false },
+    help: "The file of the capture text",
+    excludes: &[],
+};
+
+const LINT_PROFILE: Word = Word {
+    name: "profile",
+    form: Form::Choice {
+        value: "PROFILE",
+        usual: WIDEST_PROFILE,
+    },
+    help: "How far the session is read: as a session of the profile base, or of wide",
+    excludes: &[],
+};
+
+const LEVEL: Word = Word {
+    name: "level",
+    form: Form::Choice {
+        value: "LEVEL",
+        usual: USUAL_LEVEL,
+    },
+    help: "Down to which level is told: must, should or hint",
+    excludes: &[],
+};
+
+const ALLOW: Word = Word {
+    name: "allow",
+    form: Form::Many { value: "RULE" },
+    help: "A rule that may be broken; may stand more than once",
+    excludes: &[],
+};
+
+const JSON: Word = Word {
+    name: "json",
+    form: Form::Flag,
+    help: "Prints an object of JSON a line",
+    excludes: &[],
+};
+
+const LIST: Word = Word {
+    name: "list",
+    form: Form::Flag,
+    help: "Prints the rules: level, who is bound, name, and the lines of proto.md",
+    excludes: &["CAPTURE", "allow", "json"],
+};
+
 const SCRIPT: Word = Word {
     name: "SCRIPT",
     form: Form::File { is_required: true },
@@ -161,6 +217,20 @@ const COMMANDS: &[Told] = &[
         about: "Which messages does a capture hold?",
         help: SHOW_HELP,
         words: &[CAPTURE, NAMES, PROFILE, HINTS],
+    },
+    Told {
+        name: "lint",
+        about: "Which sentences of proto.md does a session break, beside what 'check' says?",
+        help: LINT_HELP,
+        words: &[
+            CAPTURE_OR_LIST,
+            LINT_PROFILE,
+            LEVEL,
+            ALLOW,
+            JSON,
+            LIST,
+            HINTS,
+        ],
     },
     Told {
         name: "make",
@@ -248,6 +318,24 @@ Exit status:
   3  the capture could not be read or is not well formed, or the output could not be written
   4  out of memory";
 
+const LINT_HELP: &str = "\
+Example:
+  nbdcheck lint session.cap
+
+Prints a line for each rule that a side broke, at the first message that did:
+  must at byte 18: server: handshake-flags: the greeting has flags 0x0007; ..
+A right client or server never breaks a rule of level must; one of level should is advice of proto.md,
+and a hint, which --level hint tells, is neither. '(2 more)' says that two later messages broke it too.
+The last line counts the lines of each level. Where the session is refused, the line of 'nbdcheck show'
+stands before it. What a client should not have sent is not told here: 'nbdcheck explain' lists it.
+
+Exit status:
+  0  no line of level must, and the session was accepted
+  1  a line of level must, or the session was refused
+  2  the command line has no form, or names a rule that there is not
+  3  the capture could not be read or is not well formed, or the output could not be written
+  4  out of memory";
+
 const MAKE_HELP: &str = "\
 Example:
   nbdcheck make session.script > session.cap
@@ -317,5 +405,9 @@ fn formed<'a>(argument: Arg<'a>, word: Word) -> Arg<'a> {
             .long(word.name)
             .value_name(value)
             .default_value(usual),
+        Form::Many { value } => argument
+            .long(word.name)
+            .value_name(value)
+            .action(ArgAction::Append),
     }
 }

@@ -1,0 +1,106 @@
+//! The command `lint`, over any reader and writer.
+
+ghost use Rattle.std.specs.Prelude.{IfErr, OnOk};
+ghost use Rattle.nbd_explain.specs.Ordering.{LeavesOrdered};
+ghost use Rattle.nbd_files.specs.Starts.{IsWithinLimit};
+ghost use Rattle.nbd_explain.specs.Shown.{IsShowCause};
+
+use nbd_capture::write_whole;
+use nbd_judge::Verdict;
+use nbd_files::RunFault;
+use nbd_lint::{Level, Linter, Refusal, Report, Runs, Wanted, is_kept, listed};
+use nbd_session::{Session, SessionFault};
+use nbd_tool::{Witness, line_of, session_over};
+use nbd_wire::{Profile, Side, WireFault};
+use std::alloc::{AllocError, Global};
+use std::io::{BufRead, Write};
+
+/// Counts the bytes that it is shown.
+#[derive(Drop)]
+struct Counter {
+    runs: Runs,
+}
+
+impl Witness for Counter {
+    fn see(&mut self, side: Side, bytes: &[u8]) -> Result<(), AllocError> {
+        self.runs.add(side, bytes.len() as u64)
+    }
+}
+
+/// Reads a capture text to its end, and writes what the messages that its session of this profile accepts break of proto.md,
+/// a line for each rule and side; where the session was refused its line; and how many lines of each level stand there.
+/// Answers true where no line of level must stands there and the session was accepted.
+///
+/// An `Err` is a fault of the text, of its reader or of the writer, or out of memory. Nothing is written unless the capture
+/// was read whole and is well formed. After `Write` some of the lines may stand written.
+pub fn run_lint<C: BufRead + Drop, W: Write>(
+    alloc: Global,
+    profile: Profile,
+    capture: C,
+    wanted: &Wanted,
+    out: &mut W,
+) -> Result<bool, RunFault>
+    ensures limited { OnOk result (IsWithinLimit (C.remaining capture)) }
+    ensures cause { IfErr result (IsShowCause (C.remaining capture)) }
+    ensures left { IfErr result (LeavesOrdered (W.contents out.old) (W.contents out.new)) }
+{
+    let mut counter = Counter {
+        runs: Runs::none(alloc),
+    };
+    let session = session_over(alloc, profile, capture, &mut counter)?;
+    let report = report_of(alloc, session, &counter.runs, wanted)?;
+    write_whole(out, report.text.as_bytes())?;
+    Ok(is_kept(report.musts, report.is_refused))
+}
+
+// What is written of a session that was read whole.
+fn report_of(
+    alloc: Global,
+    session: Session,
+    runs: &Runs,
+    wanted: &Wanted,
+) -> Result<Report, AllocError> {
+    let are_hinting = wanted.level == Level::Hint;
+    let linter = Linter::of(alloc, session.messages(), runs, are_hinting);
+    match session.finish() {
+        Ok(_) => accepted(alloc, linter, runs, wanted),
+        Err(SessionFault::Wire { at, fault }) => refused(alloc, linter, at, fault, wanted),
+        Err(SessionFault::Memory) => Err(AllocError),
+    }
+}
+
+// The same of one that was accepted.
+fn accepted(
+    alloc: Global,
+    mut linter: Linter,
+    runs: &Runs,
+    wanted: &Wanted,
+) -> Result<Report, AllocError> {
+    linter.close(runs.count());
+    Report::of(alloc, linter, None, wanted)
+}
+
+// The same of one that was refused at this place.
+fn refused(
+    alloc: Global,
+    linter: Linter,
+    place: u64,
+    fault: WireFault,
+    wanted: &Wanted,
+) -> Result<Report, AllocError> {
+    let line = line_of(alloc, Verdict::Wire { at: place, fault })?;
+    let refusal = Refusal {
+        line: line.as_str(),
+        place,
+    };
+    Report::of(alloc, linter, Some(refusal), wanted)
+}
+
+/// The rules, a line each: level, side, name, and the lines of proto.md that have it.
+pub fn write_rules<W: Write>(alloc: Global, out: &mut W) -> Result<bool, RunFault>
+    ensures left { IfErr result (LeavesOrdered (W.contents out.old) (W.contents out.new)) }
+{
+    let text = listed(alloc)?;
+    write_whole(out, text.as_bytes())?;
+    Ok(true)
+}

@@ -1,0 +1,44 @@
+//! What a session breaks of proto.md that its verdict does not tell: a line for each rule and side that broke it.
+//!
+//! A rule is a question to one accepted message and to what came before it: a function that returns how the message breaks
+//! it, and a row of the table. A `Linter` takes the messages one after the other, and has of the session what the rules ask:
+//! the options with their answers, and of the outstanding requests their replies so far. Of an answered request it has
+//! nothing. No byte is read here but those of payloads, by the readers of nbd_wire. Proved is that each call returns; what
+//! the rules say is tested.
+#![tactic(auto)]
+
+mod answers;
+mod asked;
+mod breach;
+mod chunks;
+mod contexts;
+mod endings;
+mod errors;
+mod fields;
+mod handshake;
+mod infos;
+mod line;
+mod linter;
+mod negotiation;
+mod notes;
+mod numbers;
+mod objects;
+mod options;
+mod places;
+mod queries;
+mod reasons;
+mod reply;
+mod report;
+mod requests;
+mod sizes;
+mod statuses;
+mod strings;
+mod table;
+mod tls;
+mod transmission;
+mod wildcards;
+
+pub use linter::Linter;
+pub use places::Runs;
+pub use report::{Form, Refusal, Report, Wanted, is_kept, listed};
+pub use table::{Level, rule_named};

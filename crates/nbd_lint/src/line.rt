@@ -1,0 +1,205 @@
+//! The sentence of a breach.
+
+use crate::breach::Breach;
+use crate::queries::first_query;
+use nbd_wire::names::{COMMANDS, ERRORS, INFOS, Name, OPTIONS, REPLIES, name_in};
+use nbd_wire::{listed_of, queries_of};
+use std::alloc::{AllocError, Global};
+use std::fmt::Write;
+
+/// How many bytes of a name are told.
+const NAMED: usize = 40;
+
+/// How many queries are listed.
+const LISTED: u32 = 4;
+
+/// A text that grows by what is said. Once memory was refused it is not handed out.
+#[derive(Drop)]
+pub struct Line {
+    text: String,
+    is_refused: bool,
+}
+
+impl Line {
+    /// One without a word; takes no memory.
+    pub fn new(alloc: Global) -> Line {
+        Line {
+            text: String::new(alloc),
+            is_refused: false,
+        }
+    }
+
+    /// What was said, where there was memory for all of it.
+    pub fn finish(self) -> Result<String, AllocError> {
+        if self.is_refused {
+            Err(AllocError)
+        } else {
+            Ok(self.text)
+        }
+    }
+
+    /// Adds words.
+    pub fn say(&mut self, words: &str) {
+        self.is_refused |= self.text.push_str(words).is_err();
+    }
+
+    /// Adds a number.
+    pub fn number(&mut self, number: u64) {
+        self.is_refused |= write!(self.text, "{number}").is_err();
+    }
+
+    /// Adds words and a number.
+    pub fn with(&mut self, words: &str, number: u64) {
+        self.say(words);
+        self.number(number);
+    }
+
+    /// Notes that memory was refused for what it would say, where that is so.
+    pub fn refused_if(&mut self, is_refused: bool) {
+        self.is_refused |= is_refused;
+    }
+
+    // Adds a number in hexadecimal, with four digits or more.
+    fn hexadecimal(&mut self, number: u64) {
+        self.is_refused |= write!(self.text, "0x{number:04x}").is_err();
+    }
+
+    // Adds a byte as it stands between quotation marks.
+    fn byte(&mut self, byte: u8) {
+        self.is_refused |= if byte.is_ascii_graphic() && byte != b'"' && byte != b'\\' {
+            self.text.push(char::from(byte)).is_err()
+        } else {
+            write!(self.text, "\\x{byte:02x}").is_err()
+        };
+    }
+
+    // Adds a name between quotation marks; of a longer one the first bytes.
+    fn quoted(&mut self, name: &[u8]) {
+        self.say("\"");
+        for byte in name.get(..NAMED).unwrap_or(name) {
+            self.byte(*byte);
+        }
+        self.say("\"");
+    }
+
+    // Adds the first queries in the data of an option, and how many more there are.
+    fn queries(&mut self, payload: &[u8]) {
+        let Some((_, count)) = queries_of(payload) else {
+            return;
+        };
+        let mut rest = first_query(payload);
+        for number in 0..count.min(LISTED) {
+            let Some((query, behind)) = listed_of(rest) else {
+                return;
+            };
+            self.say(if number == 0 { "" } else { ", " });
+            self.quoted(query);
+            rest = behind;
+        }
+        if count > LISTED {
+            self.with(" and ", u64::from(count - LISTED));
+            self.say(" more");
+        }
+    }
+
+    // Adds the name of a number, behind a prefix that is left out; one that the table does not have as a noun and the number.
+    fn name(&mut self, table: &[Name], prefix: &str, noun: &str, number: u64) {
+        match name_in(table, (number & 0xffff_ffff) as u32) {
+            Some(name) => self.say(name.strip_prefix(prefix).unwrap_or(name)),
+            None => self.with(noun, number),
+        }
+    }
+
+    // Adds a kind of reply to an option; 0 is the answer to EXPORT_NAME.
+    fn reply(&mut self, kind: u64) {
+        if kind == 0 {
+            self.say("an export");
+        } else if name_in(REPLIES, (kind & 0xffff_ffff) as u32).is_some() {
+            self.name(REPLIES, "NBD_REP_", "", kind);
+        } else {
+            self.say("error ");
+            self.hexadecimal(kind);
+        }
+    }
+
+    // Adds an error of a request, with its number.
+    fn error(&mut self, number: u64) {
+        match name_in(ERRORS, (number & 0xffff_ffff) as u32) {
+            Some(name) => {
+                self.say(name);
+                self.with(" (", number);
+                self.say(")");
+            }
+            None => self.with("error ", number),
+        }
+    }
+
+    // Adds a request with its type.
+    fn request(&mut self, breach: &Breach<'_>) {
+        self.with("request ", breach.request);
+        self.say(" (");
+        self.name(COMMANDS, "", "command ", u64::from(breach.command));
+        self.say(")");
+    }
+
+    // Adds which string it is.
+    fn string(&mut self, breach: &Breach<'_>) {
+        self.say(breach.string.words);
+        if breach.string.number != 0 {
+            self.with(" ", breach.string.number);
+        }
+    }
+
+    // Adds what stands for braces with these words and no number.
+    fn put(&mut self, form: &str, breach: &Breach<'_>) {
+        let [first, second] = breach.names;
+        match form {
+            "request" => self.request(breach),
+            "string" => self.string(breach),
+            "name" => self.quoted(first),
+            "other" => self.quoted(second),
+            _ => self.queries(second),
+        }
+    }
+
+    // Adds a number as its braces ask; where they ask for none, returns false.
+    fn put_number(&mut self, form: &str, number: u64) -> bool {
+        match form {
+            "" => self.number(number),
+            "flags" => self.hexadecimal(number),
+            "option" => self.name(OPTIONS, "NBD_OPT_", "option ", number),
+            "reply" => self.reply(number),
+            "info" => self.name(INFOS, "NBD_INFO_", "type ", number),
+            "error" => self.error(number),
+            _ => return false,
+        }
+        true
+    }
+
+    /// Adds a sentence, with what a breach says in the places of its braces: `{}` is a number, `{flags}` one in hexadecimal,
+    /// `{option}`, `{reply}`, `{info}` and `{error}` the names of numbers; `{request}`, `{string}`, `{name}`, `{other}` and
+    /// `{queries}` what the breach speaks of beside its numbers.
+    pub fn sentence(&mut self, words: &str, breach: &Breach<'_>) {
+        let mut rest = words;
+        let mut next = 0;
+        for _ in 0..words.len() {
+            let Some((before, behind)) = rest.split_once("{") else {
+                break;
+            };
+            let (form, later) = behind.split_once("}").unwrap_or((behind, ""));
+            self.say(before);
+            if self.put_number(form, number_at(breach, next)) {
+                next = next.saturating_add(1);
+            } else {
+                self.put(form, breach);
+            }
+            rest = later;
+        }
+        self.say(rest);
+    }
+}
+
+// The number in this place of a sentence; 0 where it has no more.
+fn number_at(breach: &Breach<'_>, place: usize) -> u64 {
+    breach.numbers.get(place).copied().unwrap_or(0)
+}

@@ -1,0 +1,139 @@
+//! The places in a capture at which messages end.
+
+use nbd_wire::{Message, Side, head_lengths, side_of};
+use std::alloc::{AllocError, Global};
+
+/// So many bytes that a side sent one after the other.
+#[derive(Clone, Copy)]
+struct Run {
+    side: Side,
+    count: u64,
+}
+
+/// Which side sent how many bytes, one after the other.
+#[derive(Drop)]
+pub struct Runs {
+    runs: Vec<Run>,
+    count: u64,
+}
+
+impl Runs {
+    /// No bytes; takes no memory.
+    pub fn none(alloc: Global) -> Runs {
+        Runs {
+            runs: Vec::new(alloc),
+            count: 0,
+        }
+    }
+
+    /// The next bytes are so many of this side. After an `Err`, that memory ran out, all is as it was.
+    pub fn add(&mut self, side: Side, count: u64) -> Result<(), AllocError> {
+        match self.runs.last_mut() {
+            Some(run) if run.side == side => run.count = run.count.saturating_add(count),
+            _ => self.runs.push(Run { side, count })?,
+        }
+        self.count = self.count.saturating_add(count);
+        Ok(())
+    }
+
+    /// How many bytes there are.
+    pub fn count(&self) -> u64 {
+        self.count
+    }
+}
+
+/// How far the bytes of a side were walked.
+#[derive(Clone, Copy, Drop)]
+struct Walk {
+    side: Side,
+    /// How many bytes its messages have.
+    taken: u64,
+    /// The next run.
+    next: usize,
+    /// How many bytes of the side stand in the runs before it, and how many of both sides.
+    own: u64,
+    all: u64,
+}
+
+impl Walk {
+    fn of(side: Side) -> Walk {
+        Walk {
+            side,
+            taken: 0,
+            next: 0,
+            own: 0,
+            all: 0,
+        }
+    }
+
+    // Goes over so many bytes more of the side, and returns the place of the last of them.
+    fn place_behind(&mut self, runs: &Runs, length: u64) -> u64 {
+        self.taken = self.taken.saturating_add(length);
+        let rest = runs.runs.get(self.next..).unwrap_or(&[]);
+        for run in rest {
+            if self.own >= self.taken {
+                break;
+            }
+            self.pass(*run);
+        }
+        self.all.saturating_sub(self.own.saturating_sub(self.taken))
+    }
+
+    // Goes over a run.
+    fn pass(&mut self, run: Run) {
+        self.next = self.next.saturating_add(1);
+        self.all = self.all.saturating_add(run.count);
+        if run.side == self.side {
+            self.own = self.own.saturating_add(run.count);
+        }
+    }
+}
+
+/// A walk over the messages of a capture, in the order of their completion, which finds the place of each last byte. Each run
+/// is looked at once a side.
+#[derive(Drop)]
+pub struct Places {
+    client: Walk,
+    server: Walk,
+}
+
+impl Places {
+    /// Before the first message.
+    pub fn first() -> Places {
+        Places {
+            client: Walk::of(Side::Client),
+            server: Walk::of(Side::Server),
+        }
+    }
+
+    /// The place of the last byte of the next message, from 1.
+    pub fn place_of(&mut self, runs: &Runs, message: &Message) -> u64 {
+        let length = length_of(message);
+        match side_of(message) {
+            Side::Client => self.client.place_behind(runs, length),
+            Side::Server => self.server.place_behind(runs, length),
+        }
+    }
+}
+
+// How many bytes a message has.
+fn length_of(message: &Message) -> u64 {
+    let (head, behind) = match message {
+        Message::Greeting { .. } => (head_lengths::GREETING, 0),
+        Message::ClientFlags { .. } => (head_lengths::CLIENT_FLAGS, 0),
+        Message::Exported { padded: true, .. } => (head_lengths::EXPORT, head_lengths::PADDING),
+        Message::Exported { padded: false, .. } => (head_lengths::EXPORT, 0),
+        Message::Choice { payload, .. } => (head_lengths::CHOICE, payload.as_slice().len()),
+        Message::Answer { payload, .. } => (head_lengths::ANSWER, payload.as_slice().len()),
+        Message::Request { payload, .. } => (head_lengths::REQUEST, payload.as_slice().len()),
+        Message::Simple { payload, .. } => (head_lengths::SIMPLE, payload.as_slice().len()),
+        Message::Chunk { payload, .. } => (head_lengths::CHUNK, payload.as_slice().len()),
+        Message::ExtendedRequest { payload, .. } => {
+            (head_lengths::EXTENDED_REQUEST, payload.as_slice().len())
+        }
+        Message::ExtendedChunk { payload, .. } => {
+            (head_lengths::EXTENDED_CHUNK, payload.as_slice().len())
+        }
+    };
+    (head as u64).saturating_add(behind as u64)
+}

@@ -1,0 +1,121 @@
+//! What came of the reply to a request.
+
+ghost use Rattle.std.specs.Prelude.{◌≤◌};
+
+use crate::numbers::SECTOR;
+use nbd_wire::Content;
+use std::alloc::{AllocError, Global};
+use std::collections::{BTreeMap, BTreeSet};
+
+/// A range of the export with content: its first offset and its last.
+#[derive(Clone, Copy, Drop)]
+pub struct Piece {
+    pub first: u64,
+    pub last: u64,
+    ghost ordered: { first ≤ last },
+}
+
+/// What came of a reply.
+#[derive(Drop)]
+pub struct Reply {
+    /// How many errors.
+    pub errors: u64,
+    /// An error without offset.
+    pub has_error: bool,
+    /// EOVERFLOW without offset.
+    pub has_eoverflow: bool,
+    /// Content.
+    pub has_content: bool,
+    /// The last chunk is content or a status.
+    pub is_behind_payload: bool,
+    /// The first offset at which content is cut where it should not be.
+    pub cut: Option<u64>,
+    /// The offsets of errors.
+    pub offsets: BTreeSet<u64>,
+    /// The pieces of content, by their first offsets.
+    pub pieces: BTreeMap<u64, Piece>,
+}
+
+impl Reply {
+    /// Nothing; takes no memory.
+    pub fn none(alloc: Global) -> Reply {
+        Reply {
+            errors: 0,
+            has_error: false,
+            has_eoverflow: false,
+            has_content: false,
+            is_behind_payload: false,
+            cut: None,
+            offsets: BTreeSet::new(alloc),
+            pieces: BTreeMap::new(alloc),
+        }
+    }
+
+    /// The offset of an error within a piece, if there is one.
+    pub fn error_in(&self, piece: Piece) -> Option<u64> {
+        self.offsets.range(piece.first..=piece.last).next().copied()
+    }
+
+    /// The piece that has an offset, if there is one.
+    pub fn piece_at(&self, offset: u64) -> Option<Piece> {
+        let (_, piece) = self.pieces.range(..=offset).next_back()?;
+        if piece.last < offset {
+            return None;
+        }
+        Some(*piece)
+    }
+
+    /// Takes content, which is cut here where it should not be.
+    pub fn add(&mut self, piece: Piece, cut: Option<u64>) -> Result<(), AllocError> {
+        self.has_content = true;
+        self.is_behind_payload = true;
+        self.cut = self.cut.or(cut);
+        self.pieces.insert(piece.first, piece)?;
+        Ok(())
+    }
+
+    /// Takes an error.
+    pub fn fail(&mut self, offset: Option<u64>, is_eoverflow: bool) -> Result<(), AllocError> {
+        self.errors = self.errors.saturating_add(1);
+        self.is_behind_payload = false;
+        match offset {
+            Some(offset) => {
+                self.offsets.insert(offset)?;
+            }
+            None => {
+                self.has_error = true;
+                self.has_eoverflow |= is_eoverflow;
+            }
+        }
+        Ok(())
+    }
+}
+
+/// The piece that content is.
+pub fn piece_of(content: Content<'_>) -> Piece {
+    let (first, length) = match content {
+        Content::Bytes { offset, bytes } => (offset, bytes.len() as u64),
+        Content::Hole { offset, size } => (offset, size),
+    };
+    Piece {
+        first,
+        last: first.saturating_add(length.saturating_sub(1)),
+    }
+}
+
+/// Whether an offset is a multiple of 512.
+pub fn is_sector(offset: u64) -> bool {
+    offset.is_multiple_of(SECTOR)
+}
+
+/// Where a piece begins or ends at no multiple of 512, nor where a range does of this offset and length.
+pub fn cut_of(piece: Piece, offset: u64, length: u64) -> Option<u64> {
+    let end = piece.last.saturating_add(1);
+    if !is_sector(piece.first) && piece.first != offset {
+        Some(piece.first)
+    } else if !is_sector(end) && end != offset.saturating_add(length) {
+        Some(end)
+    } else {
+        None
+    }
+}

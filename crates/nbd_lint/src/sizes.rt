@@ -1,0 +1,68 @@
+//! The block sizes that the answers to an option announced.
+
+use nbd_wire::{Sizes, sizes_of};
+
+/// What a server announced of block sizes; a server may do so more than once.
+#[derive(Clone, Copy, Drop)]
+pub struct Announced {
+    /// The last that came; none of these numbers is known where none did.
+    pub last: Option<Sizes>,
+    /// The smallest minimum block size, in bytes.
+    pub least: u32,
+    /// The smallest maximum payload, in bytes.
+    pub smallest: u32,
+    /// The largest maximum payload, in bytes.
+    pub largest: u32,
+}
+
+impl Announced {
+    /// Nothing.
+    pub fn none() -> Announced {
+        Announced {
+            last: None,
+            least: 1,
+            smallest: u32::MAX,
+            largest: 0,
+        }
+    }
+
+    /// With what the payload of an INFO answer announces; sizes that a server may not announce count for nothing.
+    pub fn with(self, answer: &[u8]) -> Announced {
+        match sizes_of(answer) {
+            Some(sizes) if sizes.are_allowed() => self.after(sizes),
+            _ => self,
+        }
+    }
+
+    // With these sizes.
+    fn after(self, sizes: Sizes) -> Announced {
+        let least = match self.last {
+            Some(_) => self.least.min(sizes.least),
+            None => sizes.least,
+        };
+        Announced {
+            last: Some(sizes),
+            least,
+            smallest: self.smallest.min(sizes.largest),
+            largest: self.largest.max(sizes.largest),
+        }
+    }
+
+    /// Whether an offset and a length are multiples of the minimum block size, if there is one.
+    pub fn are_aligned(self, offset: u64, length: u64) -> bool {
+        self.is_multiple(offset) && self.is_multiple(length)
+    }
+
+    /// Whether a number of bytes is a multiple of the minimum block size, if there is one.
+    pub fn is_multiple(self, bytes: u64) -> bool {
+        self.last.is_none() || bytes.is_multiple_of(u64::from(self.least))
+    }
+
+    /// Whether a length is above the smallest maximum payload; above this one, where none was announced.
+    pub fn is_over(self, length: u64, usual: u64) -> bool {
+        match self.last {
+            Some(_) => length > u64::from(self.smallest),
+            None => length > usual,
+        }
+    }
+}
