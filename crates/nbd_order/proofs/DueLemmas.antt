@@ -1,9 +1,5 @@
 -- The count of the first message that showed an offset, from a piece on.
-use Rattle.std.proofs.Common.{◌≡◌, ℕ, zero, suc, ◌≤◌, List, [], ◌∷◌, length, refl, ◌∙◌, ap, Option, Some, None, if◌then◌else◌, arith, drop, slice_get}
-use Rattle.nbd_state.specs.Moments.{with_counts}
-use Rattle.nbd_wire.specs.declared.payloads.Piece.{Piece}
-use Rattle.nbd_wire.specs.protocol.Pieces.{is_in, piece_offset, piece_size}
-use Rattle.nbd_wire.specs.protocol.Reports.{first_shown}
+use Rattle.nbd_order.proofs.Common.{◌≡◌, ℕ, zero, suc, ◌≤◌, List, [], ◌∷◌, length, refl, ◌∙◌, ap, Option, Some, None, if◌then◌else◌, arith, drop, slice_get, with_counts, Piece, is_in, piece_offset, piece_size, first_shown}
 
 -- the same, of the pieces and counts from index i on
 abbrev pub shown_from : List Piece → (counts : List ℕ) → (i x : ℕ) → Option ℕ

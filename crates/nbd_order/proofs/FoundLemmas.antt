@@ -1,28 +1,6 @@
 -- What is found of a report, and of the runs with that report.
-use Rattle.std.proofs.Common.{◌≡◌, ℕ, zero, suc, List, [], ◌∷◌, refl, sym, subst, Option, Some, None}
-use Rattle.std.proofs.lemmas.List.Elements.{All-append, All-cons, All-nil}
-use Rattle.nbd_wire.specs.declared.profile.Profile.{Profile}
-use Rattle.nbd_wire.specs.declared.entry.Entry.{Entry}
-use Rattle.nbd_wire.specs.protocol.Entries.{whole}
-use Rattle.nbd_wire.specs.protocol.Explains.{FitsImage, Image, Start, Unknown, Zeroes}
-use Rattle.nbd_wire.specs.protocol.Marks.{Item}
-use Rattle.nbd_wire.specs.protocol.Operations.{Exporting}
-use Rattle.nbd_wire.specs.protocol.Reports.{Report, report}
-use Rattle.nbd_wire.specs.protocol.Rules.{IsRunOf}
-use Rattle.nbd_wire.specs.protocol.Verdicts.{Passes, answered_count, improper_count, request_count}
-use Rattle.nbd_laws.specs.Explaining.{ExplainedPasses, PassingIsExplained}
-use Rattle.nbd_judge.specs.Images.{IsOtherSize}
-use Rattle.nbd_judge.specs.Uniqueness.{OneVerdict}
-use Rattle.nbd_judge.specs.Verdicts.{IsVerdict}
-use Rattle.nbd_judge.specs.declared.verdict.Verdict.{Verdict}
-use Rattle.nbd_judge.specs.declared.verdict.Verdict.TheVariants.{Yes}
-use Rattle.nbd_order.specs.declared.finding.Found.{Found}
-use Rattle.nbd_order.specs.declared.finding.Found.TheVariants.{GaveUp, Image as FoundImage, NoneWhole, Order, Unexplained}
-use Rattle.nbd_order.specs.declared.finding.Wanted.{Wanted}
-use Rattle.nbd_order.specs.declared.finding.Wanted.TheVariants.{Any, Whole}
-use Rattle.nbd_order.specs.Finding.{AreWhole, FailsArrival, FoundIsSo, IsFound, IsWanted, IsWantedOrder, Says, arrival}
-use Rattle.nbd_order.specs.Unexplained.{RefutedIsUnexplained}
-use Rattle.nbd_order.specs.internal.Proposals.{IsOpen}
+use Rattle.nbd_order.proofs.Common.{◌≡◌, ℕ, zero, suc, List, [], ◌∷◌, refl, sym, subst, Option, Some, None, All-append, All-cons, All-nil, Profile, Entry, whole, FitsImage, Image, Start, Unknown, Zeroes, Item, Exporting, Report, report, IsRunOf, Passes, answered_count, improper_count, request_count, ExplainedPasses, PassingIsExplained, IsOtherSize, OneVerdict, IsVerdict, Verdict, Yes, Found, GaveUp, NoneWhole, Order, Unexplained, Wanted, Any, Whole, AreWhole, FailsArrival, FoundIsSo, IsFound, IsWanted, IsWantedOrder, Says, arrival, RefutedIsUnexplained, IsOpen}
+use Rattle.nbd_order.specs.declared.finding.Found.TheVariants.{Image as FoundImage}
 
 other_size_fits : (export : Option Exporting) (initial : Start) (image size : ℕ) → IsOtherSize export initial image size → FitsImage export initial → ⊥
 other_size_fits (Some export) (Image bytes) image size o f = o.2 f

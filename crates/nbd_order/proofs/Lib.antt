@@ -1,3 +1,4 @@
+pub mod Common
 pub mod DueLemmas
 pub mod FoundLemmas
 pub mod NumberLemmas

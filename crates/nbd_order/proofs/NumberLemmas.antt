@@ -1,9 +1,5 @@
 -- Numbers of a list, one after the other.
-use Rattle.std.proofs.Common.{◌≡◌, ℕ, ◌+◌, ◌<◌, ◌≤◌, inl, inr, List, [], ◌∷◌, length, refl, sym, ◌∙◌, ap, subst, true, false, ◌==◌, get_or, take, arith}
-use Rattle.std.proofs.lemmas.Bool.{eq-eqb, eqb-true, or_cases}
-use Rattle.std.proofs.lemmas.List.{take_all}
-use Rattle.std.proofs.lemmas.List.Folds.{list_any_at, list_any_more}
-use Rattle.nbd_order.specs.Unexplained.{has}
+use Rattle.nbd_order.proofs.Common.{◌≡◌, ℕ, ◌+◌, ◌<◌, ◌≤◌, inl, inr, List, [], ◌∷◌, length, refl, sym, ◌∙◌, ap, subst, true, false, ◌==◌, get_or, take, arith, eq-eqb, eqb-true, or_cases, take_all, list_any_at, list_any_more, has}
 
 -- each of the first i numbers has the property
 abbrev pub EachOf : (ℕ → Type 0) → List ℕ → ℕ → Type 0

@@ -1,16 +1,6 @@
 -- The tests of a request at one offset.
-use Rattle.std.proofs.Common.{◌≡◌, ℕ, ◌<◌, refl, inl, inr, ◌∙◌, ap, Option, Some, None, Bool, true, false, not, ◌&&◌, ◌||◌, ◌==◌, nat_le, nat_lt, arith, if◌then◌else◌, ◌≤◌, IsTrue, is_some}
-use Rattle.std.proofs.lemmas.Bool.{and_from, and_parts, eqb-true, leb-true, ltb-true, or_cases}
+use Rattle.nbd_order.proofs.Common.{◌≡◌, ℕ, ◌<◌, refl, inl, inr, ◌∙◌, ap, Option, Some, None, Bool, true, false, not, ◌&&◌, ◌||◌, ◌==◌, nat_le, nat_lt, arith, if◌then◌else◌, ◌≤◌, IsTrue, is_some, and_from, and_parts, eqb-true, leb-true, ltb-true, or_cases, Profile, Base, Wide, effect, effect_if, is_success, GivesByte, Exporting, has_range, byte_at, is_in, Asked, Report, asked_at, due_by_chunk, due_of, first_shown, inside_asked, lesser_of, size_of, due_at, gives_byte, reads_at, IsBefore, IsReadAt}
 use Rattle.nbd_wire.specs.declared.commands.TheConstants as commands
-use Rattle.nbd_wire.specs.declared.profile.Profile.{Profile}
-use Rattle.nbd_wire.specs.declared.profile.Profile.TheVariants.{Base, Wide}
-use Rattle.nbd_wire.specs.protocol.ExportBytes.{effect, effect_if, is_success, GivesByte}
-use Rattle.nbd_wire.specs.protocol.Operations.{Exporting, has_range}
-use Rattle.nbd_wire.specs.protocol.Pieces.{byte_at, is_in}
-use Rattle.nbd_wire.specs.protocol.Reports.{Asked, Report, asked_at, due_by_chunk, due_of, first_shown, inside_asked, lesser_of}
-use Rattle.nbd_judge.specs.Servable.{size_of}
-use Rattle.nbd_order.specs.internal.Offsets.{due_at, gives_byte, reads_at}
-use Rattle.nbd_order.specs.internal.Refutations.{IsBefore, IsReadAt}
 
 -- all but a BLOCK_STATUS may have something inside
 pub open_to : (proper : Bool) (command : ℕ) → (command == commands.BLOCK_STATUS) ≡ false → (proper || not (command == commands.BLOCK_STATUS)) ≡ true

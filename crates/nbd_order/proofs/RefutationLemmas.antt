@@ -1,21 +1,5 @@
 -- Where there is a refutation, each order has a fault or a wrong byte of one of its READs.
-use Rattle.std.proofs.Common.{◌≡◌, ℕ, zero, suc, ◌<◌, ◌≤◌, inl, inr, List, [], ◌∷◌, length, refl, sym, ◌∙◌, ap, subst, Option, Some, None, Bool, true, false, ◌&&◌, ◌||◌, ◌==◌, if◌then◌else◌, arith, slice_get, take, IsTrue}
-use Rattle.std.proofs.Math.Seq.{take-length}
-use Rattle.std.proofs.lemmas.Bool.{and_from, and_parts, both_ways, cases_Bool, eqb-true, false_from_ne_true, or_cases, or_from, or_left, or_right}
-use Rattle.std.proofs.lemmas.Option.{slice_get_cases}
-use Rattle.nbd_wire.specs.declared.entry.Entry.{Entry}
-use Rattle.nbd_wire.specs.declared.entry.Part.{Part}
-use Rattle.nbd_wire.specs.declared.profile.Profile.{Profile}
-use Rattle.nbd_wire.specs.protocol.Entries.{in_part, is_served}
-use Rattle.nbd_wire.specs.protocol.ExportBytes.{Differs, Effect, IsWrong, IsWrongIn, byte_before, effect_byte, effects, serves, touch_of, touches, GivesByte}
-use Rattle.nbd_wire.specs.protocol.Operations.{Exporting, is_change}
-use Rattle.nbd_wire.specs.protocol.Pieces.{is_in}
-use Rattle.nbd_wire.specs.protocol.Reports.{Report, asked_at, due_in}
-use Rattle.nbd_wire.specs.protocol.Verdicts.{IsFaultless}
-use Rattle.nbd_laws.specs.Explaining.{ExplainedPasses}
-use Rattle.nbd_order.specs.declared.refutation.State.{State}
-use Rattle.nbd_order.specs.Unexplained.{AreRising, IsRefutedBy, RefutedIsUnexplained, has}
-use Rattle.nbd_order.specs.internal.Refutations.{Fits, IsChange, IsHeld, IsRefutation, Leads, is_kept}
+use Rattle.nbd_order.proofs.Common.{◌≡◌, ℕ, zero, suc, ◌<◌, ◌≤◌, inl, inr, List, [], ◌∷◌, length, refl, sym, ◌∙◌, ap, subst, Option, Some, None, Bool, true, false, ◌&&◌, ◌||◌, ◌==◌, if◌then◌else◌, arith, slice_get, take, IsTrue, take-length, and_from, and_parts, both_ways, cases_Bool, eqb-true, false_from_ne_true, or_cases, or_from, or_left, or_right, slice_get_cases, Entry, Part, Profile, in_part, is_served, Differs, Effect, IsWrong, IsWrongIn, byte_before, effect_byte, effects, serves, touch_of, touches, GivesByte, Exporting, is_change, is_in, Report, asked_at, due_in, IsFaultless, ExplainedPasses, State, AreRising, IsRefutedBy, RefutedIsUnexplained, has, Fits, IsChange, IsHeld, IsRefutation, Leads, is_kept}
 use Rattle.nbd_order.proofs.ServiceLemmas.{in_range, is_inside, is_reached, not_served_before, served_before, served_once}
 use Rattle.nbd_order.proofs.TouchLemmas.{byte_more, served_more}
 

@@ -1,18 +1,6 @@
 -- What an order without a fault serves, and in which order.
-use Rattle.std.proofs.Common.{◌≡◌, ℕ, zero, suc, ◌<◌, ◌≤◌, inl, inr, List, length, refl, sym, ◌∙◌, ap, subst, Option, Some, None, Bool, true, false, not, ◌&&◌, ◌||◌, ◌==◌, nat_lt, arith, slice_get, take, IsTrue}
-use Rattle.std.proofs.lemmas.Bool.{and_from, and_parts, cases_lt, eqb-true, false_from_ne_true, lt-ltb, ltb-true}
-use Rattle.std.proofs.lemmas.Option.{slice_get_within}
+use Rattle.nbd_order.proofs.Common.{◌≡◌, ℕ, zero, suc, ◌<◌, ◌≤◌, inl, inr, List, length, refl, sym, ◌∙◌, ap, subst, Option, Some, None, Bool, true, false, not, ◌&&◌, ◌||◌, ◌==◌, nat_lt, arith, slice_get, take, IsTrue, and_from, and_parts, cases_lt, eqb-true, false_from_ne_true, lt-ltb, ltb-true, slice_get_within, Entry, Part, Profile, IsAgain, IsMisplaced, in_part, is_served, Effect, effect, effect_if, effects, touches, Exporting, has_range, is_change, is_in, Asked, Report, asked_at, inside_asked, due_in, inside_in, IsFaultless, IsBefore}
 use Rattle.nbd_wire.specs.declared.commands.TheConstants as commands
-use Rattle.nbd_wire.specs.declared.entry.Entry.{Entry}
-use Rattle.nbd_wire.specs.declared.entry.Part.{Part}
-use Rattle.nbd_wire.specs.declared.profile.Profile.{Profile}
-use Rattle.nbd_wire.specs.protocol.Entries.{IsAgain, IsMisplaced, in_part, is_served}
-use Rattle.nbd_wire.specs.protocol.ExportBytes.{Effect, effect, effect_if, effects, touches}
-use Rattle.nbd_wire.specs.protocol.Operations.{Exporting, has_range, is_change}
-use Rattle.nbd_wire.specs.protocol.Pieces.{is_in}
-use Rattle.nbd_wire.specs.protocol.Reports.{Asked, Report, asked_at, inside_asked, due_in, inside_in}
-use Rattle.nbd_wire.specs.protocol.Verdicts.{IsFaultless}
-use Rattle.nbd_order.specs.internal.Refutations.{IsBefore}
 use Rattle.nbd_order.proofs.OffsetLemmas.{open_to}
 use Rattle.nbd_order.proofs.TouchLemmas.{from_taken, is_served_by, is_served_from, names_by, served_at, taken}
 

@@ -1,13 +1,5 @@
 -- The tests of a refutation's states.
-use Rattle.std.proofs.Common.{◌≡◌, ℕ, ◌+◌, ◌<◌, ◌≤◌, inl, inr, List, length, refl, sym, ◌∙◌, ap, subst, Option, Some, get_or, arith, slice_get, nat_lt, true, false}
-use Rattle.std.proofs.lemmas.Bool.{cases_eq, ltb-true}
-use Rattle.std.proofs.lemmas.Option.{get_or_from_slice_get, slice_get_read, slice_get_within}
-use Rattle.nbd_wire.specs.declared.profile.Profile.{Profile}
-use Rattle.nbd_wire.specs.protocol.ExportBytes.{Effect, effect, effect_byte, effect_if, effects}
-use Rattle.nbd_wire.specs.protocol.Reports.{Asked, Report, asked_at}
-use Rattle.nbd_order.specs.Unexplained.{has}
-use Rattle.nbd_order.specs.declared.refutation.State.{State}
-use Rattle.nbd_order.specs.internal.Refutations.{AreSteps, Fits, Leads}
+use Rattle.nbd_order.proofs.Common.{◌≡◌, ℕ, ◌+◌, ◌<◌, ◌≤◌, inl, inr, List, length, refl, sym, ◌∙◌, ap, subst, Option, Some, get_or, arith, slice_get, nat_lt, true, false, cases_eq, ltb-true, get_or_from_slice_get, slice_get_read, slice_get_within, Profile, Effect, effect, effect_byte, effect_if, effects, Asked, Report, asked_at, has, State, AreSteps, Fits, Leads}
 
 -- the effect of a request that was found
 pub same_effect : (r : Report) (k : ℕ) (a : Asked) (e : Effect) → asked_at k r.asked ≡ Some a → effects r k ≡ Some e → effect a ≡ e

@@ -1,9 +1,5 @@
 -- What the first entries of an order serve at an offset, and the byte that they leave there.
-use Rattle.std.proofs.Common.{◌≡◌, ℕ, zero, suc, ◌<◌, ◌≤◌, inl, inr, List, [], ◌∷◌, refl, sym, ◌∙◌, ap, Option, Some, None, Bool, true, false, ◌&&◌, ◌||◌, ◌==◌, arith, drop, slice_get, take, IsTrue}
-use Rattle.std.proofs.lemmas.Bool.{and_from, eq-eqb, eqb-true}
-use Rattle.nbd_wire.specs.declared.entry.Entry.{Entry}
-use Rattle.nbd_wire.specs.protocol.Entries.{Names, in_part, is_served}
-use Rattle.nbd_wire.specs.protocol.ExportBytes.{Effect, byte_before, byte_or_start, last_touch, later, touch_of}
+use Rattle.nbd_order.proofs.Common.{◌≡◌, ℕ, zero, suc, ◌<◌, ◌≤◌, inl, inr, List, [], ◌∷◌, refl, sym, ◌∙◌, ap, Option, Some, None, Bool, true, false, ◌&&◌, ◌||◌, ◌==◌, arith, drop, slice_get, take, IsTrue, and_from, eq-eqb, eqb-true, Entry, Names, in_part, is_served, Effect, byte_before, byte_or_start, last_touch, later, touch_of}
 
 -- an entry that serves offset x of request k
 abbrev pub ServesAt : List Entry → (k x : ℕ) → Type 0

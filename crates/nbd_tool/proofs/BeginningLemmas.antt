@@ -1,12 +1,6 @@
 -- What is kept of an image.
-use Rattle.std.proofs.Common.{ℕ, List, None, Some, IfSome, refl, sym, replicate, ◌<◌}
-use Rattle.std.proofs.lemmas.List.{length-replicate}
+use Rattle.nbd_tool.proofs.Common.{ℕ, List, None, Some, IfSome, refl, sym, replicate, ◌<◌, length-replicate, Image, image_of, IsText, Longer, IsBeginningOf}
 use Rattle.std.specs.Prelude.{Option}
-use Rattle.nbd_wire.specs.protocol.Explains.{Image}
-use Rattle.nbd_files.specs.Starts.{image_of}
-use Rattle.nbd_files.specs.Texts.{IsText}
-use Rattle.nbd_files.specs.declared.input.Text.TheVariants.{Longer}
-use Rattle.nbd_tool.specs.Beginnings.{IsBeginningOf}
 use Rattle.nbd_tool.specs.declared.beginning.Beginning.TheVariants as Beginning
 
 -- an image that was counted

@@ -1,25 +1,6 @@
 -- The verdict on the texts and the start that were read.
-use Rattle.std.proofs.Common.{◌≡◌, ℕ, List, ◌↔◌, ◌⊎◌, inl, inr, Bool, sym, subst, Option, Some, None, Result, Ok, Err, IfErr, IfOk, IfSome, IsTrue, OnOk}
-use Rattle.std.specs.Io.KnownBytes.{Appends, Keeps}
-use Rattle.nbd_wire.specs.declared.entry.Entry.{Entry}
-use Rattle.nbd_wire.specs.declared.profile.Profile.{Profile}
-use Rattle.nbd_wire.specs.protocol.Explains.{Start}
-use Rattle.nbd_capture.specs.Capture.{Chunk, IsCaptureText}
-use Rattle.nbd_capture.specs.Order.{IsOrderText}
-use Rattle.nbd_capture.specs.Writing.{AppendsPrefix}
-use Rattle.nbd_judge.specs.declared.verdict.Verdict.{Verdict}
-use Rattle.nbd_wire.specs.protocol.Reports.{Report}
-use Rattle.nbd_session.specs.declared.fault.SessionFault.{SessionFault}
-use Rattle.nbd_session.specs.Refusals.{EndsIn}
-use Rattle.nbd_session.specs.Sessions.{IsReported, SessionView, fault_at_end, fault_of}
-use Rattle.nbd_judge.specs.Captures.{IsChecked}
-use Rattle.nbd_tool.specs.Ends.{IsOverText}
-use Rattle.nbd_tool.specs.internal.Outcomes.{IsConcluded}
+use Rattle.nbd_tool.proofs.Common.{◌≡◌, ℕ, List, ◌↔◌, ◌⊎◌, inl, inr, Bool, sym, subst, Option, Some, None, Result, Ok, Err, IfErr, IfOk, IfSome, IsTrue, OnOk, Appends, Keeps, Entry, Profile, Start, Chunk, IsCaptureText, IsOrderText, AppendsPrefix, Verdict, Report, SessionFault, EndsIn, IsReported, SessionView, fault_at_end, fault_of, IsChecked, IsOverText, IsConcluded, RunFault, Write, Memory, IsVerdictOn, LeavesWritten, Tells, flat_of, IsYes, line}
 use Rattle.nbd_tool.proofs.OverLemmas.{checked_over}
-use Rattle.nbd_files.specs.declared.fault.RunFault.{RunFault}
-use Rattle.nbd_files.specs.declared.fault.RunFault.TheVariants.{Write, Memory}
-use Rattle.nbd_tool.specs.Runs.{IsVerdictOn, LeavesWritten, Tells, flat_of}
-use Rattle.nbd_tool.specs.Verdicts.{IsYes, line}
 
 pub verdict_on : (profile : Profile) (capture order : Option (List ℕ)) (known : Option Start) (chunks : List Chunk) (entries : List Entry) (initial : Start) (v : Verdict) →
     IfSome capture (λ text. IsCaptureText text chunks) → IfSome order (λ text. IsOrderText text entries) → IfSome known (λ start. initial ≡ start) →

@@ -1,3 +1,4 @@
+pub mod Common
 pub mod BeginningLemmas
 pub mod JudgedLemmas
 pub mod OverLemmas

@@ -1,33 +1,7 @@
 -- A session over a capture's chunks: what it took, and how it stands at its end.
-use Rattle.std.proofs.Common.{◌≡◌, ℕ, ◌≤◌, List, [], ◌∷◌, ◌++◌, length, refl, sym, ◌∙◌, ap, subst, arith, length-append, append_assoc, append-nil, Option, Some, None, IfSome, Result, Ok, Err, IfOk, IfErr, OnErr, OnOk, inl}
-use Rattle.std.specs.Result.{result_and}
-use Rattle.nbd_wire.specs.declared.profile.Profile.{Profile}
-use Rattle.nbd_wire.specs.declared.entry.Entry.{Entry}
-use Rattle.nbd_wire.specs.declared.fault.WireFault.{WireFault}
-use Rattle.nbd_wire.specs.declared.message.Side.{Side}
-use Rattle.nbd_wire.specs.protocol.Captures.{Pair, side_pairs}
-use Rattle.nbd_wire.specs.protocol.Explains.{Start}
-use Rattle.nbd_wire.specs.protocol.Marks.{Item, pairs}
-use Rattle.nbd_wire.specs.protocol.Reports.{Report}
-use Rattle.nbd_wire.specs.protocol.Rules.{IsRunOf}
-use Rattle.nbd_capture.specs.Capture.{Chunk}
-use Rattle.nbd_capture.specs.Reading.{NamesFirstBadLine, Reading, Reads}
-use Rattle.nbd_capture.specs.declared.reader.State.TheVariants.{Open}
-use Rattle.nbd_capture.proofs.ReadingStepLemmas.{reads-append}
-use Rattle.nbd_capture.specs.declared.capture.CaptureFault.{CaptureFault}
+use Rattle.nbd_tool.proofs.Common.{◌≡◌, ℕ, ◌≤◌, List, [], ◌∷◌, ◌++◌, length, refl, sym, ◌∙◌, ap, subst, arith, length-append, append_assoc, append-nil, Option, Some, None, IfSome, Result, Ok, Err, IfOk, IfErr, OnErr, OnOk, inl, result_and, Profile, Entry, WireFault, Side, Pair, side_pairs, Start, Item, pairs, Report, IsRunOf, Chunk, NamesFirstBadLine, Reading, Reads, Open, reads-append, CaptureFault, SessionFault, Wire, EndsIn, IsRefusalOf, IsWireFaultOf, Refuses, AddsPrefix, IsAtEnd, IsReported, SessionView, bytes_taken, end_by, fault_at_end, fault_of, open_end_fault, pairs_of, IsChecked, IsFaultOf, Answers, IsConclusion, IsReportOf, Verdict, HasReport, checked, told_of, of_capture, IsCapture, IsCaptureCause, flat_of, IsOver, IsOverText, IsWireAt}
 use Rattle.nbd_capture.specs.declared.capture.CaptureFault.TheVariants as reader
-use Rattle.nbd_session.specs.declared.fault.SessionFault.{SessionFault}
-use Rattle.nbd_session.specs.declared.fault.SessionFault.TheVariants.{Memory, Wire}
-use Rattle.nbd_session.specs.Refusals.{EndsIn, IsRefusalOf, IsWireFaultOf, Refuses}
-use Rattle.nbd_session.specs.Sessions.{AddsPrefix, IsAtEnd, IsReported, SessionView, bytes_taken, end_by, fault_at_end, fault_of, open_end_fault, pairs_of}
-use Rattle.nbd_judge.specs.Captures.{IsChecked, IsFaultOf}
-use Rattle.nbd_judge.specs.Conclusions.{Answers, IsConclusion, IsReportOf}
-use Rattle.nbd_judge.specs.declared.verdict.Verdict.{Verdict}
-use Rattle.nbd_judge.specs.internal.Captures.{HasReport}
-use Rattle.nbd_judge.proofs.verdicts.ChunkLemmas.{checked, told_of}
-use Rattle.nbd_files.specs.RunFaults.{of_capture}
-use Rattle.nbd_tool.specs.Runs.{IsCapture, IsCaptureCause, flat_of}
-use Rattle.nbd_tool.specs.Ends.{IsOver, IsOverText, IsWireAt}
+use Rattle.nbd_session.specs.declared.fault.SessionFault.TheVariants.{Memory}
 
 -- one more chunk
 flat-snoc : (chunks : List Chunk) (c : Chunk) → flat_of (chunks ++ c ∷ []) ≡ flat_of chunks ++ side_pairs c.side c.bytes

@@ -1,21 +1,7 @@
 -- What a line that begins with `yes` says.
-use Rattle.std.proofs.Common.{◌≡◌, ℕ, List, [], ◌∷◌, ◌++◌, refl, sym, ◌∙◌, ap, append_assoc, append-nil, codes, arith, Option, Some, None, ◌⊎◌, inl, inr, Bool, Result, Ok, Err, IfErr, IfOk, IsTrue, OnOk, ◌↔◌}
-use Rattle.std.proofs.lemmas.List.{append_cancel_left}
-use Rattle.std.specs.Io.KnownBytes.{Appends, Keeps}
-use Rattle.nbd_capture.specs.Capture.{Chunk, IsCaptureText}
-use Rattle.nbd_capture.specs.Order.{IsOrderText}
-use Rattle.nbd_capture.specs.Writing.{AppendsPrefix}
-use Rattle.nbd_wire.specs.declared.entry.Entry.{Entry}
-use Rattle.nbd_wire.specs.declared.profile.Profile.{Profile}
-use Rattle.nbd_wire.specs.protocol.Explains.{IsExplainedOf, Start}
-use Rattle.nbd_judge.specs.declared.verdict.Verdict.{Verdict}
-use Rattle.nbd_judge.specs.declared.verdict.Verdict.TheVariants.{Yes, Wire, Image, Order, Content, Status}
+use Rattle.nbd_tool.proofs.Common.{◌≡◌, ℕ, List, [], ◌∷◌, ◌++◌, refl, sym, ◌∙◌, ap, append_assoc, append-nil, codes, arith, Option, Some, None, ◌⊎◌, inl, inr, Bool, Result, Ok, Err, IfErr, IfOk, IsTrue, OnOk, ◌↔◌, append_cancel_left, Appends, Keeps, Chunk, IsCaptureText, IsOrderText, AppendsPrefix, Entry, Profile, IsExplainedOf, Start, Verdict, Yes, Order, Content, Status, answers_exactly, AnswersExactly, IsVerdictOn, SaysYes, Tells, flat_of, RunFault, Memory, Write, IsYes, line}
+use Rattle.nbd_judge.specs.declared.verdict.Verdict.TheVariants.{Wire, Image}
 use Rattle.nbd_judge.specs.Captures as judge
-use Rattle.nbd_judge.proofs.verdicts.RefusalLemmas.{answers_exactly}
-use Rattle.nbd_tool.specs.Runs.{AnswersExactly, IsVerdictOn, SaysYes, Tells, flat_of}
-use Rattle.nbd_files.specs.declared.fault.RunFault.{RunFault}
-use Rattle.nbd_files.specs.declared.fault.RunFault.TheVariants.{Memory, Write}
-use Rattle.nbd_tool.specs.Verdicts.{IsYes, line}
 
 abbrev IsExplainedOn : Profile → (text order_text : List ℕ) → Start → Type 0
 IsExplainedOn profile text order_text initial = (chunks : List Chunk) × (entries : List Entry) × IsCaptureText text chunks × IsOrderText order_text entries × IsExplainedOf profile (flat_of chunks) entries initial

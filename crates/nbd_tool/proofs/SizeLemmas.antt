@@ -1,12 +1,6 @@
 -- The chunks of a capture text have fewer bytes than the text.
-use Rattle.std.proofs.Common.{◌≡◌, ℕ, ◌+◌, ◌≤◌, List, [], ◌∷◌, length, refl, sym, ap, ◌∙◌, arith, length-append, sum_by}
-use Rattle.std.proofs.lemmas.List.{length-map}
-use Rattle.std.proofs.lemmas.List.Sums.{sum_by-append, sum_by-cons}
-use Rattle.nbd_wire.specs.declared.message.Side.{Side}
-use Rattle.nbd_capture.specs.Lines.{empty, line, line_feed}
-use Rattle.nbd_capture.specs.Capture.{Chunk, IsCaptureLine, IsCaptureText, AreDigits, chunk, blank, comment, none, byte}
-use Rattle.nbd_wire.specs.protocol.Captures.{side_pairs}
-use Rattle.nbd_tool.specs.Runs.{flat_of}
+use Rattle.nbd_tool.proofs.Common.{◌≡◌, ℕ, ◌+◌, ◌≤◌, List, [], ◌∷◌, length, refl, sym, ap, ◌∙◌, arith, length-append, sum_by, length-map, sum_by-append, sum_by-cons, Side, empty, line_feed, Chunk, IsCaptureLine, IsCaptureText, AreDigits, chunk, blank, comment, none, byte, side_pairs, flat_of}
+use Rattle.nbd_capture.specs.Lines.{line}
 
 digits_are_two : (digits bytes : List ℕ) → AreDigits digits bytes → length bytes ≤ length digits
 digits_are_two _ _ none = omega arith

@@ -1,16 +1,5 @@
 -- Each run of `check` has one line to write.
-use Rattle.std.proofs.Common.{◌≡◌, List, subst}
-use Rattle.nbd_wire.specs.declared.profile.Profile.{Profile}
-use Rattle.nbd_wire.specs.declared.entry.Entry.{Entry}
-use Rattle.nbd_capture.specs.Capture.{Chunk, IsCaptureLine}
-use Rattle.nbd_capture.specs.Order.{IsOrderLine}
-use Rattle.nbd_capture.proofs.FormLemmas.{one_saying}
-use Rattle.nbd_capture.proofs.OrderLineLemmas.{one_entry}
-use Rattle.nbd_capture.proofs.ReadingLemmas.{one_reading}
-use Rattle.nbd_judge.specs.Captures.{IsChecked}
-use Rattle.nbd_judge.proofs.verdicts.UniqueLemmas.{one_answer}
-use Rattle.nbd_tool.specs.Runs.{flat_of}
-use Rattle.nbd_tool.specs.Uniqueness.{OneLine}
+use Rattle.nbd_tool.proofs.Common.{◌≡◌, List, subst, Profile, Entry, Chunk, IsCaptureLine, IsOrderLine, one_saying, one_entry, one_reading, IsChecked, one_answer, flat_of, OneLine}
 
 pub one_line : OneLine
 one_line profile text order_text initial v w a b =

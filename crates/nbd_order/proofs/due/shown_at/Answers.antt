@@ -1,10 +1,4 @@
-use Rattle.std.proofs.Common.{◌≡◌, ℕ, suc, ◌+◌, ◌≤◌, length, inl, inr, sym, ◌∙◌, ap, Some, if◌then◌else◌, arith, false, slice_get}
-use Rattle.std.proofs.lemmas.Option.{slice_get_cases}
-use Rattle.std.specs.Option.{option_copied}
-use Rattle.nbd_state.specs.declared.span.Span.{Span}
-use Rattle.nbd_wire.specs.protocol.Pieces.{is_in, piece_offset, piece_size}
-use Rattle.nbd_wire.specs.protocol.Reports.{first_shown}
-use Rattle.nbd_judge.proofs.orders.ShownLemmas.{looked_up, read_shows}
+use Rattle.nbd_order.proofs.Common.{◌≡◌, ℕ, suc, ◌+◌, ◌≤◌, length, inl, inr, sym, ◌∙◌, ap, Some, if◌then◌else◌, arith, false, slice_get, slice_get_cases, option_copied, Span, is_in, piece_offset, piece_size, first_shown, looked_up, read_shows}
 use Rattle.nbd_order.proofs.DueLemmas.{from_end, from_next, shown_from}
 use Rattle.nbd_order.proofs.due.shown_at.Goals as goal
 

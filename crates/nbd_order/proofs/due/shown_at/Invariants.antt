@@ -1,6 +1,4 @@
-use Rattle.std.proofs.Common.{◌≡◌}
-use Rattle.nbd_state.specs.Moments.{with_counts}
-use Rattle.nbd_wire.specs.protocol.Reports.{first_shown}
+use Rattle.nbd_order.proofs.Common.{◌≡◌, with_counts, first_shown}
 use Rattle.nbd_order.proofs.DueLemmas.{shown_from}
 use Rattle.nbd_order.proofs.due.shown_at.Given as goal
 

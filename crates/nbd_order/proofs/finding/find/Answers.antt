@@ -1,9 +1,5 @@
-use Rattle.std.proofs.Common.{subst, sym, ◌∙◌, ap}
-use Rattle.nbd_judge.specs.Beginnings.{initial_of}
-use Rattle.nbd_judge.proofs.verdicts.SingleLemmas.{one_verdict}
-use Rattle.nbd_wire.specs.protocol.Verdicts.{Passes}
-use Rattle.nbd_order.specs.Finding.{AreWhole, arrival}
-use Rattle.nbd_order.specs.declared.finding.Found.TheVariants.{Image, Order}
+use Rattle.nbd_order.proofs.Common.{subst, sym, ◌∙◌, ap, initial_of, one_verdict, Passes, AreWhole, arrival, Order}
+use Rattle.nbd_order.specs.declared.finding.Found.TheVariants.{Image}
 use Rattle.nbd_order.proofs.FoundLemmas.{arrival_whole, does_not_pass, passes, says_of, whole_wanted}
 use Rattle.nbd_order.proofs.finding.find.Goals as goal
 

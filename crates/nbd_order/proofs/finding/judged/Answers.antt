@@ -1,7 +1,4 @@
-use Rattle.std.proofs.Common.{subst, sym}
-use Rattle.nbd_judge.specs.Beginnings.{initial_of}
-use Rattle.nbd_wire.specs.protocol.Verdicts.{Passes}
-use Rattle.nbd_order.specs.Finding.{IsFound}
+use Rattle.nbd_order.proofs.Common.{subst, sym, initial_of, Passes, IsFound}
 use Rattle.nbd_order.proofs.FoundLemmas.{passes}
 use Rattle.nbd_order.proofs.finding.judged.Goals as goal
 use Rattle.nbd_order.proofs.finding.judged.Goals.{then-eq+then-not-are_whole, else-eq}

@@ -1,5 +1,4 @@
-use Rattle.std.proofs.Common.{◌≡◌, ◌≤◌, vec_capacity}
-use Rattle.nbd_order.specs.Finding.{arrival}
+use Rattle.nbd_order.proofs.Common.{◌≡◌, ◌≤◌, vec_capacity, arrival}
 use Rattle.nbd_order.proofs.judging.push_arrival.Given as goal
 
 abbrev pub invariant-loop-i : goal.invariant-loop-i

@@ -1,5 +1,4 @@
-use Rattle.std.proofs.Common.{sym}
-use Rattle.nbd_state.specs.Transcripts.{report_of_request}
+use Rattle.nbd_order.proofs.Common.{sym, report_of_request}
 use Rattle.nbd_order.proofs.OffsetLemmas.{ended_before}
 use Rattle.nbd_order.proofs.offsets.is_before.Goals as goal
 

@@ -1,4 +1,4 @@
-use Rattle.std.proofs.Common.{◌≡◌, ◌+◌, ◌<◌, ℕ, Some, slice_get}
+use Rattle.nbd_order.proofs.Common.{◌≡◌, ◌+◌, ◌<◌, ℕ, Some, slice_get}
 use Rattle.nbd_order.proofs.refuting.are_rising.Given as goal
 
 abbrev pub invariant-loop-i : goal.invariant-loop-i

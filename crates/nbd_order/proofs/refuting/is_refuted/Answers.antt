@@ -1,5 +1,4 @@
-use Rattle.nbd_wire.specs.protocol.Explains.{start_byte}
-use Rattle.nbd_judge.specs.Beginnings.{initial_of}
+use Rattle.nbd_order.proofs.Common.{start_byte, initial_of}
 use Rattle.nbd_order.proofs.RefutationLemmas.{refuted}
 use Rattle.nbd_order.proofs.refuting.is_refuted.Goals as goal
 

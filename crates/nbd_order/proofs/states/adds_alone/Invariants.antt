@@ -1,5 +1,4 @@
-use Rattle.std.proofs.Common.{◌≡◌, ◌==◌, ◌||◌}
-use Rattle.nbd_order.specs.Unexplained.{has}
+use Rattle.nbd_order.proofs.Common.{◌≡◌, ◌==◌, ◌||◌, has}
 use Rattle.nbd_order.proofs.NumberLemmas.{EachOf}
 use Rattle.nbd_order.proofs.states.adds_alone.Given as goal
 

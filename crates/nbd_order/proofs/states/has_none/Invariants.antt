@@ -1,5 +1,4 @@
-use Rattle.std.proofs.Common.{◌≡◌, false}
-use Rattle.nbd_order.specs.Unexplained.{has}
+use Rattle.nbd_order.proofs.Common.{◌≡◌, false, has}
 use Rattle.nbd_order.proofs.NumberLemmas.{EachOf}
 use Rattle.nbd_order.proofs.states.has_none.Given as goal
 

@@ -1,5 +1,4 @@
-use Rattle.std.proofs.Common.{◌≡◌, true}
-use Rattle.nbd_order.specs.Unexplained.{has}
+use Rattle.nbd_order.proofs.Common.{◌≡◌, true, has}
 use Rattle.nbd_order.proofs.NumberLemmas.{EachOf}
 use Rattle.nbd_order.proofs.states.keeps.Given as goal
 

@@ -1,4 +1,4 @@
-use Rattle.std.proofs.Common.{Ok, ap}
+use Rattle.nbd_tool.proofs.Common.{Ok, ap}
 use Rattle.nbd_tool.proofs.BeginningLemmas.{longer_read}
 use Rattle.nbd_tool.proofs.beginning.read_start.Goals as goal
 

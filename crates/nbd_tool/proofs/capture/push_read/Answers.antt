@@ -1,10 +1,4 @@
-use Rattle.std.proofs.Common.{[], Ok, append-nil, ap, refl, sym, arith, length}
-use Rattle.std.proofs.lemmas.Result.{err_from_is_err_and}
-use Rattle.std.proofs.lemmas.Option.{IfSome_then}
-use Rattle.nbd_session.specs.Sessions.{SessionView, pairs_of}
-use Rattle.nbd_capture.proofs.ReadToEndLemmas.{names_first_bad, reads_to_end, whole_text}
-use Rattle.nbd_capture.proofs.ReadingStepLemmas.{reads_same}
-use Rattle.nbd_tool.specs.Runs.{flat_of}
+use Rattle.nbd_tool.proofs.Common.{[], Ok, append-nil, ap, refl, sym, arith, length, err_from_is_err_and, IfSome_then, SessionView, pairs_of, names_first_bad, reads_to_end, whole_text, reads_same, flat_of}
 use Rattle.nbd_tool.proofs.OverLemmas.{cause_of, next_pushed, over_open, taken_within}
 use Rattle.nbd_tool.proofs.SizeLemmas.{flat-le}
 use Rattle.nbd_tool.proofs.capture.push_read.Goals as goal

@@ -1,11 +1,5 @@
 -- The chunks that were read so far were pushed, up to a refused byte.
-use Rattle.std.proofs.Common.{◌≡◌, List}
-use Rattle.nbd_capture.specs.Capture.{Chunk}
-use Rattle.nbd_capture.specs.Reading.{Reads, at_start}
-use Rattle.nbd_capture.specs.declared.reader.State.TheVariants.{Open}
-use Rattle.nbd_files.specs.declared.input.TheConstants.{READ_LIMIT}
-use Rattle.nbd_tool.specs.Runs.{flat_of}
-use Rattle.nbd_tool.specs.Ends.{IsOver}
+use Rattle.nbd_tool.proofs.Common.{◌≡◌, List, Chunk, Reads, at_start, Open, READ_LIMIT, flat_of, IsOver}
 use Rattle.nbd_tool.proofs.capture.push_read.Given as goal
 
 abbrev pub invariant-loop-bytes : goal.invariant-loop-bytes

@@ -1,5 +1,5 @@
-use Rattle.std.proofs.Common.{◌≡◌, Ok, Err, ap, sym, ◌∙◌}
-use Rattle.nbd_session.specs.declared.fault.SessionFault.TheVariants.{Memory, Wire}
+use Rattle.nbd_tool.proofs.Common.{◌≡◌, Ok, Err, ap, sym, ◌∙◌, Wire}
+use Rattle.nbd_session.specs.declared.fault.SessionFault.TheVariants.{Memory}
 use Rattle.nbd_tool.proofs.OverLemmas.{over_pushed}
 use Rattle.nbd_tool.proofs.capture.push_shown.Goals as goal
 

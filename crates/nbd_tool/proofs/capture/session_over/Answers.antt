@@ -1,8 +1,4 @@
-use Rattle.std.proofs.Common.{OnOk, ap, subst}
-use Rattle.nbd_session.specs.Sessions.{SessionView}
-use Rattle.nbd_tool.specs.Ends.{IsOverText}
-use Rattle.nbd_tool.specs.Runs.{IsCaptureCause}
-use Rattle.nbd_files.specs.Starts.{IsWithinLimit}
+use Rattle.nbd_tool.proofs.Common.{OnOk, ap, subst, SessionView, IsOverText, IsCaptureCause, IsWithinLimit}
 use Rattle.nbd_tool.proofs.OverLemmas.{joined, joined_err, joined_on}
 use Rattle.nbd_tool.proofs.capture.session_over.Goals as goal
 

@@ -1,5 +1,4 @@
-use Rattle.std.proofs.lemmas.Result.{err_from_is_err_and}
-use Rattle.nbd_files.specs.Starts.{initial_from}
+use Rattle.nbd_tool.proofs.Common.{err_from_is_err_and, initial_from}
 use Rattle.nbd_tool.proofs.OverLemmas.{capture_over}
 use Rattle.nbd_tool.proofs.JudgedLemmas.{concluded, leaves, tells}
 use Rattle.nbd_tool.proofs.SayLemmas.{answers_so, says_nothing, says_written}

@@ -1,5 +1,4 @@
-use Rattle.std.proofs.Common.{subst}
-use Rattle.nbd_tool.specs.Beginnings.{IsReadAs, room_in}
+use Rattle.nbd_tool.proofs.Common.{subst, IsReadAs, room_in}
 use Rattle.nbd_tool.proofs.check.verdict_from.Goals as goal
 
 pub returns-clause-verdict : goal.returns-clause-verdict

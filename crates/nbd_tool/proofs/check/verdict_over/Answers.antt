@@ -1,5 +1,5 @@
 use Rattle.nbd_tool.proofs.JudgedLemmas.{with_entries}
-use Rattle.nbd_files.specs.Starts.{initial_from}
+use Rattle.nbd_tool.proofs.Common.{initial_from}
 use Rattle.nbd_tool.proofs.check.verdict_over.Goals as goal
 
 pub returns-clause-verdict : goal.returns-clause-verdict

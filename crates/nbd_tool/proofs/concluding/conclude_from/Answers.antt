@@ -1,5 +1,4 @@
-use borrow.Author.Tests.{tests}
-use Rattle.std.proofs.Common.{rules}
+use Rattle.nbd_tool.proofs.Common.{tests, rules}
 use Rattle.nbd_tool.proofs.concluding.conclude_from.Goals as goal
 
 pub returns-in-Longer-clause-verdict : goal.returns-in-Longer-clause-verdict

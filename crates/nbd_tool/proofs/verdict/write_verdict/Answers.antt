@@ -1,6 +1,4 @@
-use Rattle.std.proofs.Common.{◌∙◌, inl, subst}
-use Rattle.std.proofs.lemmas.Result.{err_from_is_err_and}
-use Rattle.nbd_capture.specs.Writing.{AppendsPrefix}
+use Rattle.nbd_tool.proofs.Common.{◌∙◌, inl, subst, err_from_is_err_and, AppendsPrefix}
 use Rattle.nbd_tool.proofs.verdict.write_verdict.Goals as goal
 
 pub returns-in_err-write_whole-clause-left : goal.returns-in_err-write_whole-clause-left

@@ -1,4 +1,4 @@
-use Rattle.std.proofs.Common.{◌≡◌, sym, ◌∙◌, true, false}
+use Rattle.nbd_order.proofs.Common.{◌≡◌, sym, ◌∙◌, true, false}
 use Rattle.nbd_order.proofs.refutation.Refutation.are_its_states.Goals as goal
 use Rattle.nbd_order.proofs.refutation.Refutation.are_its_states.Goals.{then-begins, else-begins}
 

@@ -1,4 +1,4 @@
-use Rattle.nbd_order.specs.internal.Refutations.{IsNoHelp}
+use Rattle.nbd_order.proofs.Common.{IsNoHelp}
 use Rattle.nbd_order.proofs.NumberLemmas.{EachOf}
 use Rattle.nbd_order.proofs.refutation.Refutation.are_not_helped.Given as goal
 

@@ -1,4 +1,4 @@
-use Rattle.nbd_order.specs.internal.Refutations.{IsReadAt}
+use Rattle.nbd_order.proofs.Common.{IsReadAt}
 use Rattle.nbd_order.proofs.NumberLemmas.{EachOf}
 use Rattle.nbd_order.proofs.refutation.Refutation.are_reads.Given as goal
 

@@ -1,4 +1,4 @@
-use Rattle.nbd_order.specs.internal.Refutations.{IsStep}
+use Rattle.nbd_order.proofs.Common.{IsStep}
 use Rattle.nbd_order.proofs.NumberLemmas.{EachOf}
 use Rattle.nbd_order.proofs.refutation.Refutation.are_steps.Given as goal
 

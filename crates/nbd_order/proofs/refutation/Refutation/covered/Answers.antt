@@ -1,6 +1,4 @@
-use Rattle.std.proofs.Common.{◌≡◌, ◌+◌, ◌≤◌, inl, inr, length, sym, subst, arith}
-use Rattle.std.proofs.lemmas.Bool.{cases_eq}
-use Rattle.nbd_order.specs.internal.Refutations.{HelpsNone}
+use Rattle.nbd_order.proofs.Common.{◌≡◌, ◌+◌, ◌≤◌, inl, inr, length, sym, subst, arith, cases_eq, HelpsNone}
 use Rattle.nbd_order.proofs.ServiceLemmas.{numbered}
 use Rattle.nbd_order.proofs.refutation.Refutation.covered.Goals as goal
 

@@ -1,5 +1,4 @@
-use Rattle.std.proofs.Common.{ℕ, ◌≤◌, length}
-use Rattle.nbd_order.specs.internal.Refutations.{HelpsNone}
+use Rattle.nbd_order.proofs.Common.{ℕ, ◌≤◌, length, HelpsNone}
 use Rattle.nbd_order.proofs.refutation.Refutation.covered.Given as goal
 
 abbrev pub invariant-loop-i : goal.invariant-loop-i

@@ -1,4 +1,4 @@
-use Rattle.nbd_order.specs.internal.Refutations.{IsFitting}
+use Rattle.nbd_order.proofs.Common.{IsFitting}
 use Rattle.nbd_order.proofs.NumberLemmas.{EachOf}
 use Rattle.nbd_order.proofs.refutation.Refutation.fits.Given as goal
 

@@ -1,6 +1,4 @@
-use Rattle.std.proofs.Common.{sym, subst}
-use Rattle.nbd_state.specs.Transcripts.{report_of_request}
-use Rattle.nbd_order.specs.internal.Refutations.{IsNoHelp}
+use Rattle.nbd_order.proofs.Common.{sym, subst, report_of_request, IsNoHelp}
 use Rattle.nbd_order.proofs.StateLemmas.{byte_is}
 use Rattle.nbd_order.proofs.refutation.Refutation.helps_none.Goals as goal
 

@@ -1,6 +1,4 @@
-use Rattle.std.proofs.Common.{◌≡◌, refl, sym, ◌∙◌, ap, true, false}
-use Rattle.nbd_state.specs.Transcripts.{report_of_request}
-use Rattle.nbd_order.specs.Unexplained.{has}
+use Rattle.nbd_order.proofs.Common.{◌≡◌, refl, sym, ◌∙◌, ap, true, false, report_of_request, has}
 use Rattle.nbd_order.proofs.StateLemmas.{byte_is, fits_of}
 use Rattle.nbd_order.proofs.refutation.Refutation.leads.Goals as goal
 use Rattle.nbd_order.proofs.refutation.Refutation.leads.Goals.{then-adds_alone, else-adds_alone}

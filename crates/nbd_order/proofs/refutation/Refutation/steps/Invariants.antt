@@ -1,6 +1,4 @@
-use Rattle.std.proofs.Common.{◌≡◌, ℕ, ◌<◌, Some, slice_get}
-use Rattle.nbd_order.specs.declared.refutation.State.{State}
-use Rattle.nbd_order.specs.internal.Refutations.{AreSteps}
+use Rattle.nbd_order.proofs.Common.{◌≡◌, ℕ, ◌<◌, Some, slice_get, State, AreSteps}
 use Rattle.nbd_order.proofs.refutation.Refutation.steps.Given as goal
 
 abbrev pub invariant-loop-state : goal.invariant-loop-state
