@@ -1,36 +1,6 @@
 -- The verdict that is explained, what faults say, and the lines of an order of arrival.
-use Rattle.std.proofs.Common.{◌≡◌, ℕ, List, ◌++◌, true, false, refl, sym, subst, Option, None, Some, Result, Ok, Err, IfOk, IfErr, IfSome, OnOk, inl, inr, length, suc, ◌⊎◌, ◌+◌, arith, codes}
-use Rattle.std.specs.Fmt.{decimal}
-use Rattle.std.specs.Io.KnownBytes.{Appends, Keeps}
-use Rattle.nbd_wire.specs.declared.entry.Entry.{Entry}
-use Rattle.nbd_wire.specs.declared.fault.WireFault.{WireFault}
-use Rattle.nbd_wire.specs.declared.profile.Profile.{Profile}
-use Rattle.nbd_wire.specs.protocol.Explains.{Start}
-use Rattle.nbd_wire.specs.protocol.Reports.{Report}
-use Rattle.nbd_capture.specs.Order.{IsOrderText}
-use Rattle.nbd_session.specs.declared.fault.SessionFault.{SessionFault}
-use Rattle.nbd_session.specs.declared.fault.SessionFault.TheVariants.{Wire}
-use Rattle.nbd_session.specs.Refusals.{EndsIn}
-use Rattle.nbd_session.specs.Sessions.{IsReported, SessionView, fault_at_end, fault_of}
-use Rattle.nbd_session.proofs.judge.RefusalLemmas.{no_run_of}
-use Rattle.nbd_judge.specs.Captures.{IsFaultOf}
-use Rattle.nbd_judge.specs.internal.Captures.{HasReport}
-use Rattle.nbd_files.specs.declared.fault.RunFault.{RunFault}
-use Rattle.nbd_files.specs.declared.fault.RunFault.TheVariants.{CaptureLine, CaptureRead, ImageRead, Memory, OrderLine, OrderRead, ScriptLine, ScriptRead, Write}
-use Rattle.nbd_tool.specs.Ends.{IsOverText}
-use Rattle.nbd_files.specs.declared.start.StartFrom.{StartFrom}
-use Rattle.nbd_tool.specs.declared.beginning.Beginning.{Beginning}
-use Rattle.nbd_tool.specs.Beginnings.{IsBeginningOf, room_in}
-use Rattle.nbd_tool.specs.Runs.{IsCapture, IsCause, IsOrder, flat_of}
-use Rattle.nbd_files.specs.Starts.{HasImage}
-use Rattle.nbd_explain.specs.Ordering.{IsOrderingCause, LeavesOrdered}
-use Rattle.nbd_tool.proofs.JudgedLemmas.{verdict_on}
-use Rattle.nbd_tool.proofs.OverLemmas.{checked_over, fault_over, report_over}
-use Rattle.nbd_explain.specs.Arrival.{Arrives, number_lines}
+use Rattle.nbd_explain.proofs.Common.{◌≡◌, ℕ, List, ◌++◌, true, false, refl, sym, subst, Option, None, Some, Result, Ok, Err, IfOk, IfErr, IfSome, OnOk, inl, inr, length, suc, ◌⊎◌, ◌+◌, arith, codes, decimal, Appends, Keeps, Entry, WireFault, Profile, Start, Report, IsOrderText, SessionFault, Wire, EndsIn, IsReported, SessionView, fault_at_end, fault_of, no_run_of, IsFaultOf, HasReport, RunFault, CaptureLine, CaptureRead, ImageRead, Memory, OrderLine, OrderRead, ScriptLine, ScriptRead, Write, IsOverText, StartFrom, Beginning, IsBeginningOf, room_in, IsCapture, IsCause, IsOrder, flat_of, HasImage, IsOrderingCause, LeavesOrdered, verdict_on, checked_over, fault_over, report_over, Arrives, number_lines, Answer, Explains, IsFinishOf, IsToldOn, OnWritten}
 use Rattle.nbd_explain.specs.Arrival.HasArrival.{accepted, refused}
-use Rattle.nbd_explain.specs.declared.answer.Answer.{Answer}
-use Rattle.nbd_explain.specs.Explained.{Explains}
-use Rattle.nbd_explain.specs.internal.Lines.{IsFinishOf, IsToldOn, OnWritten}
 
 -- what holds of a value holds of another claim that follows
 pub map_ok : {A E : Type 0} {P Q : A → Type 0} (o : Result A E) → ((a : A) → P a → Q a) → IfOk o P → IfOk o Q

@@ -1,14 +1,6 @@
 -- What became of each message, and the lines that say so.
-use Rattle.std.proofs.Common.{◌≡◌, ◌∙◌, ◌++◌, ◌∷◌, ◌+◌, ◌-◌, ◌<◌, ◌≤◌, ℕ, zero, suc, List, [], Option, append_assoc, append-nil, length, drop, refl, sym, ap, subst, arith}
-use Rattle.std.proofs.Math.ListN.{drop_of_length-le, get_or}
-use Rattle.std.proofs.lemmas.List.{get_or_append_left, length-append}
-use Rattle.std.proofs.Math.Seq.{get_or-append_seam}
-use Rattle.std.proofs.KnownBytes.{Appends-trans}
+use Rattle.nbd_explain.proofs.Common.{◌≡◌, ◌∙◌, ◌++◌, ◌∷◌, ◌+◌, ◌-◌, ◌<◌, ◌≤◌, ℕ, zero, suc, List, [], Option, append_assoc, append-nil, length, drop, refl, sym, ap, subst, arith, drop_of_length-le, get_or, get_or_append_left, length-append, get_or-append_seam, Appends-trans, Message, Outcome, AppendsFront, AppendsLine, AppendsNames, AreLines, EndsWith, fate, fates_behind, named, none}
 use Rattle.std.specs.Prelude.{codes}
-use Rattle.nbd_wire.specs.declared.message.Message.{Message}
-use Rattle.nbd_state.specs.declared.asked.Outcome.{Outcome}
-use Rattle.nbd_explain.specs.internal.Fates.{AppendsFront, AppendsLine, AppendsNames, AreLines, EndsWith, fate, fates_behind}
-use Rattle.nbd_explain.specs.internal.Fates.AreLines.{named, none}
 
 -- there is one for each message
 fates_length : (ms : List Message) → length (fates_behind ms) ≡ length ms

@@ -1,29 +1,8 @@
 -- What is shown of a session that is over.
-use Rattle.std.proofs.Common.{◌≡◌, inl, inr, ℕ, List, [], ◌∷◌, ◌++◌, length, Bool, refl, sym, ◌∙◌, ap, subst, append-nil, Option, Some, None, IfSome, Result, Ok, Err, IfOk, IfErr, IsErrAnd, OnOk}
-use Rattle.std.specs.Io.KnownBytes.{Appends, Keeps}
-use Rattle.std.proofs.KnownBytes.{Appends-trans}
-use Rattle.nbd_wire.specs.declared.profile.Profile.{Profile}
-use Rattle.nbd_wire.specs.protocol.Captures.{Pair}
-use Rattle.nbd_capture.specs.Writing.{AppendsPrefix}
-use Rattle.nbd_capture.proofs.WriterLemmas.{prefix_then, then_prefix}
-use Rattle.nbd_wire.specs.declared.fault.WireFault.{WireFault}
-use Rattle.nbd_wire.specs.declared.fault.WireFault.TheVariants.{Unfinished}
-use Rattle.nbd_session.specs.declared.fault.SessionFault.{SessionFault}
+use Rattle.nbd_explain.proofs.Common.{◌≡◌, inl, inr, ℕ, List, [], ◌∷◌, ◌++◌, length, Bool, refl, sym, ◌∙◌, ap, subst, append-nil, Option, Some, None, IfSome, Result, Ok, Err, IfOk, IfErr, IsErrAnd, OnOk, Appends, Keeps, Appends-trans, Profile, Pair, AppendsPrefix, prefix_then, then_prefix, WireFault, Unfinished, SessionFault, IsAcceptedOf, IsRefusalOf, IsComplete, IsCompleteBy, IsOpenEndOf, IsWireFaultOf, no_run_of, open_end_of, HasRunOf, IsOfRun, SessionView, end_by, fault_at_end, pairs_of, bytes_taken, open_end_fault, message_lines, RunFault, OutputFault, of_output, IsCapture, flat_of, IsOver, IsOverText, IsWireAt, LeavesLast, is_accepted, last_line, IsShowCause, IsShown, Leads, LeavesShown, WritesAll, WritesSome, WritesMessages, accepted, refused, took_all}
 use Rattle.nbd_session.specs.declared.fault.SessionFault.TheVariants as session
-use Rattle.nbd_session.specs.Refusals.{IsAcceptedOf, IsRefusalOf, IsComplete, IsCompleteBy, IsOpenEndOf, IsWireFaultOf}
-use Rattle.nbd_session.proofs.judge.RefusalLemmas.{no_run_of, open_end_of}
-use Rattle.nbd_session.specs.Sessions.{HasRunOf, IsOfRun, SessionView, end_by, fault_at_end, pairs_of, bytes_taken, open_end_fault}
-use Rattle.nbd_lines.specs.Script.{message_lines}
-use Rattle.nbd_files.specs.declared.fault.RunFault.{RunFault}
 use Rattle.nbd_files.specs.declared.fault.RunFault.TheVariants as faults
-use Rattle.nbd_lines.specs.declared.output.OutputFault.{OutputFault}
 use Rattle.nbd_lines.specs.declared.output.OutputFault.TheVariants as output
-use Rattle.nbd_lines.specs.Causes.{of_output}
-use Rattle.nbd_tool.specs.Runs.{IsCapture, flat_of}
-use Rattle.nbd_tool.specs.Ends.{IsOver, IsOverText, IsWireAt, LeavesLast, is_accepted, last_line}
-use Rattle.nbd_explain.specs.Shown.{IsShowCause, IsShown, Leads, LeavesShown, WritesAll, WritesSome, WritesMessages}
-use Rattle.nbd_explain.specs.Shown.IsShown.{accepted, refused}
-use Rattle.nbd_tool.proofs.OverLemmas.{took_all}
 
 -- the messages of a session that is over are those of a prefix of the capture
 pub leads : {profile : Profile} (capture : List Pair) (r : SessionView) → IsOver profile capture r → IsOfRun r → Leads profile capture (pairs_of r) r.messages

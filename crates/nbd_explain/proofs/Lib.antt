@@ -1,3 +1,4 @@
+pub mod Common
 pub mod ExplainedLemmas
 pub mod FateLemmas
 pub mod LastLineLemmas

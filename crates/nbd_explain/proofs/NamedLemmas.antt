@@ -1,20 +1,7 @@
 -- What the end of a session says of its capture.
-use Rattle.std.proofs.Common.{◌≡◌, ℕ, List, Bool, sym, ◌∙◌, subst, Option, Result, Ok, Err, IfOk, IfErr, IsErrAnd, OnOk, ◌⊎◌, inl, inr}
-use Rattle.std.specs.Io.KnownBytes.{Appends}
-use Rattle.std.proofs.KnownBytes.{Appends-trans}
-use Rattle.nbd_wire.specs.declared.profile.Profile.{Profile}
-use Rattle.nbd_session.specs.declared.fault.SessionFault.{SessionFault}
-use Rattle.nbd_session.specs.Refusals.{IsComplete}
-use Rattle.nbd_session.specs.Sessions.{IsOfRun, SessionView, fault_at_end, fault_of}
-use Rattle.nbd_files.specs.declared.fault.RunFault.{RunFault}
+use Rattle.nbd_explain.proofs.Common.{◌≡◌, ℕ, List, Bool, sym, ◌∙◌, subst, Option, Result, Ok, Err, IfOk, IfErr, IsErrAnd, OnOk, ◌⊎◌, inl, inr, Appends, Appends-trans, Profile, SessionFault, IsComplete, IsOfRun, SessionView, fault_at_end, fault_of, RunFault, IsOverText, LeavesLast, is_accepted, last_line, flat_of, IsShowCause, IsShown, capture_over, NamesAll, AppendsNames}
 use Rattle.nbd_files.specs.declared.fault.RunFault.TheVariants as faults
-use Rattle.nbd_tool.specs.Ends.{IsOverText, LeavesLast, is_accepted, last_line}
-use Rattle.nbd_tool.specs.Runs.{flat_of}
-use Rattle.nbd_explain.specs.Shown.{IsShowCause, IsShown}
 use Rattle.nbd_explain.proofs.LastLineLemmas.{shown}
-use Rattle.nbd_tool.proofs.OverLemmas.{capture_over}
-use Rattle.nbd_explain.specs.Named.{NamesAll}
-use Rattle.nbd_explain.specs.internal.Fates.{AppendsNames}
 use Rattle.nbd_explain.proofs.OutcomeLemmas.{named_by_report}
 
 -- the end of a session that is over, behind the lines of its messages

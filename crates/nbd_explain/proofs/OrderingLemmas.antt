@@ -1,52 +1,8 @@
 -- What a run of `order` writes.
-use Rattle.std.proofs.Common.{◌≡◌, ℕ, List, [], ◌∷◌, ◌++◌, ◌<◌, ◌≤◌, ap, refl, sym, subst, Option, Some, None, Result, Ok, Err, IfOk, IfErr, IfSome, length, slice_index, slice_get, inl, inr, arith}
+use Rattle.nbd_explain.proofs.Common.{◌≡◌, ℕ, List, [], ◌∷◌, ◌++◌, ◌<◌, ◌≤◌, ap, refl, sym, subst, Option, Some, None, Result, Ok, Err, IfOk, IfErr, IfSome, length, slice_index, slice_get, inl, inr, arith, decimal, Appends, Entry, WireFault, Profile, Pair, FitsImage, IsExplainedOf, Start, start_byte, Item, pairs, Report, report, IsRunOf, Passes, request_count, IsSoundReport, no_export, SessionFault, Wire, EndsIn, IsReported, SessionView, fault_at_end, fault_of, no_run_of, IsFaultOf, HasReport, IsFound, IsWanted, Says, arrival, IsRefutedBy, IsUnexplained, Found, Wanted, IsOverText, IsOrdered, IsOrderedFrom, IsUnexplainedBy, Orders, found_text, ordered_of, spaced_numbers, unexplained_line, gave_up, image, none_whole, order, unexplained, wire, Refuted, Beginning, IsBeginningOf, room_in, IsToldFrom, IsToldOf, of_refusal, of_report, RunFault, Ordered, flat_of, line, words, fault_over, report_over, Exporting, size_and_flags, IsOtherSize, wrong_verdict, size_of, IsReadAs, Longer}
 use Rattle.std.specs.Prelude.{codes}
-use Rattle.std.specs.Fmt.{decimal}
-use Rattle.std.specs.Io.KnownBytes.{Appends}
-use Rattle.nbd_wire.specs.declared.entry.Entry.{Entry}
-use Rattle.nbd_wire.specs.declared.fault.WireFault.{WireFault}
-use Rattle.nbd_wire.specs.declared.profile.Profile.{Profile}
-use Rattle.nbd_wire.specs.protocol.Captures.{Pair}
-use Rattle.nbd_wire.specs.protocol.Explains.{FitsImage, IsExplainedOf, Start, start_byte}
-use Rattle.nbd_wire.specs.protocol.Marks.{Item, pairs}
-use Rattle.nbd_wire.specs.protocol.Reports.{Report, report}
-use Rattle.nbd_wire.specs.protocol.Rules.{IsRunOf}
-use Rattle.nbd_wire.specs.protocol.Verdicts.{Passes, request_count}
-use Rattle.nbd_laws.specs.Soundness.{IsSoundReport}
-use Rattle.nbd_judge.proofs.contents.StartLemmas.{no_export}
-use Rattle.nbd_session.specs.declared.fault.SessionFault.{SessionFault}
-use Rattle.nbd_session.specs.declared.fault.SessionFault.TheVariants.{Wire}
-use Rattle.nbd_session.specs.Refusals.{EndsIn}
-use Rattle.nbd_session.specs.Sessions.{IsReported, SessionView, fault_at_end, fault_of}
-use Rattle.nbd_session.proofs.judge.RefusalLemmas.{no_run_of}
-use Rattle.nbd_judge.specs.Captures.{IsFaultOf}
-use Rattle.nbd_judge.specs.internal.Captures.{HasReport}
 use Rattle.nbd_judge.specs.declared.verdict.Verdict.TheVariants as verdict
-use Rattle.nbd_order.specs.Finding.{IsFound, IsWanted, Says, arrival}
-use Rattle.nbd_order.specs.Unexplained.{IsRefutedBy, IsUnexplained}
-use Rattle.nbd_order.specs.declared.finding.Found.{Found}
 use Rattle.nbd_order.specs.declared.finding.Found.TheVariants as found
-use Rattle.nbd_order.specs.declared.finding.Wanted.{Wanted}
-use Rattle.nbd_tool.specs.Ends.{IsOverText}
-use Rattle.nbd_explain.specs.Ordering.{IsOrdered, IsOrderedFrom, IsUnexplainedBy, Orders, found_text, ordered_of, spaced_numbers, unexplained_line}
-use Rattle.nbd_explain.specs.Ordering.IsOrdered.{gave_up, image, none_whole, order, unexplained, wire}
-use Rattle.nbd_explain.specs.declared.ordering.Ordered.TheVariants.{Refuted}
-use Rattle.nbd_tool.specs.declared.beginning.Beginning.{Beginning}
-use Rattle.nbd_tool.specs.Beginnings.{IsBeginningOf, room_in}
-use Rattle.nbd_explain.specs.internal.Outcomes.{IsToldFrom, IsToldOf}
-use Rattle.nbd_explain.specs.internal.Outcomes.IsToldOf.{of_refusal, of_report}
-use Rattle.nbd_files.specs.declared.fault.RunFault.{RunFault}
-use Rattle.nbd_explain.specs.declared.ordering.Ordered.{Ordered}
-use Rattle.nbd_tool.specs.Runs.{flat_of}
-use Rattle.nbd_tool.specs.Verdicts.{line, words}
-use Rattle.nbd_tool.proofs.OverLemmas.{fault_over, report_over}
-use Rattle.nbd_wire.specs.protocol.Operations.{Exporting}
-use Rattle.nbd_state.specs.Transcripts.{size_and_flags}
-use Rattle.nbd_judge.specs.Images.{IsOtherSize}
-use Rattle.nbd_judge.specs.Verdicts.{wrong_verdict}
-use Rattle.nbd_judge.specs.Servable.{size_of}
-use Rattle.nbd_tool.specs.Beginnings.{IsReadAs}
-use Rattle.nbd_tool.specs.declared.beginning.Beginning.TheVariants.{Longer}
 
 -- an image that was counted has another size than the export
 pub counted_other : (export : Option Exporting) (initial : Start) (n size flags : ℕ) → Some (size, flags) ≡ size_and_flags export → IsReadAs (size_of export) initial (Longer n) → IsOtherSize export initial n size

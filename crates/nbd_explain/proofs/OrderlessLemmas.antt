@@ -1,41 +1,9 @@
 -- What is told of a session without an order.
-use Rattle.std.proofs.Common.{◌≡◌, ℕ, List, ◌++◌, sym, subst, Option, Some, None, Result, Ok, Err, IfSome}
-use Rattle.std.specs.Io.KnownBytes.{Appends}
-use Rattle.nbd_wire.specs.declared.entry.Entry.{Entry}
-use Rattle.nbd_wire.specs.declared.fault.WireFault.{WireFault}
-use Rattle.nbd_wire.specs.declared.profile.Profile.{Profile}
-use Rattle.nbd_wire.specs.protocol.Captures.{Pair}
-use Rattle.nbd_wire.specs.protocol.Explains.{IsExplainedOf, Start, start_byte}
-use Rattle.nbd_wire.specs.protocol.Reports.{Report, report}
-use Rattle.nbd_wire.specs.protocol.Verdicts.{request_count}
-use Rattle.nbd_session.specs.declared.fault.SessionFault.{SessionFault}
-use Rattle.nbd_session.specs.declared.fault.SessionFault.TheVariants.{Memory, Wire}
-use Rattle.nbd_session.proofs.judge.RefusalLemmas.{no_run_of}
-use Rattle.nbd_judge.specs.Captures.{IsChecked, IsFaultOf}
-use Rattle.nbd_judge.specs.Images.{IsOtherSize}
-use Rattle.nbd_judge.specs.Servable.{size_of}
-use Rattle.nbd_judge.specs.internal.Captures.{HasReport}
-use Rattle.nbd_judge.specs.declared.verdict.Verdict.{Verdict}
+use Rattle.nbd_explain.proofs.Common.{◌≡◌, ℕ, List, ◌++◌, sym, subst, Option, Some, None, Result, Ok, Err, IfSome, Appends, Entry, WireFault, Profile, Pair, IsExplainedOf, Start, start_byte, Report, report, request_count, SessionFault, Wire, no_run_of, IsChecked, IsFaultOf, IsOtherSize, size_of, HasReport, Verdict, checked, IsFound, IsWanted, Says, arrival, IsRefutedBy, IsUnexplained, Found, GaveUp, Image, NoneWhole, Order, Unexplained, Any, IsBeginningOf, IsReadAs, room_in, IsUnexplainedBy, unexplained_line, flat_of, IsYes, line, Beginning, fault_over, report_over, Answer, No, Open, Yes, answer_to, BeginsWithLine, IsTold, Tells, found, Begins, IsFinishOf, IsLineOf, IsToldBySearch, IsToldOfFound, OnWritten}
+use Rattle.nbd_session.specs.declared.fault.SessionFault.TheVariants.{Memory}
 use Rattle.nbd_judge.specs.declared.verdict.Verdict.TheVariants as verdict
-use Rattle.nbd_judge.proofs.verdicts.ChunkLemmas.{checked}
-use Rattle.nbd_order.specs.Finding.{IsFound, IsWanted, Says, arrival}
-use Rattle.nbd_order.specs.Unexplained.{IsRefutedBy, IsUnexplained}
-use Rattle.nbd_order.specs.declared.finding.Found.{Found}
-use Rattle.nbd_order.specs.declared.finding.Found.TheVariants.{GaveUp, Image, NoneWhole, Order, Unexplained}
-use Rattle.nbd_order.specs.declared.finding.Wanted.TheVariants.{Any}
-use Rattle.nbd_tool.specs.Beginnings.{IsBeginningOf, IsReadAs, room_in}
-use Rattle.nbd_explain.specs.Ordering.{IsUnexplainedBy, unexplained_line}
-use Rattle.nbd_tool.specs.Runs.{flat_of}
-use Rattle.nbd_tool.specs.Verdicts.{IsYes, line}
-use Rattle.nbd_tool.specs.declared.beginning.Beginning.{Beginning}
-use Rattle.nbd_tool.proofs.OverLemmas.{fault_over, report_over}
-use Rattle.nbd_explain.specs.declared.answer.Answer.{Answer}
-use Rattle.nbd_explain.specs.declared.answer.Answer.TheVariants.{No, Open, Yes}
-use Rattle.nbd_explain.specs.Answering.{answer_to}
-use Rattle.nbd_explain.specs.Explained.{BeginsWithLine}
-use Rattle.nbd_explain.specs.Orderless.{IsTold, IsToldFrom, Tells}
-use Rattle.nbd_explain.specs.Orderless.IsTold.{found, gave_up, image, unexplained, wire}
-use Rattle.nbd_explain.specs.internal.Lines.{Begins, IsFinishOf, IsLineOf, IsToldBySearch, IsToldOfFound, OnWritten}
+use Rattle.nbd_explain.specs.Orderless.{IsToldFrom}
+use Rattle.nbd_explain.specs.Orderless.IsTold.{gave_up, image, unexplained, wire}
 
 -- the verdict on an order that explains a capture is a yes
 yes_of : {profile : Profile} (capture : List Pair) (entries : List Entry) (initial : Start) (v : Verdict) → IsExplainedOf profile capture entries initial → IsChecked profile capture entries initial v → IsYes v

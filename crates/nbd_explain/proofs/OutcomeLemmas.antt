@@ -1,28 +1,9 @@
 -- The report of a run states of each request what the messages behind it tell.
-use Rattle.std.proofs.Common.{◌≡◌, ◌∙◌, ◌++◌, ◌∷◌, ◌+◌, ◌==◌, ◌&&◌, ◌||◌, not, ℕ, suc, List, [], Bool, true, false, Option, Some, None, is_some, codes, if◌then◌else◌, append_assoc, append-nil, length, map, refl, sym, ap, subst, arith, eqb-true}
-use Rattle.std.proofs.lemmas.List.{map-append}
-use Rattle.std.proofs.Math.Bool.{or-false}
+use Rattle.nbd_explain.proofs.Common.{◌≡◌, ◌∙◌, ◌++◌, ◌∷◌, ◌+◌, ◌==◌, ◌&&◌, ◌||◌, not, ℕ, suc, List, [], Bool, true, false, Option, Some, None, is_some, codes, if◌then◌else◌, append_assoc, append-nil, length, map, refl, sym, ap, subst, arith, eqb-true, map-append, or-false, Message, Greeting, ClientFlags, Choice, Exported, Request, Simple, Chunk, ExtendedRequest, ExtendedChunk, Profile, Item, Byte, Starts, Completes, Serves, completed_messages, Exporting, Operation, any, ends_reply, is_failing, is_finished, outcome, Asked, asked_list, known_count, operations_of, report, IsRunBut, MayComplete, Obeys, after, complete, cookie_of, core_with_request, ends_at, reply_to, request_of_reply, target_of, Context, Core, Phase, State, Transmission, has_contexts, in_force, is_awaiting, start, start_of, target, target_from, with_reply, with_reply_at, outcome_of, Outcome, Failure, Pending, Success, AreDistinct, Free, both_true, distinct_complete, not_true_is_false, in_force_stays, transmission_stays, at_base, AreNamed, IsEnding, is_numbered, message_of, plain, other, request, AreLines, EndsWith, fate, fate_by, has_cookie, outcome_by, reply_in, named, none}
 use Rattle.nbd_wire.specs.declared.commands.TheConstants as commands
-use Rattle.nbd_wire.specs.declared.message.Message.{Message}
-use Rattle.nbd_wire.specs.declared.message.Message.TheVariants.{Greeting, ClientFlags, Choice, Answer, Exported, Request, Simple, Chunk, ExtendedRequest, ExtendedChunk}
-use Rattle.nbd_wire.specs.declared.profile.Profile.{Profile}
-use Rattle.nbd_wire.specs.protocol.Marks.{Item, Byte, Starts, Completes, Serves, completed_messages}
+use Rattle.nbd_wire.specs.declared.message.Message.TheVariants.{Answer}
 use Rattle.nbd_wire.specs.protocol.Operations as definitions
-use Rattle.nbd_wire.specs.protocol.Operations.{Exporting, Operation, any, ends_reply, is_failing, is_finished, outcome}
-use Rattle.nbd_wire.specs.protocol.Reports.{Asked, asked_list, known_count, operations_of, report}
-use Rattle.nbd_wire.specs.protocol.Rules.{IsRunBut, MayComplete, Obeys, after, complete, cookie_of, core_with_request, ends_at, reply_to, request_of_reply, target_of}
-use Rattle.nbd_wire.specs.protocol.Contexts.{Context}
-use Rattle.nbd_wire.specs.protocol.States.{Core, Phase, State, Transmission, has_contexts, in_force, is_awaiting, start, start_of, target, target_from, with_reply, with_reply_at}
-use Rattle.nbd_state.specs.Showing.{outcome_of}
-use Rattle.nbd_state.specs.declared.asked.Outcome.{Outcome}
-use Rattle.nbd_state.specs.declared.asked.Outcome.TheVariants.{Failure, Pending, Success}
-use Rattle.nbd_laws.proofs.requests.OutstandingLemmas.{AreDistinct, Free, both_true, distinct_complete, not_true_is_false}
-use Rattle.nbd_laws.proofs.judge.PhaseLemmas.{in_force_stays, transmission_stays}
-use Rattle.nbd_laws.proofs.runs.ProfileLemmas.{at_base}
-use Rattle.nbd_explain.specs.Named.{AreNamed, IsEnding, is_numbered, message_of, plain}
-use Rattle.nbd_explain.specs.Named.AreNamed.{none as no_names, other, request}
-use Rattle.nbd_explain.specs.internal.Fates.{AreLines, EndsWith, fate, fate_by, has_cookie, outcome_by, reply_in}
-use Rattle.nbd_explain.specs.internal.Fates.AreLines.{named, none}
+use Rattle.nbd_explain.specs.Named.AreNamed.{none as no_names}
 
 -- the reply of a request: what has come of it, and what comes of it in these messages
 abbrev whole_reply : List Message → Operation → List Message

@@ -1,16 +1,6 @@
 -- A capture has one output of `show`.
-use Rattle.std.proofs.Common.{◌≡◌, List, [], ◌∷◌, length, refl, sym, ◌∙◌, ap}
-use Rattle.nbd_wire.specs.declared.profile.Profile.{Profile}
-use Rattle.nbd_wire.specs.declared.message.Message.{Message}
-use Rattle.nbd_wire.specs.protocol.Captures.{Pair}
-use Rattle.nbd_wire.specs.protocol.Marks.{Item, Byte, Starts, Completes, Serves, completed_messages, without_service}
-use Rattle.nbd_laws.proofs.service.ServiceLemmas.{same_marks}
-use Rattle.nbd_session.specs.Sessions.{HasRunOf}
+use Rattle.nbd_explain.proofs.Common.{◌≡◌, List, [], ◌∷◌, length, refl, sym, ◌∙◌, ap, Profile, Message, Pair, Item, Byte, Starts, Completes, Serves, completed_messages, without_service, same_marks, HasRunOf, one_wire_fault, line, OneOutput, accepted, refused}
 use Rattle.nbd_judge.specs.declared.verdict.Verdict.TheVariants.{Wire}
-use Rattle.nbd_judge.proofs.verdicts.UniqueLemmas.{one_wire_fault}
-use Rattle.nbd_tool.specs.Verdicts.{line}
-use Rattle.nbd_explain.specs.Outputs.{OneOutput}
-use Rattle.nbd_explain.specs.Shown.IsShown.{accepted, refused}
 
 -- the moments of service aside, the same messages complete
 completed_alike : (items : List Item) → completed_messages (without_service items) ≡ completed_messages items

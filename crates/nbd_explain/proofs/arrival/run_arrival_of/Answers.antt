@@ -1,7 +1,5 @@
 use Rattle.nbd_explain.proofs.ExplainedLemmas.{arrives, arrives_not}
-use Rattle.std.proofs.Common.{subst, rules}
-use Rattle.std.specs.Io.KnownBytes.{Appends}
-use Rattle.nbd_explain.specs.Arrival.{number_lines}
+use Rattle.nbd_explain.proofs.Common.{subst, rules, Appends, number_lines}
 use Rattle.nbd_explain.proofs.arrival.run_arrival_of.Goals as goal
 
 pub returns-in_ok-write_numbers-in-Ok-clause-written : goal.returns-in_ok-write_numbers-in-Ok-clause-written

@@ -1,9 +1,6 @@
 use Rattle.nbd_explain.proofs.ExplainedLemmas.{map_ok}
 use Rattle.nbd_explain.proofs.OrderlessLemmas.{searched}
-use Rattle.std.proofs.Common.{subst, sym, List, Option, IfOk, ℕ}
-use Rattle.nbd_files.specs.Starts.{initial_from}
-use Rattle.nbd_explain.specs.Explained.{IsExplained}
-use Rattle.nbd_explain.specs.internal.Lines.{IsFinishOf, OnWritten}
+use Rattle.nbd_explain.proofs.Common.{subst, sym, List, Option, IfOk, ℕ, initial_from, IsExplained, IsFinishOf, OnWritten}
 use Rattle.nbd_explain.proofs.explain.told_of.Goals as goal
 
 pub returns-in-None-clause-told : goal.returns-in-None-clause-told

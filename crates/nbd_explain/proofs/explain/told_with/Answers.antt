@@ -1,7 +1,5 @@
 use Rattle.nbd_explain.proofs.ExplainedLemmas.{explained, map_ok}
-use Rattle.std.proofs.Common.{subst, sym, IfSome}
-use Rattle.nbd_capture.specs.Order.{IsOrderText}
-use Rattle.nbd_files.specs.Starts.{initial_from}
+use Rattle.nbd_explain.proofs.Common.{subst, sym, IfSome, IsOrderText, initial_from}
 use Rattle.nbd_explain.proofs.explain.told_with.Goals as goal
 
 pub returns-clause-told : goal.returns-clause-told

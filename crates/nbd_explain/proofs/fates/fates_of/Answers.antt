@@ -1,7 +1,4 @@
-use Rattle.std.proofs.Common.{◌≡◌, ◌∙◌, ◌∷◌, ◌++◌, ◌+◌, ◌-◌, ◌<◌, ℕ, List, [], length, drop, sym, ap, subst, arith}
-use Rattle.std.proofs.lemmas.List.{drop_more}
-use Rattle.nbd_wire.specs.declared.message.Message.{Message}
-use Rattle.nbd_explain.specs.internal.Fates.{AreReplies, fate, fates_behind}
+use Rattle.nbd_explain.proofs.Common.{◌≡◌, ◌∙◌, ◌∷◌, ◌++◌, ◌+◌, ◌-◌, ◌<◌, ℕ, List, [], length, drop, sym, ap, subst, arith, drop_more, Message, AreReplies, fate, fates_behind}
 use Rattle.nbd_explain.proofs.fates.fates_of.Goals as goal
 
 pub loop-behind-preserved : goal.loop-behind-preserved

@@ -1,5 +1,4 @@
-use Rattle.std.proofs.Common.{◌≡◌, ◌-◌, drop, length}
-use Rattle.nbd_explain.specs.internal.Fates.{AreReplies, fates_behind}
+use Rattle.nbd_explain.proofs.Common.{◌≡◌, ◌-◌, drop, length, AreReplies, fates_behind}
 use Rattle.nbd_explain.proofs.fates.fates_of.Given as goal
 
 abbrev pub invariant-loop-behind : goal.invariant-loop-behind

@@ -1,7 +1,5 @@
 -- Lines were written that name the messages before a place.
-use Rattle.std.proofs.Common.{◌≡◌, List, drop}
-use Rattle.nbd_wire.specs.declared.message.Message.{Message}
-use Rattle.nbd_explain.specs.internal.Fates.{AppendsFront, fates_behind}
+use Rattle.nbd_explain.proofs.Common.{◌≡◌, List, drop, Message, AppendsFront, fates_behind}
 use Rattle.nbd_explain.proofs.listing.write_lines.Given as goal
 
 abbrev pub invariant-loop-place : goal.invariant-loop-place

@@ -1,5 +1,4 @@
-use Rattle.std.proofs.Common.{subst}
-use Rattle.nbd_explain.specs.internal.Fates.{AppendsNames}
+use Rattle.nbd_explain.proofs.Common.{subst, AppendsNames}
 use Rattle.nbd_explain.proofs.NamedLemmas.{last_cause_over, named_over, told_cause_over}
 use Rattle.nbd_explain.proofs.listing.write_names.Goals as goal
 

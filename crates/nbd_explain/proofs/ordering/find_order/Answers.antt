@@ -1,12 +1,4 @@
-use Rattle.std.proofs.Common.{◌≡◌, ◌∙◌, None, subst, sym}
-use Rattle.std.proofs.lemmas.List.Elements.{All-nil}
-use Rattle.nbd_wire.specs.declared.entry.Entry.{Entry}
-use Rattle.nbd_judge.specs.Servable.{size_of}
-use Rattle.nbd_wire.specs.protocol.Verdicts.{Passes}
-use Rattle.nbd_order.specs.Finding.{AreWhole}
-use Rattle.nbd_order.specs.declared.finding.Found.TheVariants.{Image, Order}
-use Rattle.nbd_order.proofs.FoundLemmas.{says_of, whole_wanted}
-use Rattle.nbd_tool.specs.Beginnings.{IsReadAs}
+use Rattle.nbd_explain.proofs.Common.{◌≡◌, ◌∙◌, None, subst, sym, All-nil, Entry, size_of, Passes, AreWhole, Image, Order, says_of, whole_wanted, IsReadAs}
 use Rattle.nbd_explain.proofs.OrderingLemmas.{counted_other, nothing_passes}
 use Rattle.nbd_explain.proofs.ordering.find_order.Goals as goal
 

@@ -1,5 +1,4 @@
-use Rattle.std.proofs.Common.{◌≡◌, take}
-use Rattle.nbd_explain.specs.Ordering.{entry_lines}
+use Rattle.nbd_explain.proofs.Common.{◌≡◌, take, entry_lines}
 use Rattle.nbd_explain.proofs.ordering.lines_of.Given as goal
 
 abbrev pub invariant-loop-entry : goal.invariant-loop-entry

@@ -1,5 +1,4 @@
-use Rattle.std.proofs.Common.{◌≡◌, take}
-use Rattle.nbd_explain.specs.Ordering.{spaced_numbers}
+use Rattle.nbd_explain.proofs.Common.{◌≡◌, take, spaced_numbers}
 use Rattle.nbd_explain.proofs.ordering.numbers_of.Given as goal
 
 abbrev pub invariant-loop-number : goal.invariant-loop-number

@@ -1,4 +1,4 @@
-use Rattle.nbd_files.specs.Starts.{initial_from}
+use Rattle.nbd_explain.proofs.Common.{initial_from}
 use Rattle.nbd_explain.proofs.OrderingLemmas.{orders_written}
 use Rattle.nbd_explain.proofs.ordering.run_order_of.Goals as goal
 

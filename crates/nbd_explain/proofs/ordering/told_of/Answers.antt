@@ -1,5 +1,4 @@
-use Rattle.std.proofs.Common.{IfOk, subst, sym}
-use Rattle.nbd_explain.specs.internal.Outcomes.{IsToldOf}
+use Rattle.nbd_explain.proofs.Common.{IfOk, subst, sym, IsToldOf}
 use Rattle.nbd_explain.proofs.ordering.told_of.Goals as goal
 
 pub returns-in-Ok : goal.returns-in-Ok

@@ -1,4 +1,4 @@
-use Rattle.std.proofs.Common.{Err, ap}
+use Rattle.nbd_explain.proofs.Common.{Err, ap}
 use Rattle.nbd_explain.proofs.OrderingLemmas.{told_refused}
 use Rattle.nbd_explain.proofs.ordering.told_of_fault.Goals as goal
 

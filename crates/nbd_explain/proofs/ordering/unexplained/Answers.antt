@@ -1,4 +1,4 @@
-use Rattle.std.proofs.Common.{IfOk, subst, ◌≡◌}
+use Rattle.nbd_explain.proofs.Common.{IfOk, subst, ◌≡◌}
 use Rattle.nbd_explain.proofs.OrderingLemmas.{several_line}
 use Rattle.nbd_explain.proofs.ordering.unexplained.Goals as goal
 

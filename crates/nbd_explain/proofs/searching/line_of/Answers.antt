@@ -1,5 +1,4 @@
-use Rattle.std.proofs.Common.{subst}
-use Rattle.nbd_explain.specs.internal.Lines.{HasVerdictLine}
+use Rattle.nbd_explain.proofs.Common.{subst, HasVerdictLine}
 use Rattle.nbd_explain.proofs.searching.line_of.Goals as goal
 
 pub returns-in_ok-format-in-Order : goal.returns-in_ok-format-in-Order

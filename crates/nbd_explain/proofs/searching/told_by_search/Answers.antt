@@ -1,6 +1,5 @@
-use Rattle.std.proofs.Common.{subst, sym, IfOk}
+use Rattle.nbd_explain.proofs.Common.{subst, sym, IfOk, IsToldBySearch}
 use Rattle.nbd_explain.proofs.ExplainedLemmas.{map_ok}
-use Rattle.nbd_explain.specs.internal.Lines.{IsToldBySearch}
 use Rattle.nbd_explain.proofs.searching.told_by_search.Goals as goal
 
 pub returns-in-Err : goal.returns-in-Err

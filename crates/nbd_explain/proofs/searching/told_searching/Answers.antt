@@ -1,6 +1,4 @@
-use Rattle.std.proofs.Common.{subst}
-use Rattle.nbd_tool.specs.Beginnings.{IsBeginningOf}
-use Rattle.nbd_files.specs.Starts.{initial_from}
+use Rattle.nbd_explain.proofs.Common.{subst, IsBeginningOf, initial_from}
 use Rattle.nbd_explain.proofs.searching.told_searching.Goals as goal
 
 pub returns-clause-told : goal.returns-clause-told

@@ -1,5 +1,4 @@
-use borrow.Author.Tests.{tests}
-use Rattle.std.proofs.Common.{rules}
+use Rattle.nbd_explain.proofs.Common.{tests, rules}
 use Rattle.nbd_explain.proofs.show.run_show.Goals as goal
 
 pub returns-clause-written : goal.returns-clause-written

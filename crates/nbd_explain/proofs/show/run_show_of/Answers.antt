@@ -1,10 +1,5 @@
-use Rattle.std.proofs.Common.{ap, subst, ◌∙◌}
-use Rattle.std.specs.Io.KnownBytes.{Appends}
-use Rattle.nbd_capture.specs.Writing.{AppendsPrefix}
-use Rattle.nbd_lines.specs.Script.{message_lines}
-use Rattle.nbd_session.specs.Sessions.{fault_of}
+use Rattle.nbd_explain.proofs.Common.{ap, subst, ◌∙◌, Appends, AppendsPrefix, message_lines, fault_of, both_ok, both_on, capture_over, first_on}
 use Rattle.nbd_explain.proofs.LastLineLemmas.{all_shown, last_stopped, output_cause, stopped}
-use Rattle.nbd_tool.proofs.OverLemmas.{both_ok, both_on, capture_over, first_on}
 use Rattle.nbd_explain.proofs.show.run_show_of.Goals as goal
 
 pub returns-in_err-finished-clause-left : goal.returns-in_err-finished-clause-left
