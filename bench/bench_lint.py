@@ -130,7 +130,8 @@ def main():
         for times in (1, 2, 4):
             count = first * times * given.n // 100
             with tempfile.NamedTemporaryFile(dir="/dev/shm") as capture:
-                capture.write(text(make(count)))
+                for record in make(count):
+                    capture.write(text([record]))
                 capture.flush()
                 shown, shown_room = timed("show", capture.name, "--profile", "wide")
                 linted, room = timed("lint", capture.name, "--level", "hint")

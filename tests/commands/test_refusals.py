@@ -28,6 +28,7 @@ FAULTS = {
     "explain": ("capture", "order", "image"),
     "order": ("capture",),
     "show": ("capture",),
+    "lint": ("capture",),
     "make": ("script",),
 }
 
@@ -37,6 +38,7 @@ WRITES = {
     "explain": rb"(yes|no content) [^\n]*\n([^\n]+\n)*",
     "order": rb"(\d+\n)+",
     "show": rb"([CS] [^\n]+\n)+ok\n",
+    "lint": rb"((should|hint) at byte [^\n]+\n)+lint must 0 should \d+ hint \d+\n|(\{[^\n]+\}\n)+",
     "make": rb"([CS] ([0-9a-f]{2})+\n)+",
 }
 
@@ -44,7 +46,7 @@ WRITES = {
 SORTED = ("check chunks", "check over an image", "explain over an image")
 
 # Runs in which payloads come into more room than they need, and how many: they are cut down to it.
-CUT = {"check statuses": 2}
+CUT = {"check statuses": 2, "lint statuses": 2}
 
 
 class Refusing(Room):
@@ -110,6 +112,10 @@ def runs(room):
             told = room.run(*words)
             # All numbers are there before one is written.
             yield " ".join(words), words, told, 0 if words[0] == "order" else len(told.out.removesuffix(b"ok\n"))
+    for name, words in (("a recorded session", ["lint", captures[1], "--level", "hint"]),
+                        ("statuses", ["lint", room.path("statuses.cap"), "--level", "hint", "--json"])):
+        # All lines are there before one is written.
+        yield f"lint {name}", words, room.run(*words), 0
     misread = room.put("misread.cap", (TOP / "examples/write-read-wrong-byte.cap").read_bytes())
     words = ["explain", misread, room.put("misread.ord", b"1\n2\n"), "--start", "zero"]
     yield "explain a wrong byte", words, room.run(*words), 0

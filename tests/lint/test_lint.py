@@ -129,7 +129,8 @@ def objects(tally, room):
             if one["rule"] not in ENDINGS:
                 tally.want(f"lint {row['name']} --json: the side of message {message}", shown[message - 1][0], one["side"][0].upper())
             wanted = re.search(r"request (\d+) \(", one["text"])
-            tally.want(f"lint {row['name']} --json: the request", request, int(wanted[1]) if wanted else None)
+            if one["rule"] != "allocation-flags":
+                tally.want(f"lint {row['name']} --json: the request", request, int(wanted[1]) if wanted else None)
         tally.want(f"lint {row['name']} --json", (found.status, said), (row["status"], list(map(as_json, row["lines"]))))
 
 

@@ -6,8 +6,8 @@ ghost use Rattle.nbd_files.specs.Starts.{IsWithinLimit};
 ghost use Rattle.nbd_explain.specs.Shown.{IsShowCause};
 
 use nbd_capture::write_whole;
-use nbd_judge::Verdict;
 use nbd_files::RunFault;
+use nbd_judge::Verdict;
 use nbd_lint::{Level, Linter, Refusal, Report, Runs, Wanted, is_kept, listed};
 use nbd_session::{Session, SessionFault};
 use nbd_tool::{Witness, line_of, session_over};

@@ -23,6 +23,8 @@ pub struct Asked {
     pub queries: Common,
     /// Its queries, where they are asked for: of a SET_META_CONTEXT whose queries all begin with `base:`.
     pub listed: BTreeSet<Vec<u8>>,
+    /// The first that is not `base:`, of a SET_META_CONTEXT whose queries name no leaf.
+    pub other: Vec<u8>,
     /// How many answers came.
     pub answers: u64,
     /// How many of them are infos.
@@ -49,6 +51,7 @@ impl Asked {
             is_formed: true,
             queries: Common::none(),
             listed: BTreeSet::new(alloc),
+            other: Vec::new(alloc),
             answers: 0,
             infos: 0,
             kinds: 0,

@@ -3,7 +3,7 @@
 use crate::asked::Asked;
 use crate::breach::{Breach, breach_if};
 use crate::notes::Notes;
-use crate::queries::{BASE, colon_in, first_other, has_namespace};
+use crate::queries::{BASE, colon_in, has_namespace};
 use crate::table::Name;
 use nbd_wire::{context_of, options};
 
@@ -104,6 +104,6 @@ fn list_context_id<'a>(asked: &Asked, answer: &'a [u8]) -> Option<Breach<'a>> {
 fn context_by_empty_leaf<'a>(asked: &'a Asked, name: &'a [u8]) -> Option<Breach<'a>> {
     breach_if(
         asked.id == options::SET_META_CONTEXT && asked.queries.are_without_leaf,
-        naming(name, first_other(asked.data())),
+        naming(name, asked.other.as_slice()),
     )
 }

@@ -4,7 +4,7 @@ use crate::asked::{Asked, asks_contexts, is_formed};
 use crate::notes::Notes;
 use crate::numbers::ERR_SHUTDOWN;
 use crate::options::key_of;
-use crate::queries::{Common, queries_in};
+use crate::queries::{Common, first_other, queries_in};
 use crate::sizes::Announced;
 use crate::tls::Tls;
 use crate::wildcards::Wildcards;
@@ -35,6 +35,8 @@ pub struct Negotiation {
     pub before: Asked,
     /// The places of the ACKs to options that tell the same when they are sent again, by these options and their data.
     pub granted: BTreeMap<Vec<u8>, u64>,
+    /// The same of the last SET_META_CONTEXT.
+    pub selected: BTreeMap<Vec<u8>, u64>,
     pub wildcards: Wildcards,
 }
 
@@ -52,6 +54,7 @@ impl Negotiation {
             asked: Asked::none(alloc),
             before: Asked::none(alloc),
             granted: BTreeMap::new(alloc),
+            selected: BTreeMap::new(alloc),
             wildcards: Wildcards::none(alloc),
         }
     }
@@ -80,8 +83,8 @@ impl Negotiation {
         if asks_contexts(id) {
             asked.queries = Common::of(data);
         }
-        if id == options::SET_META_CONTEXT && asked.queries.are_base {
-            asked.listed = queries_in(alloc, data)?;
+        if id == options::SET_META_CONTEXT {
+            ask_queries(alloc, &mut asked, data)?;
         }
         asked.payload = payload.share()?;
         Ok(asked)
@@ -100,6 +103,9 @@ impl Negotiation {
         }
         if changes_answers(id) {
             self.granted.clear();
+        }
+        if changes_answers(id) || id == options::SET_META_CONTEXT {
+            self.selected.clear();
         }
     }
 
@@ -144,10 +150,32 @@ impl Negotiation {
     pub fn remember(&mut self, place: u64, notes: &mut Notes) {
         if tells_same(self.asked.id) {
             if let Some(key) = key_of(&self.asked, notes) {
-                notes.refused_if(self.granted.insert(key, place).is_err());
+                let kept = self.keep(key, place);
+                notes.refused_if(kept.is_err());
             }
         }
     }
+
+    // The last option with its data, which was granted by an answer at this place.
+    fn keep(&mut self, key: Vec<u8>, place: u64) -> Result<(), AllocError> {
+        if self.asked.id == options::SET_META_CONTEXT {
+            self.selected.insert(key, place)?;
+        } else {
+            self.granted.insert(key, place)?;
+        }
+        Ok(())
+    }
+}
+
+// Keeps of the queries of a SET_META_CONTEXT what its answers are judged by.
+fn ask_queries(alloc: Global, asked: &mut Asked, data: &[u8]) -> Result<(), AllocError> {
+    if asked.queries.are_base {
+        asked.listed = queries_in(alloc, data)?;
+    }
+    if asked.queries.are_without_leaf {
+        asked.other.extend_from_slice(first_other(data))?;
+    }
+    Ok(())
 }
 
 // Whether TLS undoes what an option does.

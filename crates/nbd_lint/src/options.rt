@@ -9,7 +9,6 @@ use crate::queries::{asked_twice, first_query, has_namespace};
 use crate::strings::judge_option_strings;
 use crate::table::Name;
 use nbd_wire::{listed_of, options, queries_of};
-use std::collections::BTreeMap;
 
 /// Judges an option, behind what was negotiated before it.
 pub fn judge_option(asked: &Asked, before: &Negotiation, notes: &mut Notes) {
@@ -179,16 +178,20 @@ fn export_name_without_go(asked: &Asked, before: &Negotiation) -> Option<Breach<
 
 // Judges whether the same was granted before: a round trip that tells nothing new.
 fn judge_repeated(asked: &Asked, before: &Negotiation, notes: &mut Notes) {
-    match granted_in(asked, &before.granted, notes) {
-        Some(place) => notes.note(Name::OptionRepeated, Some(of_option(asked, place))),
-        None => {}
+    if let Some(key) = key_of(asked, notes) {
+        notes.note(Name::OptionRepeated, option_repeated(asked, before, &key));
     }
 }
 
-// The place of the ACK to the same option with the same data.
-fn granted_in(asked: &Asked, granted: &BTreeMap<Vec<u8>, u64>, notes: &mut Notes) -> Option<u64> {
-    match key_of(asked, notes) {
-        Some(key) => granted.get(&key).copied(),
+// The option was granted with the same data, and nothing since then changes its answers.
+fn option_repeated(asked: &Asked, before: &Negotiation, key: &Vec<u8>) -> Option<Breach<'static>> {
+    let granted = if asked.id == options::SET_META_CONTEXT {
+        before.selected.get(key)
+    } else {
+        before.granted.get(key)
+    };
+    match granted {
+        Some(place) => Some(of_option(asked, *place)),
         None => None,
     }
 }
