@@ -1,13 +1,14 @@
 //! What is written of the files of a run.
 
 use crate::asked::Asked;
-use nbd_explain::{Answer, Ordered, run_arrival_of, run_explain_of, run_names_of, run_order_of};
+use nbd_explain::{
+    Answer, Ordered, run_arrival_of, run_explain_of, run_names_of, run_order_of, run_show_of,
+};
 use nbd_files::{
     Files, FinalWriter, Opener, RunFault, StartFrom, open_inputs, open_start, terminal,
 };
 use nbd_lines::run_make;
 use nbd_search::Progress;
-use nbd_tool::run_show_of;
 use nbd_wire::Profile;
 use std::alloc::Global;
 use std::fs::File;
