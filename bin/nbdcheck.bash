@@ -95,7 +95,7 @@ _nbdcheck_picture() {
 complete -o filenames -F _nbdcheck_picture nbdcheck-picture
 
 _nbdcheck_record() {
-    local asked="--to --listen --start --arrival --order --profile --refuse --strict --format --report --keep --out --help"
+    local asked="--to --listen --start --arrival --order --profile --no-lint --refuse --strict --format --report --keep --out --help"
     asked="$asked --tls-certificates --tls-psk"
     local starts="unknown zero image:"
     local options="list starttls info go structured-reply list-meta-context set-meta-context extended-headers"

@@ -1,6 +1,7 @@
-"""What nbdcheck says of a capture: its answer and its messages, as lines and in words."""
+"""What nbdcheck says of a capture: its answer, its messages, as lines and in words, and the rules that it breaks."""
 
 import contextlib
+import json
 import subprocess
 import tempfile
 
@@ -74,6 +75,15 @@ class Nbdcheck:
     def found_order(self):
         """The order that nbdcheck finds."""
         return self._run(["order", self.capture, "--start", self.start, *self.profile], (YES,))[1]
+
+    def breaches(self):
+        """The musts and shoulds of proto.md that `lint` tells, as its objects. (It reads further than the others where no profile is
+        named.)"""
+        out = self._run(["lint", self.capture, "--json", *(self.profile or ["--profile", "base"])], (YES, NO))[1]
+        try:
+            return [told for told in map(json.loads, out.splitlines()) if "rule" in told]
+        except ValueError:
+            raise Fault(FAILED, f"{printable(self.program)} lint: its lines are no JSON") from None
 
     def lines(self, *options):
         """The lines of `show`, each without its line feed."""

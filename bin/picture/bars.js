@@ -121,6 +121,18 @@ function drawRefused(drawing) {
   }
 }
 
+// A triangle on each message that first breaks a rule.
+function drawBreaches(drawing) {
+  for (const [at, found] of breachesOf) {
+    if (messages.last[at] < view.from || messages.first[at] - 1 > view.to) continue;
+    const x = clampX((xOf(messages.first[at] - 1) + xOf(messages.last[at])) / 2), y = messages.sides[at] === "C" ? CLIENT_ROW : SERVER_ROW;
+    const isMust = found.some((breach) => breach.level === "must"), line = found.map(breachLine).join("; ");
+    const mark = svg("path", { class: `breach ${isMust ? "must" : "should"}`, d: `M${x - 6} ${y}H${x + 6}L${x} ${y + ROW}Z`, role: "img",
+      "aria-label": `${isMust ? "must" : "should"}: ${line}` }, svg("title", {}, line));
+    drawing.append(mark);
+  }
+}
+
 // A line from the write that a READ should have returned to the READ.
 function drawLink(drawing) {
   const [to] = guilt.requests, from = guilt.expected;
@@ -189,6 +201,7 @@ function drawBars() {
   drawing.append(...bars.sort((one, other) => order(one) - order(other) || one - other).map(bar));
   drawByte(drawing);
   drawRefused(drawing);
+  drawBreaches(drawing);
   drawLink(drawing);
   setFocus(drawing, before);
   byId("shown").textContent = `${grouped(shown.length)} of ${counted(requests.count, "request")} in view` +

@@ -105,6 +105,11 @@ const isNo = data.verdict.startsWith("no ");
 // A session that is outside of the profile, or of what can be judged, shows no mistake.
 const isMistake = isNo && !["OutOfProfile", "ExportTooLarge"].includes(guilt.fault);
 
+// The rules of proto.md that were not kept, by the messages that first show it.
+const breachesOf = new Map();
+for (const breach of data.breaches) breachesOf.set(breach.message, [...(breachesOf.get(breach.message) || []), breach]);
+const breachLine = (breach) => `${breach.side}: ${breach.rule}: ${breach.text}${breach.more ? ` (${breach.more} more)` : ""}`;
+
 // The first place in a range at which this holds, where it holds from there on.
 function firstWhere(from, to, test) {
   while (from < to) {

@@ -92,6 +92,12 @@ def guilt_data(session, verdict, entries, end, capture):
     }
 
 
+def breaches_data(breaches):
+    """The rules that were not kept: each with the message, from 0, that first shows it."""
+    return [{**{name: breach[name] for name in ("level", "side", "rule", "text", "section", "more")},
+             "byte": number(breach["byte"]), "message": breach["message"] - 1} for breach in breaches]
+
+
 def order_of(nbdcheck, verdict, path):
     """The entries of the order that was given or is found, and which of the two it is."""
     if path is not None:
@@ -130,5 +136,6 @@ def facts(nbdcheck, capture, order, names):
         "requests": requests_data(requests),
         "services": services_data(entries, requests, end),
         "guilt": guilt_data(session, verdict, entries, end, capture),
+        "breaches": breaches_data(nbdcheck.breaches()),
     }
     return data, told

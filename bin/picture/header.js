@@ -6,9 +6,16 @@ function fillHeader() {
   verdict.className = isNo ? "no" : data.verdict.startsWith("yes") ? "yes" : "";
   const order = { given: `the order of ${data.order}`, found: "an order that nbdcheck found" }[data.source] || "no order";
   byId("facts").textContent = [`${counted(data.bytes, "byte")}`, counted(requests.count, "request"), `at most ${data.lanes} outstanding`,
-    data.size === null ? "" : `an export of ${counted(data.size, "byte")}`, `start ${data.start}`, order].filter(Boolean).join(", ");
+    data.size === null ? "" : `an export of ${counted(data.size, "byte")}`, `start ${data.start}`, order,
+    ...levels().map(([level, count]) => `${counted(count, level)} not kept`)].filter(Boolean).join(", ");
   byId("explained").textContent = data.explained.trimEnd() + (data.said ? `\n\n${data.said.trimEnd()}` : "");
   fillLink();
+}
+
+// How many musts and shoulds were not kept, where there are some.
+function levels() {
+  const count = (level) => data.breaches.filter((breach) => breach.level === level).length;
+  return ["must", "should"].map((level) => [level, count(level)]).filter(([, found]) => found > 0);
 }
 
 const returned = (number) => ` returned ${byteAt.get(number)} for offset ${guilt.offset}, at byte ${guilt.place}`;
@@ -66,6 +73,8 @@ function fillLegend() {
   if (requests.count) parts.push(legendPart("first reply", [svg("line", { class: "tick", x1: 13, x2: 13, y1: 0, y2: 14 })]));
   if (services.count) parts.push(legendPart("served: a moment that fits the order", [diamond]));
   if (isNo) parts.push(legendPart(isWrong ? "wrong" : "in question", [frame({ stroke: "#c40000" })]));
+  const triangle = (level) => svg("path", { class: `breach ${level}`, d: "M7 1H19L13 13Z" });
+  for (const [level] of levels()) parts.push(legendPart(`a ${level} not kept`, [triangle(level)]));
   if (guilt.expected) parts.push(legendPart("should have been returned", [frame({ stroke: "#1a1a1a", "stroke-dasharray": "5 3" })]));
   byId("legend").append(...parts);
   const isPale = changes.some((change) => requests.result[change.number] !== SUCCESS);

@@ -75,8 +75,28 @@ const requestTable = makeTable(byId("table"), "Requests", [
 const messageTable = makeTable(byId("messages"), "Messages of both sides", [
   { name: "Message" }, { name: "Bytes" }, { name: "In words", left: true, mono: true },
 ], (at) => [at + 1, `${messages.first[at]} to ${messages.last[at]}`, wordsOf(at)],
-  (at) => (inQuestion.has(messages.request[at]) ? "guilty" : ""));
+  (at) => (inQuestion.has(messages.request[at]) ? "guilty" : breachesOf.has(at) ? "broken" : ""));
 messageTable.fill(Array.from({ length: messages.count }, (_, at) => at));
+
+// Shows the message of a breach, also in the chart.
+function placer(breach) {
+  const name = `Show the message at byte ${breach.byte}, ${breach.rule}`, at = breach.message;
+  const button = element("button", { type: "button", "aria-label": name }, grouped(breach.byte));
+  button.addEventListener("click", () => {
+    const room = Math.max(400, messages.last[at] - messages.first[at]);
+    look(messages.first[at] - room, messages.last[at] + room);
+    showMessage(at);
+  });
+  return button;
+}
+
+const breachTable = makeTable(byId("breaches"), "Rules of proto.md that were not kept", [
+  { name: "Byte" }, { name: "Level", left: true }, { name: "Who", left: true }, { name: "Rule", left: true }, { name: "What", left: true },
+  { name: "Section", left: true },
+], (breach) => [placer(breach), breach.level, breach.side, breach.rule,
+  breach.text + (breach.more ? ` (${grouped(breach.more)} more)` : ""), breach.section], (breach) => breach.level);
+breachTable.fill(data.breaches);
+byId("breaches").hidden = data.breaches.length === 0;
 
 // What a change left of the offset in question, or a READ returned.
 function byteOf(number) {

@@ -48,8 +48,9 @@ class Nbdcheck:
     def __init__(self, program, start, profile, tell):
         self.program, self.tell = program, tell
         self.start = ["--start", start]
+        self.profile_alone = [] if profile is None else ["--profile", profile]
         # With hints: the log of a suite has the reason behind a fault.
-        self.profile = [*([] if profile is None else ["--profile", profile]), "--hints"]
+        self.profile = [*self.profile_alone, "--hints"]
 
     def can_run(self):
         """Whether it runs; the repository's is built here, where it is not built yet."""
@@ -98,3 +99,9 @@ class Nbdcheck:
             while part := shown.stdout.read1(2**16):
                 last = (last + part)[-LAST:]
         return answer_of(self._status(shown.returncode), last.rstrip(b"\n").rpartition(b"\n")[2])
+
+    def lint(self, capture, allowed):
+        """The status of `lint`, and its objects, an object a line; these rules are left out."""
+        words = ["lint", capture, "--level", "hint", "--json", *(word for rule in allowed for word in ("--allow", rule))]
+        done = subprocess.run([self.program, *words, *self.profile_alone], stdin=subprocess.DEVNULL, stdout=subprocess.PIPE)
+        return self._status(done.returncode), done.stdout

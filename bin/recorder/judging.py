@@ -1,22 +1,25 @@
-"""What is said of each connection: whether an order explains it, what was compared, and what --strict refuses of it."""
+"""What is said of each connection: whether an order explains it, what was compared, which rules it breaks, and what --strict refuses."""
 
 import re
 from collections import namedtuple
 
-from .answers import FILES, NO, NOT_JUDGED, STRICT, YES
+from .answers import FILES, GAVE_UP, NO, NOT_JUDGED, STRICT, YES, gravest
 from .apart import BESIDE_NONE, Connections
+from .linting import MUST, UNASKED as NO_LINT, lint
 
 EMPTY_LINE = "empty: no byte passed"
 # What became of a connection, as the last line counts it: its contents were compared, or the protocol alone was judged; not a byte
 # passed; nobody broke a rule, and nbdcheck does not follow the session; or there is no answer, or none was asked for.
 COMPARED, UNCOMPARED, EMPTY, OUTSIDE, NONE, UNASKED = "compared", "not compared", "empty", "not judged", "no answer", "not asked"
 COUNTED = (COMPARED, UNCOMPARED, EMPTY, OUTSIDE)
+# How the line of a refused session begins.
+REFUSED = "no at byte "
 COUNTS = re.compile(r"yes requests (\d+) answered (\d+) improper (\d+)")
 
 
-class Judged(namedtuple("Judged", "held kind status line more doubts apart", defaults=(BESIDE_NONE,))):
+class Judged(namedtuple("Judged", "held kind status line more doubts apart linted", defaults=(BESIDE_NONE, NO_LINT))):
     """A connection, what became of it, its exit status, nbdcheck's line with the lines behind it, what --strict refuses, also unasked,
-    and what is said of it beside the other connections."""
+    what is said of it beside the other connections, and which rules it breaks."""
 
     def is_alone(self):
         """Whether it was compared, though other connections changed what it does not touch."""
@@ -29,7 +32,7 @@ def counts_of(line):
     return tuple(map(int, found.groups())) if found else None
 
 
-def doubts_of(held, line, kind, apart=BESIDE_NONE):
+def doubts_of(held, line, kind, apart=BESIDE_NONE, linted=NO_LINT):
     """What a suite may not want to pass, where there is no no."""
     requests, answered, improper = counts_of(line) or (0, 0, 0)
     left = held.ending.client_left()
@@ -38,6 +41,7 @@ def doubts_of(held, line, kind, apart=BESIDE_NONE):
         (kind == UNCOMPARED, apart.line()),
         (improper, f"improper requests {improper}"),
         (requests > answered, f"requests without a reply {requests - answered}"),
+        (linted.count(MUST), f"broken musts {linted.count(MUST)}"),
         (left, f"the client left in the middle of {left}"),
     )
     return [text for holds, text in found if holds]
@@ -49,7 +53,7 @@ def kind_of(answer, compares):
         return OUTSIDE
     if answer.status not in (YES, NO):
         return NONE
-    return COMPARED if compares and not answer.line.startswith("no at byte ") else UNCOMPARED
+    return COMPARED if compares and not answer.line.startswith(REFUSED) else UNCOMPARED
 
 
 def worth_saying(answer):
@@ -76,14 +80,20 @@ class Judge:
             return self.nbdcheck.explain_arrival(held.path, self.recording.room.path("order"))
         return self.nbdcheck.explain(held.path, order)
 
+    def _linted(self, held, answer):
+        """The rules that a session breaks which is not refused."""
+        is_whole = answer.status in (YES, NO, GAVE_UP) and not answer.line.startswith(REFUSED)
+        return lint(self.nbdcheck, held) if self.words.lint and is_whole else NO_LINT
+
     def _answered(self, held):
         apart = self.connections.apart(held)
         answer = self._ask(held, apart.reason is None)
         kind = kind_of(answer, apart.reason is None)
-        doubts = doubts_of(held, answer.line, kind, apart) if answer.status == YES else []
-        status = STRICT if doubts and self.words.strict else answer.status
+        linted = self._linted(held, answer)
+        doubts = doubts_of(held, answer.line, kind, apart, linted) if answer.status == YES else []
+        status = gravest([STRICT if doubts and self.words.strict else answer.status, linted.status])
         more = worth_saying(answer) if apart.reason is None else [apart.line()]
-        return Judged(held, kind, status, answer.line or f"no answer: status {answer.status}", more, doubts, apart)
+        return Judged(held, kind, status, answer.line or f"no answer: status {answer.status}", more, doubts, apart, linted)
 
     def one(self, held):
         """What is said of a connection."""

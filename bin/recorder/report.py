@@ -60,7 +60,7 @@ def said_of(judged, is_one):
     elif judged.is_alone():
         line = f"{line}, compared alone"
     first = line if is_one else f"connection {held.number}: {line}"
-    return [first, *more, *strict_lines(judged), *refused_lines(held), *tls_lines(held), *ending_lines(held)]
+    return [first, *more, *judged.linted.lines(), *strict_lines(judged), *refused_lines(held), *tls_lines(held), *ending_lines(held)]
 
 
 def as_json(judged, kept, name):
@@ -76,7 +76,7 @@ def as_json(judged, kept, name):
         "requests": requests_of(held), "answered": answered, "improper": improper,
         "client_bytes": client, "server_bytes": server, "seconds": round(held.seconds, 3),
         "ended": held.ending.as_json(), "strict": judged.doubts, "text": judged.more, "fault": held.fault,
-        "refused": held.refusals.names(), "tls": held.tls,
+        "refused": held.refusals.names(), "tls": held.tls, "lint": judged.linted.as_json(),
     })
 
 

@@ -30,6 +30,9 @@ without a yes are kept, and their paths told on standard error.
 Without CLIENT it records until it is interrupted, to OUT.1.cap, OUT.2.cap and so on, and answers where --start,
 --arrival or --order asks for it.
 
+Behind a session that is not refused nbdcheck lint tells which rules of proto.md it breaks; a side that was seen to close
+before it may breaks one too.
+
 The report has a line for each connection where all is well, and ends with a line that counts connections. With --format
 json it has an object for each connection, with --format junit a test case.
 
@@ -50,7 +53,8 @@ Exit status, of several the first in the order 1, 2, 4, 3, 5, 6, 7, 10:
   128 and the signal's number: interrupted; without CLIENT an interrupt is the end, and not told so"""
 
 # What the words name; `client` is None where there is none.
-Words = namedtuple("Words", "to listen client start arrival order profile strict format report refused certificates psk keep out asks")
+Words = namedtuple("Words", "to listen client start arrival order profile lint strict format report refused certificates psk keep out "
+                   "asks")
 
 
 def make_parser():
@@ -63,8 +67,9 @@ def make_parser():
     judged.add_argument("--arrival", action="store_true", help="the server takes one request after the other")
     judged.add_argument("--order", metavar="FILE", help="the order of service, as the server logged it")
     parser.add_argument("--profile", metavar="NAME", default="wide", help="handed on to nbdcheck: base or wide (wide)")
+    parser.add_argument("--no-lint", action="store_true", help="does not ask nbdcheck lint")
     parser.add_argument("--strict", action="store_true", help="refuses a yes with improper requests, requests without a reply, "
-                        "contents not compared, or a client that left in a message, and a connection without a byte")
+                        "broken musts, contents not compared, or a client that left in a message, and a connection without a byte")
     parser.add_argument("--format", metavar="FORMAT", default="text", help="of the report: text, json or junit (text)")
     parser.add_argument("--report", metavar="PATH", help="writes the report to this file, and its text to standard output")
     parser.add_argument("--refuse", metavar="OPTIONS", default="", help="answers these options in the server's place, by "
@@ -154,6 +159,6 @@ def read_words(words):
             raise Malformed("--to: the port 0")
     except Malformed as reason:
         parser.error(str(reason))
-    return Words(to, listen, client, found.start or "unknown", found.arrival, found.order, found.profile, found.strict, found.format,
-                 found.report, {OPTIONS[name] for name in refused_of(found)}, found.tls_certificates, found.tls_psk, found.keep,
-                 found.out or "session", asks)
+    refused = {OPTIONS[name] for name in refused_of(found)}
+    return Words(to, listen, client, found.start or "unknown", found.arrival, found.order, found.profile, not found.no_lint, found.strict,
+                 found.format, found.report, refused, found.tls_certificates, found.tls_psk, found.keep, found.out or "session", asks)

@@ -7,6 +7,7 @@ from built import Room
 from cases import contexts, extended, extended_messages, offers, outside, selections, sizes, statuses
 from explain.judged import JUDGED
 from explain.told import EXPLAINED, start_of
+from lint.test_lint import parted, sessions
 from messages import CLIENT, DONE, ERROR, FLUSH, begun, chunk, content, cut, done, read, request, simple, status, text, write
 from picture.places import Places
 from picture.session import FAILURE, Session
@@ -42,6 +43,23 @@ def places(tally, room):
     tally.want("mixed: first bytes, as steps", mixed["messages"]["firsts"][5:], [20, 38, -10, 52])
     tally.want("mixed: from the first byte to the last", mixed["messages"]["spans"][5:], [27, 19, 51, 15])
     tally.want("mixed: lanes", (mixed["lanes"], mixed["requests"]["lanes"]), (2, [0, 1]))
+
+
+def breaches(tally, room):
+    """The rules that `lint` tells: of three sessions of its own tests the lines, and the places of the messages by hand."""
+    wanted = {"length-0.a": [7], "option-after-shutdown.a": [4], "disc-unanswered.a": [9], "length-0.b": []}
+    for row in sessions():
+        if row["name"] not in wanted:
+            continue
+        found = session(room, row["capture"].encode(), None, "unknown", "wide")["breaches"]
+        lines = [parted(line) for line in row["lines"] if line.startswith(("must ", "should "))]
+        tally.want(f"breaches of {row['name']}", [
+            (each["level"], str(each["byte"]), each["side"], each["rule"], each["text"], each["section"]) for each in found],
+            [line[:6] for line in lines])
+        tally.want(f"breaches of {row['name']}: messages", [each["message"] for each in found], wanted[row["name"]])
+    # In base the grant of a context ends what is read, and the rules with it.
+    found = session(room, [*contexts.ONE_CONTEXT, read(1, 0, 0), simple(1)], None, "unknown")["breaches"]
+    tally.want("breaches in base", [each["rule"] for each in found], [])
 
 
 def extended_headers(tally, room):
@@ -189,5 +207,5 @@ def in_words(tally, room):
 
 def run(tally):
     with Room() as room:
-        for part in (places, extended_headers, lanes, results, proper_requests, proper_in_profiles, guilt, in_words):
+        for part in (places, breaches, extended_headers, lanes, results, proper_requests, proper_in_profiles, guilt, in_words):
             part(tally, room)

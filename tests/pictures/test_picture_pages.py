@@ -4,8 +4,10 @@ import time
 
 from built import TOP, Room
 from cases.contexts import ONE_CONTEXT
+from lint.test_lint import sessions
 from messages import (
-    DONE, ERROR, STARTTLS, ack, begun, chunk, client_flags, done, greeting, option, read, request, simple, status, text, told_last, write,
+    DONE, ERROR, STARTTLS, ack, begun, chunk, client_flags, done, greeting, option, read, records_of, request, simple, status, text,
+    told_last, write,
 )
 from pictures import browser
 from pictures.drawn import CROSSED, HUGE, MANY, long_session, page_of, run_script
@@ -77,7 +79,7 @@ def names(tally, room, page):
     tally.want("history", rows_of(page, "#history"),
                [["1", "WRITE #1", "left", "cd", "should have been returned"], ["2", "READ #2", "returned", "ce", "wrong"]])
     tally.want("the first message", rows_of(page, "#messages")[0][:2], ["1", "1 to 18"])
-    tally.want("tables", page.named("table")[1:], ["Requests", "Messages of both sides"])
+    tally.want("tables", page.named("table")[1:], ["Rules of proto.md that were not kept", "Requests", "Messages of both sides"])
     shown = run_script(room.path("s.cap"), room.path("s.ord"), "--start", "zero")
     tally.want("what explain says", text_of(page, "#explained").split("\n")[0], "no content request 2 offset 1")
     tally.want("and the page again", shown.status, 0)
@@ -326,6 +328,24 @@ def refused(tally, room, page):
     tally.want("complaints", page.complaints, [])
 
 
+def breaches(tally, room, page):
+    """A triangle and a row for each rule that was not kept, with a button that shows the message."""
+    row = next(each for each in sessions() if each["name"] == "length-0.a")
+    page.open(put(room, "breaches", records_of(row["capture"].encode()), None, "unknown", "wide"))
+    tally.want("breaches: tables", page.named("table")[-3:], ["Rules of proto.md that were not kept", "Requests", "Messages of both sides"])
+    tally.want("breaches: rows", rows_of(page, "#breaches"), [
+        ["160", "should", "client", "length-0", "request 1 (READ) has length 0", "Request types"]])
+    tally.want("breaches: triangles", page.ask("[...document.querySelectorAll('#bars .breach')].map((it) => it.getAttribute('aria-label'))"),
+               ["should: client: length-0: request 1 (READ) has length 0"])
+    tally.holds("breaches: counted", text_of(page, "#facts").endswith("1 should not kept"), text_of(page, "#facts"))
+    page.ask("document.querySelector('#breaches td button').click()")
+    tally.holds("breaches: shown", "READ #1" in text_of(page, "#detail"), text_of(page, "#detail"))
+    page.open(put(room, "kept", begun(), None, "unknown", "wide"))
+    tally.want("breaches: none", (page.ask("document.getElementById('breaches').hidden"), page.named("table")[-2:]),
+               (True, ["Requests", "Messages of both sides"]))
+    tally.want("complaints", page.complaints, [])
+
+
 def huge(tally, room, page):
     """A request and a part that are longer than a browser has an exact number for."""
     page.open(put(room, "huge", HUGE.records, "1 0 9223372036854775807\n2\n", HUGE.start, "wide"))
@@ -338,7 +358,7 @@ def huge(tally, room, page):
     tally.want("complaints", page.complaints, [])
 
 
-PARTS = (loads, names, refused, several, statuses, outside, huge, filters, keyboard, keys_at_once, bounds, mouse, many)
+PARTS = (loads, names, refused, several, statuses, outside, breaches, huge, filters, keyboard, keys_at_once, bounds, mouse, many)
 
 
 def run(tally):

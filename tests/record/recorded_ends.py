@@ -53,12 +53,12 @@ def limited(limits):
 
 
 class Tool:
-    """A run of nbdcheck-record."""
+    """A run of nbdcheck-record, which asks `nbdcheck lint` where a test wants it."""
 
-    def __init__(self, *words, limits=None, nbdcheck=PROGRAM, env_more=None, **how):
+    def __init__(self, *words, limits=None, nbdcheck=PROGRAM, env_more=None, lints=False, **how):
         env = {**os.environ, "NBDCHECK": str(nbdcheck), **(env_more or {})}
         how = {"stdin": subprocess.DEVNULL, "stdout": subprocess.PIPE, "stderr": subprocess.PIPE, **how}
-        command = [sys.executable, str(RECORD), *map(str, words)]
+        command = [sys.executable, str(RECORD), *([] if lints else ["--no-lint"]), *map(str, words)]
         self.process = subprocess.Popen(command, env=env, preexec_fn=limited(limits), text=True, **how)
 
     def __enter__(self):

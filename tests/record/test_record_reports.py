@@ -168,7 +168,7 @@ def as_json(tally, folder):
         "name": "nbdcheck-record", "connection": 1, "capture": None, "verdict": YES,
         "result": "compared", "status": 0, "judged": True, "compared": True, "alone": False,
         "meeting": None, "requests": 2, "answered": 2, "improper": 0, "client_bytes": 84, "server_bytes": 106, "strict": [], "text": [],
-        "fault": None, "refused": [], "tls": None,
+        "fault": None, "refused": [], "tls": None, "lint": None,
         "ended": {"first": "client", "by": "end of file", "outstanding": 0, "client_in": None, "server_in": None},
     }
     status, out, err = client_of(folder, GOOD, "--format", "json")

@@ -9,8 +9,8 @@ import subprocess
 from pathlib import Path
 
 from built import PROGRAM, TOP
-from messages import (BLOCK_STATUS, FLUSH, GO, READ, TRIM, WRITE, WRITE_ZEROES, ack, asking, begun, client_flags, export, greeting, read,
-                      request, simple, sizes, write)
+from messages import (BLOCK_STATUS, DISC, FLUSH, GO, READ, TRIM, WRITE, WRITE_ZEROES, ack, asking, begun, client_flags, export,
+                      greeting, read, request, simple, sizes, write)
 from record.recorded_ends import GOOD, Ends, Server, ended, player, run_parts
 
 ERROR = 22
@@ -97,7 +97,7 @@ def by_make(tally, folder):
         return
     Path(folder, "tests").mkdir()
     env = {**os.environ, "PATH": f"{TOP}/bin:{os.environ['PATH']}", "NBDCHECK": PROGRAM}
-    for name, records, wanted in (("copy", GOOD, 0), ("resize", WRONG, 2)):
+    for name, records, wanted in (("copy", GOOD + [request(DISC, 9, 0, 0)], 0), ("resize", WRONG, 2)):
         words = player(folder, records, '"${1##*:}"')
         Path(folder, f"tests/{name}.sh").write_text(f"exec {' '.join(words)}\n")
         with Server(records, count=2) as server:

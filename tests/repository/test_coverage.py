@@ -1,5 +1,6 @@
 """docs/COVERAGE.md: it is made of tools/coverage.tsv, and it names each fault and each rule of the program, and no other; its sections are
-headings of proto.md, and its last line counts its rows. docs/LINT.md has a row for each rule."""
+headings of proto.md, and its last line counts its rows. docs/LINT.md has a row for each rule. The numbers of errors that `lint` compares
+are those that nbd_wire names."""
 
 import re
 
@@ -37,8 +38,25 @@ def stated():
     return [(name, who.lower(), section) for who, name, section in found]
 
 
+def errors_of_lint():
+    """The errors that `lint` compares: of each its name, whether it is one of an option reply, and its number."""
+    source = (TOP / "crates/nbd_lint/src/numbers.rt").read_text()
+    return set(re.findall(r"pub const (E\w+): u32 = (ERROR \| )?(\d+);", source))
+
+
+def errors_of_wire():
+    """The same of those that nbd_wire names."""
+    source = (TOP / "crates/nbd_wire/src/names.rt").read_text()
+    found = re.findall(r'\((?:answers::(ERROR \| ))?(\d+), "(?:NBD_REP_)?(E\w+)"\)', source)
+    return {(name, kind, number) for kind, number, name in found}
+
+
 def run(tally):
     tally.want("docs/LINT.md: its rules", rows_of_lint(), stated())
+    compared = errors_of_lint()
+    tally.holds("crates/nbd_lint/src/numbers.rt: its errors are those of nbd_wire", compared and compared <= errors_of_wire(), compared - errors_of_wire())
+    every = set(re.findall(r"pub const (E\w+):", (TOP / "crates/nbd_lint/src/numbers.rt").read_text()))
+    tally.want("crates/nbd_lint/src/numbers.rt: errors that the test does not read", every - {name for name, _, _ in compared}, set())
     table, page = coverage.rows(), coverage.PAGE.read_text()
     tally.want("docs/COVERAGE.md is made by tools/coverage.py write", page.split("\n"), coverage.page().split("\n"))
     known = {name.replace("`", "") for name in (TOP / "tests/repository/headings.txt").read_text().splitlines()}
