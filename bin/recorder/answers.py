@@ -6,7 +6,7 @@ import subprocess
 import sys
 from collections import namedtuple
 
-from .room import reason_of
+from .room import ran, reason_of, running
 
 # The exit statuses, the gravest first: a no, words that nbdcheck does not take, out of memory, a file that could not be
 # read or written, a search that gave up, a session that is not judged, a yes that --strict refuses, and a client that failed.
@@ -55,13 +55,13 @@ class Nbdcheck:
     def can_run(self):
         """Whether it runs; the repository's is built here, where it is not built yet."""
         try:
-            done = subprocess.run([self.program, "--version"], stdout=subprocess.DEVNULL, stdin=subprocess.DEVNULL)
+            status, _, _ = ran([self.program, "--version"], stdout=subprocess.DEVNULL)
         except OSError as error:
             self.tell(f"cannot run {self.program}: {reason_of(error)}")
             return False
-        if done.returncode != 0:
-            self.tell(f"cannot run {self.program}: it ended with status {done.returncode}")
-        return done.returncode == 0
+        if status != 0:
+            self.tell(f"cannot run {self.program}: it ended with status {status}")
+        return status == 0
 
     def _status(self, returned):
         if returned in ITS_OWN:
@@ -73,28 +73,27 @@ class Nbdcheck:
     def explain(self, capture, order=None):
         """Whether an order explains the session: this one, or some."""
         words = ["explain", capture, *([] if order is None else [order]), *self.start, *self.profile]
-        done = subprocess.run([self.program, *words], stdin=subprocess.DEVNULL, stdout=subprocess.PIPE)
-        return answer_of(self._status(done.returncode), done.stdout)
+        status, out, _ = ran([self.program, *words], stdout=subprocess.PIPE)
+        return answer_of(self._status(status), out)
 
     def explain_arrival(self, capture, order):
         """The same of the order in which the requests came, which is written to the path `order`."""
         with open(order, "wb") as file:
-            done = subprocess.run([self.program, "order", capture, "--arrival", *self.profile], stdin=subprocess.DEVNULL,
-                                  stdout=file, stderr=subprocess.PIPE)
-        if done.returncode == NO:
+            status, _, err = ran([self.program, "order", capture, "--arrival", *self.profile], stdout=file, stderr=subprocess.PIPE)
+        if status == NO:
             # A session that is refused has no order; what is wrong with it needs none.
             return self.explain(capture)
-        sys.stderr.buffer.write(done.stderr)
-        if done.returncode == YES:
+        sys.stderr.buffer.write(err)
+        if status == YES:
             return self.explain(capture, order)
-        if done.returncode == FILES:
+        if status == FILES:
             self.tell(f"no order in {order}")
-        return answer_of(self._status(done.returncode), b"")
+        return answer_of(self._status(status), b"")
 
     def protocol(self, capture):
         """The last line of `show`: whether both sides kept the protocol."""
         words = [self.program, "show", "--names", capture, *self.profile]
-        with subprocess.Popen(words, stdin=subprocess.DEVNULL, stdout=subprocess.PIPE) as shown:
+        with running(words, stdout=subprocess.PIPE) as shown:
             last = b""
             while part := shown.stdout.read1(2**16):
                 last = (last + part)[-LAST:]
@@ -103,5 +102,5 @@ class Nbdcheck:
     def lint(self, capture, allowed):
         """The status of `lint`, and its objects, an object a line; these rules are left out."""
         words = ["lint", capture, "--level", "hint", "--json", *(word for rule in allowed for word in ("--allow", rule))]
-        done = subprocess.run([self.program, *words, *self.profile_alone], stdin=subprocess.DEVNULL, stdout=subprocess.PIPE)
-        return self._status(done.returncode), done.stdout
+        status, out, _ = ran([self.program, *words, *self.profile_alone], stdout=subprocess.PIPE)
+        return self._status(status), out

@@ -1,8 +1,10 @@
-"""What a recording needs of the system: messages, signals, and a folder."""
+"""What a recording needs of the system: messages, signals, programs that are run, and a folder."""
 
+import contextlib
 import os
 import signal
 import socket
+import subprocess
 import sys
 import tempfile
 from selectors import EVENT_READ
@@ -64,8 +66,53 @@ def catch(handler):
             signal.signal(number, handler)
 
 
+class Hold:
+    """Puts off the end that a signal asks for while a program is begun, so that none is left behind."""
+
+    def __init__(self):
+        self.is_held, self.came = False, None
+
+    def take(self):
+        self.is_held = True
+
+    def let_go(self):
+        self.is_held = False
+        if self.came is not None:
+            raise Interrupted(self.came)
+
+
+HOLD = Hold()
+
+
 def stop_at_once(number, _):
-    raise Interrupted(number)
+    if not HOLD.is_held:
+        raise Interrupted(number)
+    HOLD.came = number
+
+
+@contextlib.contextmanager
+def running(words, **how):
+    """A program that is run; it is ended where it is not wanted any more, also where a signal comes while it begins."""
+    HOLD.take()
+    try:
+        child = subprocess.Popen(words, stdin=subprocess.DEVNULL, **how)
+    except OSError:
+        HOLD.let_go()
+        raise
+    with child:
+        try:
+            HOLD.let_go()
+            yield child
+        except BaseException:
+            child.kill()
+            raise
+
+
+def ran(words, **how):
+    """Runs a program: how it ended, and what it wrote where that is a pipe."""
+    with running(words, **how) as child:
+        out, err = child.communicate()
+    return child.returncode, out, err
 
 
 class Room:
