@@ -96,7 +96,7 @@ def running(words, **how):
     HOLD.take()
     try:
         child = subprocess.Popen(words, stdin=subprocess.DEVNULL, **how)
-    except OSError:
+    except BaseException:
         HOLD.let_go()
         raise
     with child:
