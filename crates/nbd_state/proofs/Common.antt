@@ -46,6 +46,7 @@ pub use Rattle.nbd_wire.specs.declared.heads.transmission.RequestHead.{RequestHe
 pub use Rattle.nbd_wire.specs.declared.message.Message.{Message}
 pub use Rattle.nbd_wire.specs.declared.message.Message.TheVariants.{Answer, Choice, Chunk, ClientFlags, Exported, ExtendedChunk, ExtendedRequest, Greeting, Request, Simple}
 pub use Rattle.nbd_wire.specs.declared.payloads.Piece.{Piece}
+pub use Rattle.nbd_wire.specs.declared.payloads.Piece.TheVariants.{Bytes}
 pub use Rattle.nbd_wire.specs.declared.profile.Profile.{Profile}
 pub use Rattle.nbd_wire.specs.declared.profile.Profile.TheVariants.{Base}
 pub use Rattle.nbd_wire.specs.declared.sizes.Sizing.{Sizing}
@@ -55,7 +56,8 @@ pub use Rattle.nbd_wire.specs.protocol.Operations.{Exporting, Operation, any, ha
 unfoldable pub use Rattle.nbd_wire.specs.protocol.Operations.{ends_reply, is_failing, is_proper}
 pub use Rattle.nbd_wire.specs.protocol.Options.{agrees, choice_phase, is_proper_option, reply_phase, selection_after, selection_at, takes_contexts}
 unfoldable pub use Rattle.nbd_wire.specs.protocol.Options.{next_phase}
-pub use Rattle.nbd_wire.specs.protocol.Payloads.{content_of, extents_of, ids_of}
+pub use Rattle.nbd_wire.specs.protocol.Payloads.{extents_of, ids_of}
+unfoldable pub use Rattle.nbd_wire.specs.protocol.Payloads.{content_of}
 pub use Rattle.nbd_wire.specs.protocol.Pieces.{byte_at, chunk_piece, is_in, piece_offset, piece_size, simple_piece}
 unfoldable pub use Rattle.nbd_wire.specs.protocol.Pieces.{piece_of}
 pub use Rattle.nbd_wire.specs.protocol.Reports.{asked_at}

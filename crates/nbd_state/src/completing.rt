@@ -293,28 +293,7 @@ impl State {
         ensures tells { OnOk result (TellsOne (place_at self.old.outstanding head.now.cookie) known
             self.old.exchanges.items self.new.exchanges.items) }
     {
-        self.chunk_in(alloc, head, place, payload.as_slice(), known)
-    }
-
-    // The same, with the bytes of its payload.
-    fn chunk_in(
-        &mut self,
-        alloc: Global,
-        head: &ChunkHead,
-        place: usize,
-        payload: &[u8],
-        known: u64,
-    ) -> Result<(), AllocError>
-        requires place { place_at self.old.outstanding head.now.cookie ≡ Some place }
-        requires within { place < length self.old.exchanges.items }
-        ensures profile { self.new.profile ≡ self.old.profile }
-        ensures shown { OnOk result ((core : Core) (export : Exporting) → IsReached core →
-            Shows self.old core → core.phase ≡ definitions.Transmission export →
-            Shows self.new (core_with_reply core (chunk_of head.now payload.now))) }
-        ensures tells { OnOk result (TellsOne (place_at self.old.outstanding head.now.cookie) known
-            self.old.exchanges.items self.new.exchanges.items) }
-    {
-        let zeroes = self.is_allocation_told(head, payload);
+        let zeroes = self.is_allocation_told(head, payload.as_slice());
         let counts = self.counts(known);
         self.end_if(has(head.flags, chunks::DONE), head.cookie);
         self.exchanges[place].take_chunk(alloc, head, payload, zeroes, counts)

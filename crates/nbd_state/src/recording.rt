@@ -4,7 +4,6 @@ ghost use Rattle.std.specs.Prelude.{◌≡◌, ◌<◌, ◌+◌, ◌^◌, ◌==�
 ghost use Rattle.smallvec.specs.SmallVec.{HasRoomFor};
 ghost use Rattle.nbd_wire.specs.declared.message.Message.{Message};
 ghost use Rattle.nbd_wire.specs.declared.message.Message.TheVariants.{Simple};
-ghost use Rattle.nbd_wire.specs.codec.Contents.{piece_of};
 ghost use Rattle.nbd_wire.specs.protocol.Contexts.{Context, Filter, Status};
 ghost use Rattle.nbd_wire.specs.protocol.Payloads as payloads;
 ghost use Rattle.nbd_wire.specs.protocol.Pieces as pieces;
@@ -38,6 +37,9 @@ use nbd_wire::{
 use smallvec::SmallVec;
 use std::alloc::{AllocError, Global};
 use std::mem;
+
+/// How many bytes stand before the data of a chunk, which are the offset.
+const OFFSET_LENGTH: u8 = 8;
 
 /// How many numbered requests had completed before the first byte of a message, and how many when it was whole.
 #[derive(Clone, Copy, Drop)]
@@ -124,7 +126,7 @@ impl Exchange {
         &mut self,
         alloc: Global,
         head: &ChunkHead,
-        payload: &[u8],
+        payload: &Bytes,
         zeroes: bool,
         counts: Counts,
     ) -> Result<(), AllocError>
@@ -143,7 +145,7 @@ impl Exchange {
         ensures kept { IfErr result (λ _. self.new.asked.known_at ≡ self.old.asked.known_at) }
     {
         let ends = has(head.flags, chunks::DONE);
-        if let Some((id, descriptors)) = told_in(head, payload) {
+        if let Some((id, descriptors)) = told_in(head, payload.as_slice()) {
             if self.asked.known_at.is_some() {
                 return self.take_status(id, counts, ends);
             }
@@ -376,28 +378,16 @@ fn simple_piece(offset: u64, payload: &Bytes) -> Result<Option<Piece>, AllocErro
     Ok(Some(Piece::Bytes { offset, bytes }))
 }
 
-// A copy of the content of a chunk, if it has any.
-fn content_piece(alloc: Global, kind: u16, payload: &[u8]) -> Result<Option<Piece>, AllocError>
+// The content of a chunk, if it has any; its bytes stand in memory once.
+fn content_piece(alloc: Global, kind: u16, payload: &Bytes) -> Result<Option<Piece>, AllocError>
     ensures { IfOk result (λ piece. piece ≡ payloads.content_of kind payload.now) }
 {
-    match content_of(kind, payload) {
-        Some(content) => Ok(Some(owned_piece(alloc, &content)?)),
+    match content_of(kind, payload.as_slice()) {
+        Some(Content::Bytes { offset, .. }) => {
+            let bytes = payload.share_behind(alloc, OFFSET_LENGTH)?;
+            Ok(Some(Piece::Bytes { offset, bytes }))
+        }
+        Some(Content::Hole { offset, size }) => Ok(Some(Piece::Hole { offset, size })),
         None => Ok(None),
-    }
-}
-
-// A copy of the content.
-fn owned_piece(alloc: Global, content: &Content<'_>) -> Result<Piece, AllocError>
-    ensures { IfOk result (λ piece. piece ≡ piece_of content.now) }
-{
-    match content {
-        Content::Bytes { offset, bytes } => Ok(Piece::Bytes {
-            offset: *offset,
-            bytes: Bytes::from_slice(alloc, bytes)?,
-        }),
-        Content::Hole { offset, size } => Ok(Piece::Hole {
-            offset: *offset,
-            size: *size,
-        }),
     }
 }

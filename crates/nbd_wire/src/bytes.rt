@@ -1,5 +1,5 @@
 //! A payload that its owner keeps.
-ghost use Rattle.std.specs.Prelude.{◌≡◌, ◌==◌, ◌<◌, ◌≤◌, ℕ, List, [], length, take, IfOk, MatchOption, OnErr, OnOk};
+ghost use Rattle.std.specs.Prelude.{◌≡◌, ◌==◌, ◌<◌, ◌≤◌, ℕ, List, [], drop, length, take, IfOk, MatchOption, OnErr, OnOk};
 ghost use Rattle.std.specs.Cmp.{partial_equiv_from_equiv};
 ghost use Rattle.std.specs.Cmp.Lexicographic.{nat_list_eq_equiv, pointwise};
 
@@ -11,7 +11,7 @@ use std::rc::Rc;
 const SHORT: usize = 14;
 
 /// A payload, seen by contracts as the list of its bytes. A short one stands in its owner; a longer one stands in memory once, however
-/// many owners share it.
+/// many owners share it, or what stands behind its first bytes.
 #[derive(Drop)]
 pub struct Bytes {
     kept: Kept,
@@ -21,7 +21,8 @@ pub struct Bytes {
 #[derive(Drop)]
 enum Kept {
     Short(Short),
-    Long(Rc<Vec<u8>>),
+    // What stands behind so many bytes.
+    Long(u8, Rc<Vec<u8>>),
 }
 
 // So many bytes.
@@ -99,7 +100,7 @@ impl Bytes {
         bytes.shrink_to_fit();
         match Rc::new(alloc, std::mem::replace(bytes, Vec::new(alloc))) {
             Ok(shared) => Ok(Bytes {
-                kept: Kept::Long(shared),
+                kept: Kept::Long(0, shared),
             }),
             Err(refused) => {
                 *bytes = refused.value;
@@ -114,7 +115,7 @@ impl Bytes {
     {
         let shared = Rc::new(alloc, bytes)?;
         Ok(Bytes {
-            kept: Kept::Long(shared),
+            kept: Kept::Long(0, shared),
         })
     }
 
@@ -126,9 +127,23 @@ impl Bytes {
             Kept::Short(short) => Ok(Bytes {
                 kept: Kept::Short(*short),
             }),
-            Kept::Long(shared) => Ok(Bytes {
-                kept: Kept::Long(shared.clone()?),
+            Kept::Long(count, shared) => Ok(Bytes {
+                kept: Kept::Long(*count, shared.clone()?),
             }),
+        }
+    }
+
+    /// What stands behind so many bytes of the payload, for another owner. It copies no more than a short one, unless this is itself
+    /// what stands behind some bytes.
+    pub fn share_behind(&self, alloc: Global, count: u8) -> Result<Bytes, AllocError>
+        ensures { IfOk result (λ rest. rest ≡ drop count self.now) }
+    {
+        let rest = behind(self.as_slice(), count);
+        match &self.kept {
+            Kept::Long(0, shared) if rest.len() > SHORT => Ok(Bytes {
+                kept: Kept::Long(count, shared.clone()?),
+            }),
+            _ => Bytes::from_slice(alloc, rest),
         }
     }
 
@@ -138,9 +153,16 @@ impl Bytes {
     {
         match &self.kept {
             Kept::Short(short) => short.as_slice(),
-            Kept::Long(shared) => shared.as_slice(),
+            Kept::Long(count, shared) => behind(shared.as_slice(), *count),
         }
     }
+}
+
+// What stands behind so many bytes; nothing where there are no more.
+fn behind(bytes: &[u8], count: u8) -> &[u8]
+    ensures { result.now ≡ drop count bytes.now }
+{
+    bytes.get(usize::from(count)..).unwrap_or(&[])
 }
 
 impl Short {

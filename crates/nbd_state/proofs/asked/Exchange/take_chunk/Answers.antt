@@ -1,4 +1,4 @@
-use Rattle.nbd_state.proofs.Common.{◌≡◌, ◌∙◌, ◌∷◌, [], ap, Bool, false, is_some, refl, sym, true, Status, extents_of, chunk_piece, is_error_chunk, status_kind, status_content, is_allocation_told, chunk_of}
+use Rattle.nbd_state.proofs.Common.{◌≡◌, ◌∙◌, ◌∷◌, [], ap, Bool, false, is_some, refl, sym, true, Status, extents_of, chunk_piece, is_error_chunk, status_in, status_kind, status_content, is_allocation_told, chunk_of}
 use Rattle.nbd_state.proofs.HeadLemmas.{chunk_ends, chunk_fails, chunk_gives}
 use Rattle.nbd_state.proofs.RecordingLemmas.{weaken}
 use Rattle.nbd_state.proofs.asked.Exchange.take_chunk.Goals as goal
@@ -13,7 +13,7 @@ returns-clause-shown c = weaken c.take.result (λ x shown export e s u fits z.
     let h = c.args.head.now in
     let bytes = c.args.payload.now in
     shown export e (chunk_of h bytes) s u (chunk_ends h.flags h.kind h.cookie bytes h.at ∙ sym c.has-ends.ensures) (chunk_fails h.flags h.kind h.cookie bytes h.at ∙ sym c.is_error_chunk.ensures)
-    (chunk_gives h.flags h.kind h.cookie bytes e.offset h.at ∙ ap chunk_piece (sym c.in_ok-piece.ensures)) c.in_default.ensures)
+    (chunk_gives h.flags h.kind h.cookie bytes e.offset h.at ∙ ap chunk_piece (sym c.in_ok-piece.ensures)) (ap (λ p. status_in (chunk_of h p)) (sym c.as_slice.ensures) ∙ c.in_default.ensures))
     c.take.ensures.shown
 
 pub returns-then-is_some-clause-shown : goal.returns-then-is_some-clause-shown
@@ -21,10 +21,11 @@ returns-then-is_some-clause-shown c = weaken c.take_status.result (λ x shown ex
     let h = c.args.head.now in
     let bytes = c.args.payload.now in
     let told = c.in-Some.ensures in
+    let status = ap (λ p. status_in (chunk_of h p)) (sym c.as_slice.ensures) ∙ told.1 in
     let some : is_some c.args.self.now.asked.known_at ≡ true = sym c.is_some.ensures ∙ c.if-is_some.true in
     shown export e (chunk_of h bytes) (record { id = c.in-Some.id; extents = extents_of (is_some c.args.head.now.at) c.in-Some.descriptors.now }) s u some (chunk_ends h.flags h.kind h.cookie bytes h.at ∙ sym c.has-ends.ensures)
     (chunk_fails h.flags h.kind h.cookie bytes h.at ∙ ap is_error_chunk told.0 ∙ no_error (is_some h.at))
-    (chunk_gives h.flags h.kind h.cookie bytes e.offset h.at ∙ ap chunk_piece (status_content (is_some h.at) h.kind bytes told.0)) told.1 refl)
+    (chunk_gives h.flags h.kind h.cookie bytes e.offset h.at ∙ ap chunk_piece (status_content (is_some h.at) h.kind bytes told.0)) status refl)
     c.take_status.ensures.shown
 
 pub returns-in-Some-clause-shown : goal.returns-in-Some-clause-shown
@@ -32,10 +33,11 @@ returns-in-Some-clause-shown c = weaken c.take_first_status.result (λ x shown e
     let h = c.args.head.now in
     let bytes = c.args.payload.now in
     let told = c.in-Some.ensures in
+    let status = ap (λ p. status_in (chunk_of h p)) (sym c.as_slice.ensures) ∙ told.1 in
     let status_with : Bool → Status = λ x. record { id = c.in-Some.id; extents = extents_of x c.in-Some.descriptors.now } in
     let none : is_some c.args.self.now.asked.known_at ≡ false = sym c.is_some.ensures ∙ c.if-is_some.false in
     shown export e (chunk_of h bytes) s u fits none (chunk_ends h.flags h.kind h.cookie bytes h.at ∙ sym c.has-ends.ensures) (chunk_fails h.flags h.kind h.cookie bytes h.at ∙ ap is_error_chunk told.0 ∙ no_error (is_some h.at))
-    (chunk_gives h.flags h.kind h.cookie bytes e.offset h.at ∙ ap chunk_piece (status_content (is_some h.at) h.kind bytes told.0)) (told.1 ∙ ap (λ x. (status_with x) ∷ []) (sym c.is_some-in-Some.ensures)) (z ∙ ap (is_allocation_told e.contexts) told.1))
+    (chunk_gives h.flags h.kind h.cookie bytes e.offset h.at ∙ ap chunk_piece (status_content (is_some h.at) h.kind bytes told.0)) (status ∙ ap (λ x. (status_with x) ∷ []) (sym c.is_some-in-Some.ensures)) (z ∙ ap (is_allocation_told e.contexts) status))
     c.take_first_status.ensures.shown
 
 pub returns-clause-noted : goal.returns-clause-noted
