@@ -17,4 +17,4 @@ byte_from image None x = slice_index image x
 
 -- the byte at an offset
 unfoldable pub stored_byte : Pages → ℕ → ℕ
-stored_byte pages x = byte_from pages.image.items (page_from pages (x / PAGE)) x
+stored_byte pages x = byte_from pages.image.value.items (page_from pages (x / PAGE)) x

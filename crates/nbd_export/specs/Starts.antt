@@ -7,10 +7,10 @@ use Rattle.nbd_export.specs.declared.start.Start.TheVariants.{Unknown, Zeroes, I
 abbrev pub start_byte : Start → ℕ → Option ℕ
 start_byte Unknown x = None
 start_byte Zeroes x = Some 0
-start_byte (Image image) x = slice_get image.items x
+start_byte (Image image) x = slice_get image.value.items x
 
 -- an image has the export's size
 abbrev pub FitsSize : ℕ → Start → Type 0
 FitsSize size Unknown = Unit {0}
 FitsSize size Zeroes = Unit {0}
-FitsSize size (Image image) = length image.items ≡ size
+FitsSize size (Image image) = length image.value.items ≡ size

@@ -13,6 +13,7 @@ use crate::pages::Pages;
 use crate::slices::first_nonzero;
 use crate::{Contents, Start};
 use std::alloc::{AllocError, Global};
+use std::rc::Rc;
 
 /// Contents by ranges: each range is unknown, or zeroes, or bytes, and the bytes lie in pages.
 ///
@@ -42,9 +43,10 @@ impl Extents {
         ensures bytes { IfOk result (λ extents. AreSameBelow size (byte_of extents) (start_byte start)) }
         ensures ranges { IfOk result (λ extents. range_count extents ≡ (if size == 0 then 0 else 1)) }
     {
+        let none = Rc::new(alloc, Vec::new(alloc))?;
         let (kind, image) = match start {
-            Start::Unknown => (Kind::Unknown, Vec::new(alloc)),
-            Start::Zeroes => (Kind::Zeroes, Vec::new(alloc)),
+            Start::Unknown => (Kind::Unknown, none),
+            Start::Zeroes => (Kind::Zeroes, none),
             Start::Image(image) => (Kind::Bytes, image),
         };
         let kinds = Kinds::new(alloc, size, kind)?;

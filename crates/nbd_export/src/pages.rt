@@ -8,6 +8,7 @@ ghost use Rattle.nbd_export.specs.internal.Parts.{DiffersFrom};
 use crate::slices::{first_nonzero, first_unequal, overwrite, part, zero_bytes};
 use std::alloc::{AllocError, Global};
 use std::collections::BTreeMap;
+use std::rc::Rc;
 
 /// How many bytes a page has.
 pub const PAGE: usize = 1024;
@@ -15,15 +16,15 @@ pub const PAGE: usize = 1024;
 /// A byte for each offset. What was never written is the image's byte, or 0 after its end.
 #[derive(Drop)]
 pub struct Pages {
-    image: Vec<u8>,
+    image: Rc<Vec<u8>>,
     // The written pages, each by its first offset divided by the size of a page.
     pages: BTreeMap<u64, Box<[u8; PAGE]>>,
 }
 
 impl Pages {
     /// The bytes of an image, which is taken over as it is.
-    pub fn new(alloc: Global, image: Vec<u8>) -> Pages
-        ensures { (x : ℕ) → stored_byte result x ≡ slice_index image.items x }
+    pub fn new(alloc: Global, image: Rc<Vec<u8>>) -> Pages
+        ensures { (x : ℕ) → stored_byte result x ≡ slice_index image.value.items x }
     {
         Pages {
             image,
@@ -136,6 +137,13 @@ impl Pages {
         Ok(())
     }
 
+    // The bytes of the image.
+    fn image(&self) -> &[u8]
+        ensures { result.now ≡ self.now.image.value.items }
+    {
+        self.image.as_slice()
+    }
+
     // The bytes from an offset on, at least one, to the end of its page, or to the end of the image where
     // that comes first and the page is not written.
     fn rest_of_page(&self, offset: u64) -> &[u8]
@@ -150,12 +158,9 @@ impl Pages {
             return part(&**page, first, PAGE - first);
         }
         let place = offset as usize;
-        if place < self.image.len() {
-            return part(
-                &self.image,
-                place,
-                (PAGE - first).min(self.image.len() - place),
-            );
+        let image = self.image();
+        if place < image.len() {
+            return part(image, place, (PAGE - first).min(image.len() - place));
         }
         zero_bytes(PAGE - first)
     }

@@ -1,5 +1,7 @@
 //! What an export holds at first.
 
+use std::rc::Rc;
+
 /// What an export holds at first.
 #[derive(Drop)]
 pub enum Start {
@@ -7,6 +9,6 @@ pub enum Start {
     Unknown,
     /// Each byte is 0.
     Zeroes,
-    /// The export's bytes, from offset 0 on.
-    Image(Vec<u8>),
+    /// The export's bytes, from offset 0 on. They stand in memory once, however many share them.
+    Image(Rc<Vec<u8>>),
 }

@@ -7,4 +7,4 @@ use Rattle.nbd_export.specs.declared.start.Start.TheVariants.{Unknown, Zeroes, I
 abbrev pub initial_of : Start → definitions.Start
 initial_of Unknown = definitions.Unknown
 initial_of Zeroes = definitions.Zeroes
-initial_of (Image image) = definitions.Image image.items
+initial_of (Image image) = definitions.Image image.value.items

@@ -46,7 +46,7 @@ pub fn verdict_of(
 ) -> Result<Verdict, AllocError>
     ensures { IfOk result (IsVerdict profile transcript.now order.now (initial_of start.now)) }
 {
-    let start = copy_of(alloc, start)?;
+    let start = copy_of(start)?;
     verdict_on(alloc, profile, transcript, order, start)
 }
 
@@ -62,14 +62,14 @@ pub fn place_of(verdict: &Verdict) -> Place {
     Place { request, offset }
 }
 
-// The same start.
-fn copy_of(alloc: Global, start: &Start) -> Result<Start, AllocError>
+// The same start, which shares its image.
+fn copy_of(start: &Start) -> Result<Start, AllocError>
     ensures { IfOk result (λ copy. initial_of copy ≡ initial_of start.now) }
 {
     match start {
         Start::Unknown => Ok(Start::Unknown),
         Start::Zeroes => Ok(Start::Zeroes),
-        Start::Image(image) => { Ok(Start::Image(image.as_slice().to_vec(alloc)?)) }
+        Start::Image(image) => Ok(Start::Image(image.clone()?)),
     }
 }
 

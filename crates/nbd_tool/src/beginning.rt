@@ -10,7 +10,8 @@ ghost use Rattle.nbd_files.specs.Texts.{IsText};
 use nbd_export::Start;
 use nbd_files::{Measured, READ_LIMIT, ReadFault, RunFault, StartFrom, Text, read_within};
 use nbd_session::{SessionFault, Transcript};
-use std::alloc::Global;
+use std::alloc::{AllocError, Global};
+use std::rc::Rc;
 
 /// What the export held at first, as far as a verdict needs it.
 #[derive(Drop)]
@@ -50,10 +51,17 @@ pub fn read_start<I: Measured + Drop>(
         StartFrom::Unknown => Ok(Beginning::Whole(Start::Unknown)),
         StartFrom::Zeroes => Ok(Beginning::Whole(Start::Zeroes)),
         StartFrom::Image(mut image) => match read_image(alloc, &mut image, room)? {
-            Text::Whole(bytes) => Ok(Beginning::Whole(Start::Image(bytes))),
+            Text::Whole(bytes) => Ok(Beginning::Whole(Start::Image(shared(alloc, bytes)?))),
             Text::Longer(count) => Ok(Beginning::Longer(count)),
         },
     }
+}
+
+// The bytes of an image, which others may share.
+fn shared(alloc: Global, bytes: Vec<u8>) -> Result<Rc<Vec<u8>>, AllocError>
+    ensures { IfOk result (λ image. image.value.items ≡ bytes.items) }
+{
+    Ok(Rc::new(alloc, bytes)?)
 }
 
 // The bytes of an image, or how many they are.

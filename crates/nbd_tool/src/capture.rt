@@ -13,7 +13,7 @@ ghost use Rattle.nbd_tool.specs.Ends.{IsOver, IsOverText};
 use nbd_capture::CaptureReader;
 use nbd_files::{READ_LIMIT, RunFault};
 use nbd_session::{Session, SessionFault};
-use nbd_wire::{Profile, Side};
+use nbd_wire::{Message, Profile, Side};
 use std::alloc::{AllocError, Global};
 use std::io::BufRead;
 
@@ -21,6 +21,9 @@ use std::io::BufRead;
 pub trait Witness {
     /// These bytes came next, from this side. An `Err` says that memory ran out.
     fn see(&mut self, side: Side, bytes: &[u8]) -> Result<(), AllocError>;
+
+    /// These are the messages that were accepted so far. An `Err` says that memory ran out.
+    fn accept(&mut self, messages: &[Message]) -> Result<(), AllocError>;
 }
 
 /// Nobody.
@@ -29,6 +32,10 @@ pub struct Unseen;
 
 impl Witness for Unseen {
     fn see(&mut self, _side: Side, _bytes: &[u8]) -> Result<(), AllocError> {
+        Ok(())
+    }
+
+    fn accept(&mut self, _messages: &[Message]) -> Result<(), AllocError> {
         Ok(())
     }
 }
@@ -88,7 +95,7 @@ fn push_read<C: BufRead, S: Witness>(
     Ok(())
 }
 
-// Shows a piece of a capture to the witness, and pushes it into a session.
+// Shows a piece of a capture to the witness, pushes it into a session, and shows what that accepted.
 fn push_shown<S: Witness>(
     session: &mut Session,
     witness: &mut S,
@@ -100,6 +107,16 @@ fn push_shown<S: Witness>(
         IsOver profile (capture ++ side_pairs side piece.now) session.new) }
 {
     witness.see(side, piece)?;
+    push(session, side, piece)?;
+    witness.accept(session.messages())
+}
+
+// Pushes a piece of a capture into a session. An `Err` says that memory ran out.
+fn push(session: &mut Session, side: Side, piece: &[u8]) -> Result<(), AllocError>
+    requires { bytes_taken session.old + length piece.now < 2 ^ 63 }
+    ensures { OnOk result ((profile : Profile) (capture : List Pair) → IsOver profile capture session.old →
+        IsOver profile (capture ++ side_pairs side piece.now) session.new) }
+{
     match session.push(side, piece) {
         Ok(()) => Ok(()),
         Err(SessionFault::Wire { .. }) => Ok(()),

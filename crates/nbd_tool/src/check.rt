@@ -20,7 +20,6 @@ use nbd_judge::Verdict;
 use nbd_session::{SessionFault, Transcript};
 use nbd_wire::{Entry, Profile};
 use std::alloc::Global;
-use std::io;
 use std::io::{BufRead, BufReader, Read, Write};
 
 /// Reads a capture text chunk by chunk, then an order text and an image, if there is one, whole; checks the
@@ -136,26 +135,19 @@ pub fn read_order<O: Read>(alloc: Global, order: &mut O) -> Result<Vec<Entry>, R
     }
 }
 
-/// Opens the files in the order capture, order, image, and then checks the session in this profile; the line is written on
-/// standard output.
-pub fn check_files(
+/// Opens the files in the order capture, order, image, and then checks the session in this profile, and writes the line.
+pub fn check_files<W: Write>(
     files: &mut Files<'_>,
     profile: Profile,
     capture: &str,
     order: &str,
     start: StartWord<'_>,
+    out: &mut W,
 ) -> Result<bool, RunFault> {
-    let (rt, alloc) = (files.rt, files.rt.alloc());
+    let alloc = files.rt.alloc();
     let inputs = open_inputs(files, capture, order, start)?;
     let capture = BufReader::with_capacity(alloc, PORTION, inputs.capture).map_err(
         |_| RunFault::Memory,
     )?;
-    run_check_of(
-        alloc,
-        profile,
-        capture,
-        inputs.order,
-        inputs.start,
-        &mut io::writer(rt),
-    )
+    run_check_of(alloc, profile, capture, inputs.order, inputs.start, out)
 }
