@@ -8,36 +8,41 @@ use crate::work::Work;
 /// The most requests that a contest may have of a kind.
 const MOST: usize = 64;
 
-/// Few of the requests of a byte that has no order, as came out in a slot: of the READs that are due there the last 1,
-/// 2, 4 .. that have none, but for those that the others do not need.
+/// Few of the requests of a byte that has no order, as came out in a slot: READs that are due there, and what may help one.
 pub fn shrink(operations: &[Patch], slot: usize, sweep: &mut Sweep) -> Vec<Patch> {
-    let (mut reads, mut size) = (Vec::new(sweep.work.alloc), 1usize);
+    let mut reads = Vec::new(sweep.work.alloc);
     for one in operations {
         if one.is_read && one.due <= slot {
             sweep.work.keep(&mut reads, *one);
         }
     }
     reads.reverse();
+    leave_out(operations, &mut reads, sweep);
+    few_of(operations, &reads, &mut sweep.work)
+}
+
+// Leaves the last 1, 2, 4 .. READs that have no order, but for those that the others do not need.
+fn leave_out(operations: &[Patch], reads: &mut Vec<Patch>, sweep: &mut Sweep) {
+    let mut size = 1usize;
     for _ in 0..64 {
-        let last = reads.get(..size).unwrap_or(&reads);
-        if size >= reads.len() || has_none(operations, last, sweep) {
+        let firsts = reads.get(..size).unwrap_or(reads);
+        if size >= reads.len() || has_none(operations, firsts, sweep) {
             break;
         }
         size = size.saturating_mul(2);
     }
     reads.truncate(size);
     for _ in 0..reads.len() {
-        if let (Some(read), false) = (reads.pop(), has_none(operations, &reads, sweep)) {
+        if let (Some(read), false) = (reads.pop(), has_none(operations, reads, sweep)) {
             sweep.work.is_lost |= reads.insert(0, read).is_err();
         }
     }
-    few_of(operations, &reads, &mut sweep.work)
 }
 
 // Whether these READs have no order, or the search is over.
 fn has_none(operations: &[Patch], reads: &[Patch], sweep: &mut Sweep) -> bool {
-    let mut few = few_of(operations, reads, &mut sweep.work);
-    matches!(sweep.run(&mut few), Outcome::NoOrder(_)) || sweep.work.is_over()
+    let few = few_of(operations, reads, &mut sweep.work);
+    matches!(sweep.run(&few), Outcome::NoOrder(_)) || sweep.work.is_over()
 }
 
 /// These READs, and what may help one: the newest change surely before it, and those that it sees with its bytes.
@@ -48,9 +53,13 @@ pub fn few_of(operations: &[Patch], reads: &[Patch], work: &mut Work) -> Vec<Pat
         return few;
     }
     for read in reads {
-        let mut before = operations.iter().rev();
-        let newest = before.find(|one| !one.is_read && one.due < read.request);
-        work.keep(&mut helped, (*read, newest.unwrap_or(read).request));
+        let mut newest = read.request;
+        for one in operations {
+            if !one.is_read && one.due < read.request {
+                newest = one.request;
+            }
+        }
+        work.keep(&mut helped, (*read, newest));
     }
     for one in operations {
         if is_help(one, &helped) {

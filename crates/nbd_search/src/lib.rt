@@ -1,5 +1,4 @@
-//! The search for an order of service. Nothing is proved of what it proposes: an order is judged and a contest is tested by
-//! nbd_order before they are told.
+//! The search for an order of service. Nothing is proved of what it proposes: nbd_order judges an order and tests a contest.
 #![tactic(auto)]
 
 mod dues;

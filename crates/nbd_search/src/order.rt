@@ -16,7 +16,6 @@ pub struct Served {
     /// The register's range, to before `hi`.
     pub lo: u64,
     pub hi: u64,
-    /// The requests' numbers.
     pub requests: Vec<usize>,
 }
 
@@ -26,8 +25,7 @@ type Piece = (Moment, usize, u64, u64);
 /// Lets requests be served as they arrive, but for those that were not answered.
 pub fn arrive(requests: &mut [Patch]) {
     for one in requests.iter_mut() {
-        let slot = if one.due == NEVER { NEVER } else { one.request };
-        one.moment = (slot, 0);
+        one.moment = (if one.due < NEVER { one.request } else { NEVER }, 0);
     }
 }
 
@@ -64,8 +62,8 @@ fn put_off(served: &[Served], requests: &mut [Patch], work: &mut Work) -> Option
     Some(is_changed)
 }
 
-/// The order in which each register has its own, and all else is served at its moment. Where these are those of arrival
-/// a register keeps its order and no part is late, since they are sorted by their slots.
+/// The order in which each register has its own, and all else its moment. If this is that of arrival, no part is late, since they are
+/// sorted by their slots.
 pub fn entries_of(requests: &[Patch], served: &[Served], work: &mut Work) -> Vec<Entry> {
     // Up to where each is served, and the place behind its last piece: the registers of one stand by their offsets.
     let (mut pieces, mut ends) = (Vec::new(work.alloc), Vec::new(work.alloc));
@@ -77,7 +75,7 @@ pub fn entries_of(requests: &[Patch], served: &[Served], work: &mut Work) -> Vec
     }
     for request in 1..ends.len().min(requests.len()) {
         let (one, (end, _)) = (&requests[request], ends[request]);
-        if end < one.hi || one.lo == one.hi {
+        if end < one.hi.max(one.lo.saturating_add(1)) {
             work.keep(&mut pieces, (one.moment, request, end, one.hi));
         }
     }

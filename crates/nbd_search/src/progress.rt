@@ -5,7 +5,6 @@ use std::io::{Stderr, Write};
 /// A line that says how far a search is, and that is written anew in its place.
 #[derive(Clone, Copy, Drop)]
 pub struct Progress {
-    // None where nothing is said.
     out: Option<Stderr>,
     is_shown: bool,
     /// All requests were put into an order and replayed so many times.

@@ -7,8 +7,7 @@ use nbd_wire::Entry;
 pub enum Proposal {
     /// This order explains the session.
     Order(Vec<Entry>),
-    /// No order does: at this offset these READs and these changes can be served in no order so that each of the READs gets its byte,
-    /// and no other change can help. Their numbers are counted from 1 and rise.
+    /// No order does: at this offset these READs, and these changes, which alone can help, have none. Their numbers rise, from 1.
     Contest(u64, Vec<u64>, Vec<u64>),
     /// The search was broken off, for this reason, where it looked at this.
     GaveUp(Place, Reason),

@@ -15,8 +15,7 @@ struct Replay {
     wrong: Vec<(u64, u64, usize)>,
 }
 
-/// Where READs are wrong if each request that has a moment is served whole at it: the first offset of a range, the one
-/// behind it, and the place of a patch.
+/// Where READs are wrong if each request is served whole at its moment, if it has one: ranges, to before an offset, of patches.
 pub fn wrong_ranges(scene: &Scene, work: &mut Work) -> Vec<(u64, u64, usize)> {
     let wrong = Vec::new(work.alloc);
     let Ok(contents) = Extents::new(work.alloc, scene.size, Start::Unknown) else {
@@ -64,8 +63,7 @@ impl Replay {
         work.is_lost |= left.is_err();
     }
 
-    // Notes where a READ, whose patch is at a place, got other bytes: in aligned blocks, of zeroes in more and more of them.
-    // What adjoins is one range.
+    // Notes where a READ got other bytes: in aligned blocks, of zeroes in more and more of them; what adjoins is one range.
     fn compare(&mut self, scene: &Scene, read: &Patch, place: usize, work: &mut Work) {
         let (mut at, mut size) = (read.lo, BLOCK);
         for _ in read.lo..read.hi {

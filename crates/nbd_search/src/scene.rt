@@ -13,7 +13,6 @@ pub const NEVER: usize = usize::MAX;
 /// Bytes that a request leaves in a range, or reads there. The start is request 0, which leaves its bytes first.
 #[derive(Clone, Copy, Drop)]
 pub struct Patch {
-    /// The request's number.
     pub request: usize,
     /// The last slot in which it may be served, or `NEVER`. Slot t is from the completion of request t to the next.
     pub due: usize,
@@ -28,8 +27,7 @@ pub struct Patch {
     /// Its range, to before `hi`.
     pub lo: u64,
     pub hi: u64,
-    // Where its bytes begin, and their place in the scene.
-    from: u64,
+    // The place of its bytes in the scene.
     bytes: usize,
     /// What stands for its bytes in the range that is searched; None where they are unknown.
     pub value: Option<u64>,
@@ -53,8 +51,8 @@ pub struct Scene<'a> {
     pub requests: Vec<Patch>,
     /// What they leave or read; of a READ at least one for each piece with bytes.
     pub patches: Vec<Patch>,
-    // The bytes of patches; none where they are zeroes that no message has, and None where they are unknown.
-    bytes: Vec<Option<&'a [u8]>>,
+    // Where the bytes of patches begin, and these: none where they are zeroes that no message has, None where they are unknown.
+    bytes: Vec<Option<(u64, &'a [u8])>>,
 }
 
 impl<'a> Scene<'a> {
@@ -71,9 +69,9 @@ impl<'a> Scene<'a> {
             patches: Vec::new(work.alloc),
             bytes: Vec::new(work.alloc),
         };
-        let bytes: Option<&[u8]> = match start {
-            Start::Image(image) => Some(image.as_slice()),
-            Start::Zeroes => Some(&[]),
+        let bytes: Option<(u64, &[u8])> = match start {
+            Start::Image(image) => Some((0, image.as_slice())),
+            Start::Zeroes => Some((0, &[])),
             Start::Unknown => None,
         };
         let whole = scene.patch(0, false, (0, size));
@@ -93,24 +91,29 @@ impl<'a> Scene<'a> {
         let is_read = one.succeeded() && matches!(command, commands::READ | commands::BLOCK_STATUS);
         let length = if is_change || is_read { one.length } else { 0 };
         let is_known = one.succeeded() && command != commands::TRIM;
-        let bytes = is_known.then_some(one.payload.as_slice());
+        let bytes = is_known.then_some((one.offset, one.payload.as_slice()));
         let whole = self.patch(due_of(profile, one, 0), false, (one.offset, length));
         work.keep(&mut self.bytes, bytes);
         if is_change {
             work.keep(&mut self.patches, whole);
         }
-        let count = if is_read { one.pieces.len() } else { 0 };
-        for i in 0..count {
+        if is_read {
+            self.add_pieces(profile, one, work);
+        }
+        work.keep(&mut self.requests, whole);
+    }
+
+    fn add_pieces(&mut self, profile: Profile, one: &'a Asked, work: &mut Work) {
+        for i in 0..one.pieces.len() {
             let (span, due) = (Span::of(&one.pieces[i]), due_of(profile, one, i));
             let bytes: &[u8] = match &one.pieces[i] {
                 Piece::Bytes { bytes, .. } => bytes.as_slice(),
                 Piece::Hole { .. } => &[],
             };
             let patch = self.patch(due, true, (span.offset, span.size));
-            work.keep(&mut self.bytes, Some(bytes));
+            work.keep(&mut self.bytes, Some((span.offset, bytes)));
             work.keep(&mut self.patches, patch);
         }
-        work.keep(&mut self.requests, whole);
     }
 
     // What the request that comes next does with the next bytes: from an offset on, so many.
@@ -128,7 +131,6 @@ impl<'a> Scene<'a> {
             is_read,
             lo: range.0.min(self.size),
             hi: range.0.saturating_add(range.1).min(self.size),
-            from: range.0,
             bytes: self.bytes.len(),
             moment: (0, 0),
             is_wrong: false,
@@ -137,12 +139,12 @@ impl<'a> Scene<'a> {
         }
     }
 
-    /// Parts the patches of READs where these are wrong: there they may be served until they are due.
-    pub fn mark(&mut self, wrong: &[(u64, u64, usize)], work: &mut Work) {
+    /// Parts the patches of READs where these are wrong: there they may be served until they are due. Whether any is.
+    pub fn mark(&mut self, wrong: Vec<(u64, u64, usize)>, work: &mut Work) -> bool {
         for patch in self.patches.iter_mut() {
             patch.is_wrong = false;
         }
-        for (lo, hi, place) in wrong {
+        for (lo, hi, place) in &wrong {
             if let Some(rest) = self.patches.get_mut(*place) {
                 let (mut right, mut wrong) = (*rest, *rest);
                 (right.hi, wrong.lo, wrong.hi, rest.lo) = (*lo, *lo, *hi, *hi);
@@ -151,6 +153,7 @@ impl<'a> Scene<'a> {
                 work.keep(&mut self.patches, wrong);
             }
         }
+        !wrong.is_empty()
     }
 
     /// Numbers the bytes of patches from `lo` to before `hi`: the same have the same number, unknown ones none.
@@ -163,9 +166,9 @@ impl<'a> Scene<'a> {
 
     /// The patch's bytes from `lo` to before `hi`, if they are known; none where they are zeroes that no message has.
     pub fn bytes(&self, patch: &Patch, lo: u64, hi: u64) -> Option<&'a [u8]> {
-        let bytes = self.bytes.get(patch.bytes).copied().flatten()?;
-        let first = lo.saturating_sub(patch.from) as usize;
-        let behind = hi.saturating_sub(patch.from) as usize;
+        let (from, bytes) = self.bytes.get(patch.bytes).copied().flatten()?;
+        let first = lo.saturating_sub(from) as usize;
+        let behind = hi.saturating_sub(from) as usize;
         Some(bytes.get(first..behind).unwrap_or(&[]))
     }
 

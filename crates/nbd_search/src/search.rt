@@ -8,7 +8,7 @@ use crate::replay::wrong_ranges;
 use crate::scene::{NEVER, Patch, Scene};
 use crate::sweep::{Outcome, Sweep};
 use crate::walk::{Walk, events_of};
-use crate::work::{Limits, Work};
+use crate::work::{Limits, PAUSE, Work};
 use nbd_export::Start;
 use nbd_session::Transcript;
 use nbd_wire::Profile;
@@ -35,6 +35,7 @@ pub fn propose(
         end: None,
         is_lost: false,
         progress: *progress,
+        pause: limits.steps.saturating_sub(PAUSE),
     };
     let mut scene = Scene::new(profile, transcript, start, &mut work);
     let mut search = Search {
@@ -55,7 +56,6 @@ pub fn propose(
 
 #[derive(Drop)]
 struct Search {
-    // The search of one register, and what all may cost.
     sweep: Sweep,
     // What is served in the registers, each in an order of its own.
     served: Vec<Served>,
@@ -73,8 +73,8 @@ impl Search {
         arrive(&mut scene.requests);
         self.refine(scene);
         let work = &mut self.sweep.work;
-        if let Some(reason) = work.end {
-            Proposal::GaveUp(work.place, reason)
+        if work.is_over() {
+            Proposal::GaveUp(work.place, work.end.unwrap_or(Reason::Steps))
         } else if !self.refuting.is_empty() {
             contest_of(&self.refuting, work)
         } else {
@@ -82,18 +82,17 @@ impl Search {
         }
     }
 
-    // The present order is replayed, first that of arrival; what it gets wrong is searched and binds the next one,
-    // until nothing is wrong. Else an order in parts needs no registers but those of the order of arrival.
+    // The present order is replayed, first that of arrival; what it gets wrong is searched and binds the next one, until nothing
+    // is wrong. Else an order in parts needs no registers but those of the order of arrival.
     fn refine(&mut self, scene: &mut Scene) {
         let mut count = 0;
         for round in 1..=ROUNDS {
             self.sweep.work.progress.rounds = round;
             let wrong = wrong_ranges(scene, &mut self.sweep.work);
-            if wrong.is_empty() {
+            if !scene.mark(wrong, &mut self.sweep.work) {
                 self.served.clear();
                 return;
             }
-            scene.mark(&wrong, &mut self.sweep.work);
             self.go_along(scene);
             if round == 1 {
                 self.go_again(scene);
@@ -126,17 +125,21 @@ impl Search {
         let events = events_of(scene, &mut self.sweep.work);
         let mut walk = Walk::new(scene.requests.len(), &mut self.sweep.work);
         for (offset, begins, place) in &events {
-            let (Some(patch), false) = (scene.patches.get(*place), self.sweep.work.is_over()) else {
-                break;
-            };
-            walk.go_to(*offset, &mut self.sweep.work);
-            for _ in 0..scene.requests.len() {
-                if !walk.close(patch, &mut self.sweep.work) {
-                    break;
-                }
-                self.look_at(scene, &mut walk);
+            if let (Some(patch), false) = (scene.patches.get(*place), self.sweep.work.is_over()) {
+                walk.go_to(*offset, &mut self.sweep.work);
+                self.close(scene, &mut walk, patch);
+                walk.pass(patch, *begins, &mut self.sweep.work);
             }
-            walk.pass(patch, *begins, &mut self.sweep.work);
+        }
+    }
+
+    // Looks at the registers that end where a patch begins or ends.
+    fn close(&mut self, scene: &Scene, walk: &mut Walk, patch: &Patch) {
+        for _ in 0..scene.requests.len() {
+            if !walk.close(patch, &mut self.sweep.work) {
+                break;
+            }
+            self.look_at(scene, walk);
         }
     }
 
@@ -146,15 +149,13 @@ impl Search {
         for _ in lo..u64::MAX {
             let is_whole = (lo, hi) == (walk.since, walk.at);
             match self.search(scene, walk, lo, hi) {
+                Outcome::Order if hi >= walk.at => return,
                 Outcome::Order => (lo, hi) = (hi, walk.at),
                 _ if is_whole && self.ask(scene, walk) => return,
                 Outcome::NoOrder(_) if hi.saturating_sub(lo) > 1 => {
                     hi = lo.saturating_add(hi.saturating_sub(lo) / 2);
                 }
                 outcome => return self.stick(walk, outcome),
-            }
-            if lo >= hi {
-                return;
             }
         }
     }
@@ -167,7 +168,7 @@ impl Search {
         let (request, offset) = (walk.read as u64, lo);
         self.sweep.work.place = Place { request, offset };
         scene.number(&mut walk.operations, lo, hi, &mut self.sweep.work);
-        let outcome = self.sweep.run(&mut walk.operations);
+        let outcome = self.sweep.run(&walk.operations);
         if let Outcome::Order = outcome {
             let requests = self.sweep.trace();
             let served = Served { lo, hi, requests };

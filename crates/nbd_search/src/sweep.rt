@@ -1,10 +1,8 @@
-//! The search for an order of the requests of one range, whose bytes are taken as one value. A READ is served where the
-//! value matches; a change in its last slot, by a switch to its value or hidden directly before the last switch; a READ in
-//! its last slot with an open change of its value.
+//! The search for an order of one range, whose bytes are taken as one value. A READ is served where the value matches, or in its
+//! last slot with an open change of its value; a change in that, by a switch to its value or hidden directly before the last switch.
 
 use crate::scene::{NEVER, Patch};
 use crate::work::Work;
-use std::mem;
 
 /// How many operations can be open.
 const COUNT: usize = 1024;
@@ -27,11 +25,12 @@ struct State {
     // The slot of the last switch, and twice as many as there were switches.
     last: usize,
     turn: usize,
+    // What stands against it, by columns: of the open operations the changes that it has served, and the READs that it
+    // has not; and how many. In the column of one that is closed all states are alike.
+    debt: [u64; WORDS],
+    debts: usize,
     // The place of what was served last in the log, behind it.
     log: usize,
-    // What stands against it, by columns: of the open operations the changes that it has served, and the READs that it
-    // has not. In the column of one that is closed all states are alike.
-    debt: [u64; WORDS],
 }
 
 impl State {
@@ -41,7 +40,12 @@ impl State {
     }
 
     fn flip(&mut self, one: &Patch) {
-        self.debt[one.column / 64 % WORDS] ^= 1 << (one.column % 64);
+        let (word, bit) = (one.column / 64 % WORDS, 1 << (one.column % 64));
+        self.debt[word] ^= bit;
+        self.debts = match self.debt[word] & bit {
+            0 => self.debts.saturating_sub(1),
+            _ => self.debts.saturating_add(1),
+        };
     }
 
     // Serves an operation, before its last switch or behind it.
@@ -50,6 +54,27 @@ impl State {
         work.keep(log, (one.request, turn, self.log));
         self.log = log.len();
         self.flip(one);
+    }
+
+    // The change with which what is due is served in a slot: itself, or of the open ones to this value one that is due first.
+    fn change(
+        &self,
+        open: &[Patch],
+        one: &Patch,
+        value: Option<u64>,
+        slot: usize,
+    ) -> Option<Patch> {
+        if !one.is_read {
+            return Some(*one);
+        }
+        let (mut found, mut due) = (None, NEVER);
+        for change in open {
+            let is_such = !change.is_read && change.value == value && change.request <= slot;
+            if is_such && change.due <= due && !self.has_served(change) {
+                (found, due) = (Some(*change), change.due);
+            }
+        }
+        found
     }
 
     // Whether no more stands against it than against another one.
@@ -63,8 +88,7 @@ impl State {
     }
 }
 
-// A request that was served; its turn: what one state has served is in order by turns and then by places in the log; and
-// the place behind that of what the state served before it, or 0.
+// A request that was served, its turn, and the place behind that of what its state served before, or 0; in order by turns and places.
 type Logged = (usize, usize, usize);
 
 #[derive(Drop)]
@@ -74,8 +98,6 @@ pub struct Sweep {
     open: Vec<Patch>,
     closed: Vec<usize>,
     states: Vec<State>,
-    // What they come from.
-    before: Vec<State>,
     log: Vec<Logged>,
     slot: usize,
 }
@@ -86,7 +108,6 @@ impl Sweep {
             open: Vec::new(work.alloc),
             closed: Vec::new(work.alloc),
             states: Vec::new(work.alloc),
-            before: Vec::new(work.alloc),
             log: Vec::new(work.alloc),
             slot: 0,
             work,
@@ -94,94 +115,86 @@ impl Sweep {
     }
 
     /// Serves these operations, which stand by their numbers.
-    pub fn run(&mut self, operations: &mut [Patch]) -> Outcome {
+    pub fn run(&mut self, operations: &[Patch]) -> Outcome {
         self.work.progress.searches = self.work.progress.searches.saturating_add(1);
         self.open.clear();
         self.closed.clear();
         self.log.clear();
         self.states.clear();
         self.work.keep(&mut self.states, State::default());
-        let mut dues = Vec::new(self.work.alloc);
-        for place in 0..operations.len() {
-            if operations[place].due < NEVER {
-                self.work.keep(&mut dues, (operations[place].due, place));
+        for one in operations {
+            match self.pass_to(one.request) {
+                Outcome::Order => self.arrive(*one),
+                outcome => return outcome,
             }
         }
-        dues.sort_unstable();
-        self.serve(operations, &dues)
+        self.pass_to(NEVER)
     }
 
-    // Serves them; with the slots in which they are due, and their places.
-    fn serve(&mut self, operations: &mut [Patch], dues: &[(usize, usize)]) -> Outcome {
-        let (mut come, mut gone) = (0usize, 0usize);
-        for _ in 0..operations.len().saturating_add(dues.len()) {
-            let Some((slot, place)) = dues.get(gone) else {
-                break;
-            };
-            match operations.get_mut(come) {
-                Some(one) if one.request <= *slot => {
-                    self.arrive(one);
-                    come = come.saturating_add(1);
-                }
-                _ => {
-                    self.slot = *slot;
-                    if let Some(one) = operations.get(*place) {
-                        self.fall_due(one);
-                    }
-                    gone = gone.saturating_add(1);
+    // Goes on to a slot: what is due before that is served.
+    fn pass_to(&mut self, slot: usize) -> Outcome {
+        for _ in 0..=COUNT {
+            if self.states.is_empty() {
+                return Outcome::NoOrder(self.slot);
+            }
+            self.work.spend(self.open.len() / 8);
+            let (mut next, mut due) = (NEVER, slot);
+            for one in &self.open {
+                if one.due < due {
+                    (next, due) = (one.column, one.due);
                 }
             }
+            let Some(one) = self.open.get(next).copied() else {
+                break;
+            };
             let is_wide = self.states.len() as u64 > self.work.limits.states;
             if is_wide || self.open.len() > COUNT || self.work.is_over() {
                 return Outcome::BrokenOff;
             }
-            if self.states.is_empty() {
-                return Outcome::NoOrder(self.slot);
-            }
+            self.fall_due(&one);
         }
         Outcome::Order
     }
 
     // An operation arrives: no state has served it, but a READ is served where it matches.
-    fn arrive(&mut self, one: &mut Patch) {
+    fn arrive(&mut self, mut one: Patch) {
         one.column = self.closed.pop().unwrap_or(self.open.len());
         match self.open.get_mut(one.column) {
-            Some(closed) => *closed = *one,
-            None => self.work.keep(&mut self.open, *one),
+            Some(closed) => *closed = one,
+            None => self.work.keep(&mut self.open, one),
         }
-        self.work.spend(self.states.len());
+        self.work.spend(self.states.len().saturating_add(8));
         for state in self.states.iter_mut() {
-            if state.has_served(one) {
-                state.flip(one);
+            if state.has_served(&one) {
+                state.flip(&one);
             }
             if one.reads(state.value) {
-                state.serve(one, 1, &mut self.log, &mut self.work);
+                state.serve(&one, 1, &mut self.log, &mut self.work);
             }
         }
     }
 
     // An operation is in its last slot: each state that has not served it does so, in each way.
     fn fall_due(&mut self, one: &Patch) {
-        if !self.states.iter().all(|state| state.has_served(one)) {
-            self.branch_all(one);
+        self.slot = one.due;
+        let mut is_branched = false;
+        for place in (0..self.states.len()).rev() {
+            match self.states.get(place).copied() {
+                Some(state) if !state.has_served(one) => {
+                    self.states.swap_remove(place);
+                    self.branch(&state, one);
+                    is_branched = true;
+                }
+                _ => {}
+            }
+        }
+        if is_branched {
             self.prune();
         }
         if let Some(open) = self.open.get_mut(one.column) {
-            open.request = NEVER;
+            (open.request, open.due) = (NEVER, NEVER);
         }
         self.work.keep(&mut self.closed, one.column);
-    }
-
-    fn branch_all(&mut self, one: &Patch) {
-        mem::swap(&mut self.states, &mut self.before);
-        self.states.clear();
-        for place in 0..self.before.len() {
-            match self.before.get(place).copied() {
-                Some(state) if state.has_served(one) => self.work.keep(&mut self.states, state),
-                Some(state) => self.branch(&state, one),
-                None => {}
-            }
-        }
     }
 
     // Adds what a state becomes by serving what is due; a READ with an open change to its value, or to an unknown one.
@@ -201,7 +214,7 @@ impl Sweep {
     fn put(&mut self, state: &State, one: &Patch, value: Option<u64>, is_switch: bool) {
         self.work.spend((self.open.len() / 2).saturating_add(8));
         let slot = if is_switch { self.slot } else { state.last };
-        let Some(change) = self.change(state, one, value, slot) else {
+        let Some(change) = state.change(&self.open, one, value, slot) else {
             return;
         };
         let (mut state, behind) = (*state, usize::from(is_switch));
@@ -218,47 +231,34 @@ impl Sweep {
         self.work.keep(&mut self.states, state);
     }
 
-    // The change with which what is due is served in a slot, if there is one: itself, or of the open changes to this value
-    // that the state has not served the one with the earliest last slot.
-    fn change(&self, state: &State, one: &Patch, value: Option<u64>, slot: usize) -> Option<Patch> {
-        if !one.is_read {
-            return Some(*one);
-        }
-        let (mut found, mut due) = (None, NEVER);
-        for change in &self.open {
-            let is_such = !change.is_read && change.value == value && change.request <= slot;
-            if is_such && change.due <= due && !state.has_served(change) {
-                (found, due) = (Some(*change), change.due);
-            }
-        }
-        found
-    }
-
     // Drops each state for which another one can stand: one with its value, no earlier last switch and no more against it.
     // That can still hide what this one has changed besides, as it had arrived at its last switch.
     fn prune(&mut self) {
-        mem::swap(&mut self.states, &mut self.before);
-        self.states.clear();
-        self.work.spend(self.before.len().saturating_mul(16));
-        self.before
-            .sort_unstable_by_key(|state| (state.value, NEVER - state.last, state.debt));
-        for place in 0..self.before.len() {
-            if let Some(state) = self.before.get(place).copied() {
-                if !self.is_dominated(&state) {
-                    self.work.keep(&mut self.states, state);
+        self.work.spend(self.states.len().saturating_mul(16));
+        self.states
+            .sort_unstable_by_key(|it| (it.value, !it.last, it.debts, !it.turn));
+        let mut count = 0usize;
+        for place in 0..self.states.len() {
+            if let Some(state) = self.states.get(place).copied() {
+                if !self.is_dominated(&state, count) {
+                    if let Some(kept) = self.states.get_mut(count) {
+                        *kept = state;
+                    }
+                    count = count.saturating_add(1);
                 }
             }
         }
+        self.states.truncate(count);
     }
 
-    fn is_dominated(&mut self, state: &State) -> bool {
-        for other in self.states.iter().rev() {
+    // Whether one of so many states, which were kept, can stand for this one.
+    fn is_dominated(&mut self, state: &State, count: usize) -> bool {
+        for place in (0..count).rev() {
             self.work.spend(1);
-            if other.value != state.value {
-                break;
-            }
-            if other.owes_no_more(state) {
-                return true;
+            match self.states.get(place) {
+                Some(other) if other.value != state.value => break,
+                Some(other) if other.owes_no_more(state) => return true,
+                _ => {}
             }
         }
         false

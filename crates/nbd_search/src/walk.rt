@@ -6,8 +6,7 @@ use crate::work::Work;
 use std::collections::BTreeMap;
 use std::mem;
 
-/// All offsets as one comes along at which a patch begins or ends, whether it begins, and its place; at an offset patches
-/// end before others begin.
+/// The offsets at which a patch begins or ends, whether it begins, and its place; at an offset patches end before others begin.
 pub fn events_of(scene: &Scene, work: &mut Work) -> Vec<(u64, bool, usize)> {
     let mut events = Vec::new(work.alloc);
     for (place, patch) in scene.patches.iter().enumerate() {
@@ -20,9 +19,8 @@ pub fn events_of(scene: &Scene, work: &mut Work) -> Vec<(u64, bool, usize)> {
     events
 }
 
-// A period, which is the requests from one number to another, such that all others are due before or came later, and the
-// newest change before them is surely the last that is served before: since which offset it is open, a READ that is wrong
-// in it, its first number, and that change.
+// A period, the requests from one number to another, such that all others are due before or came later, and the newest change before
+// is surely the last that is served there: since which offset it is open, a READ that is wrong in it, its first number, that change.
 type Period = (u64, usize, usize, usize);
 
 /// What holds the present offset, and the register that was closed last: a range whose bytes are taken as one value.
@@ -46,7 +44,6 @@ pub struct Walk {
 }
 
 impl Walk {
-    /// Nothing of so many requests holds the offset.
     pub fn new(count: usize, work: &mut Work) -> Walk {
         Walk {
             at: 0,
@@ -73,10 +70,10 @@ impl Walk {
 
     // Opens the period of a READ, if it is wrong and the period is not open.
     fn open(&mut self, read: usize, work: &mut Work) {
-        match (self.open.range(read..).next(), self.now.get(&read)) {
-            (Some((_, (_, _, first, _))), _) if *first <= read => return,
-            (_, Some(one)) if one.is_wrong => {}
-            _ => return,
+        let period = self.open.range(read..).next();
+        let is_open = matches!(period, Some((_, (_, _, first, _))) if *first <= read);
+        if is_open || !matches!(self.now.get(&read), Some(one) if one.is_wrong) {
+            return;
         }
         let first = self.first(read, work);
         let (newest, last) = (self.changes.newest(first, first), self.last(first, work));
@@ -89,9 +86,12 @@ impl Walk {
         let mut first = read;
         for _ in 0..read {
             work.spend(16);
-            let newest = self.changes.newest(first, first);
-            let late = self.every.late(0, first, first);
-            match late.or(self.changes.late(0, newest, newest)) {
+            let mut late = self.every.late(0, first, first);
+            if late.is_none() {
+                let newest = self.changes.newest(first, first);
+                late = self.changes.late(0, newest, newest);
+            }
+            match late {
                 Some(number) => first = number,
                 None => break,
             }
@@ -99,8 +99,7 @@ impl Walk {
         first
     }
 
-    // The last number of a period: behind it all that came is due, and all changes before the newest one were due before
-    // that one.
+    // The last number of a period: behind it all is due that came, and all changes before the newest one were due before that.
     fn last(&self, first: usize, work: &mut Work) -> usize {
         // The slots behind the last ones of all, of the newest change, and of those before that.
         let (mut all, mut last, mut older, mut change) = (0, 0, 0, first);
@@ -117,8 +116,7 @@ impl Walk {
         NEVER
     }
 
-    /// Closes a period to which it matters that a patch begins or ends here, if there is one: it is a register. A change
-    /// matters up to one that is surely later.
+    /// Closes a period to which a patch matters that begins or ends here, if there is one; a change matters up to one surely later.
     pub fn close(&mut self, patch: &Patch, work: &mut Work) -> bool {
         work.spend(16);
         let Some((last, period)) = self.open.range(patch.request..).next() else {
@@ -171,8 +169,7 @@ impl Walk {
         }
     }
 
-    /// A READ, and the first offset from one up to here at which no change left its byte that it can see: the newest that
-    /// is surely before it, and those that may be served behind that one and before the READ.
+    /// A READ, and the first offset of the register at which no change that it sees left its byte.
     pub fn unseen(&self, scene: &Scene, read: &Patch, work: &mut Work) -> Option<(Patch, u64)> {
         let newest = self.changes.newest(read.request, read.request);
         let end = read.due.saturating_add(1);

@@ -5,7 +5,7 @@ use crate::proposal::{Place, Reason};
 use std::alloc::Global;
 
 /// How many steps pass before it is told again how far a search is.
-const PAUSE: u64 = 1 << 23;
+pub const PAUSE: u64 = 1 << 23;
 
 /// What a search may cost.
 #[derive(Clone, Copy, Drop)]
@@ -19,35 +19,33 @@ pub struct Limits {
 /// The steps that are left, and where the search is.
 #[derive(Drop)]
 pub struct Work {
-    /// Where memory comes from.
     pub alloc: Global,
     /// What the search may cost; of the steps those that are left.
     pub limits: Limits,
-    /// What is looked at.
     pub place: Place,
     /// Why it is broken off, if it is.
     pub end: Option<Reason>,
     /// Memory was refused: what the search has come to is of no use.
     pub is_lost: bool,
-    /// Where it is told how far the search is.
+    /// Where it is told how far the search is, and below how many steps that are left it is told again.
     pub progress: Progress,
+    pub pause: u64,
 }
 
 impl Work {
-    /// Takes so many steps; the search is over where fewer are left.
+    /// Takes so many steps.
     pub fn spend(&mut self, steps: usize) {
-        let left = self.limits.steps;
-        match left.checked_sub(steps as u64) {
-            Some(rest) => self.limits.steps = rest,
-            None => self.end = Some(Reason::Steps),
-        }
-        if self.limits.steps / PAUSE < left / PAUSE {
-            self.progress.show();
-        }
+        self.limits.steps = self.limits.steps.saturating_sub(steps as u64);
     }
 
-    /// Whether the search is broken off.
-    pub fn is_over(&self) -> bool {
+    /// Whether the search is broken off, as it is where no steps are left. Now and then this says how far it is.
+    pub fn is_over(&mut self) -> bool {
+        let left = self.limits.steps;
+        if left < self.pause {
+            self.pause = left.saturating_sub(PAUSE);
+            self.progress.show();
+        }
+        self.end = self.end.or((left == 0).then_some(Reason::Steps));
         self.is_lost || self.end.is_some()
     }
 
