@@ -7,10 +7,9 @@ capture ends are left out.
 import struct
 
 from messages import (
-    ABORT, ACK, BLOCK_STATUS, CACHE, CHUNKS, DISC, DONE, ERROR, ERROR_OFFSET, EXPORT_NAME, FLAGS, FLUSH, GO, INFO, LIST, READ, STARTTLS,
-    STRUCTURED_REPLY, TRIM, WRITE, WRITE_ZEROES, ack, answer, asking, begun, chunk, client_flags, content, done, entered, error, export,
-    extended_chunk, extended_request, extents, failed, failed_at, go, go_data, granted, greeting, hole, listing, context, option, read,
-    request, setting, simple, sizes, status, write,
+    ABORT, BLOCK_STATUS, CHUNKS, DISC, DONE, ERROR, EXPORT_NAME, FLAGS, FLUSH, GO, INFO, LIST, READ, STARTTLS, STRUCTURED_REPLY, TRIM,
+    WRITE, WRITE_ZEROES, ack, answer, asking, begun, chunk, content, context, entered, error, export, extended_chunk, extended_request,
+    extents, failed, failed_at, go, go_data, granted, greeting, listing, option, read, request, setting, simple, sizes, status,
 )
 
 UNSUP, POLICY, INVALID, PLATFORM, TLS_REQD, UNKNOWN, SHUTDOWN, BLOCK_SIZE_REQD, TOO_BIG, EXT_HEADER_REQD = (
@@ -182,4 +181,19 @@ ROWS = [
      [*CHUNKS, *granted(), *go(size=1 << 40), status(1, 0, 2**32 - 512), extents(1, 1, *[(512, 0), (512, 1)] * 2**19, (512, 0), flags=DONE)],
      {"too-many-extents": 1}),
     ("the flags of base:allocation", [*CHUNKS, *granted(), *go(size=512), status(1, 0, 512), extents(1, 1, (512, 3), flags=DONE)], {}),
+]
+
+# What is told of how a capture ends.
+ENDED = [
+    ("behind the greeting", [greeting()], {}),
+    ("behind the client's flags", FLAGS, {"ended-without-disconnect": 1}),
+    ("behind an option", [*FLAGS, option(LIST)], {"ended-without-disconnect": 1}),
+    ("behind EXPORT_NAME", [*FLAGS, option(EXPORT_NAME)], {"export-name-without-go": 1}),
+    ("behind its answer", [*FLAGS, option(EXPORT_NAME), entered()], {"export-name-without-go": 1, "ended-without-disconnect": 1}),
+    ("behind an error to ABORT", [*FLAGS, option(ABORT), error(ABORT)], {"abort-not-acknowledged": 1}),
+    ("a READ outstanding", [*begun(), read(1, 0, 8)], {"ended-without-disconnect": 1}),
+    ("DISC, nothing outstanding", [*begun(), request(DISC, 9, 0, 0)], {}),
+    ("DISC, half a reply", [*begun(True, size=1024), read(1, 0, 1024), content(1, 0, bytes(512)), request(DISC, 9, 0, 0)],
+     {"disc-with-requests-outstanding": 1, "disc-unanswered": 1}),
+    ("refused", [*begun(), ("S", b"\xde\xad\xbe\xef")], {"no at byte 100: BadMagic": 1}),
 ]

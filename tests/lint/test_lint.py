@@ -1,7 +1,7 @@
 """`lint`: sessions that just break a rule and that just do not, as they stand, byte by byte and as longest runs; its words, and JSON.
 
 sessions.jsonl has a session a line: `name` (of the rule that it is for, and a letter), `profile`, `level`, `capture`, and what is
-printed, `lines` and `status`. edges.py has more of them, with the rules that they break.
+printed, `lines` and `status`. edges.py, option_edges.py and request_edges.py have more of them, with the rules that they break.
 """
 
 import json
@@ -11,12 +11,14 @@ from pathlib import Path
 
 from built import Ended, Room
 from commands.said import fault, hint_of
-from lint.edges import ROWS
+from lint import edges as other_edges, option_edges, request_edges
+from lint.edges import ENDED
 from messages import begun, client_flags, greeting, longest_runs, one_by_one, records_of, text
 
 HERE = Path(__file__).parent
 LEVELS = ("must", "should", "hint")
 LINE = re.compile(r'(must|should|hint) at byte (\d+): (client|server): ([a-z0-9-]+): (.*) \("([^"]+)"\)(?: \((\d+) more\))?')
+ROWS = [*other_edges.ROWS, *option_edges.ROWS, *request_edges.ROWS]
 ENDINGS = {"ended-without-disconnect", "abort-unanswered", "disc-unanswered"}
 
 
@@ -53,15 +55,24 @@ def rows(tally, room):
             tally.want(f"lint {row['name']}, cut {number}", found, wanted)
 
 
+def broken_by(room, records):
+    """The rules that a session breaks, each with how many messages broke it; a refusal is told by its line."""
+    found = Counter()
+    for line in lines_of(lint(room, text(records), level="hint"))[:-1]:
+        _, _, _, rule, _, _, more = parted(line)
+        found[rule or line] += 1 + int(more or 0)
+    return found
+
+
 def edges(tally, room):
-    """Sessions at the edges of the rules."""
+    """Sessions at the edges of the rules. How a capture ends is asked of some alone."""
     for name, records, wanted in ROWS:
-        found = {}
-        for line in lines_of(lint(room, text(records), level="hint"))[:-1]:
-            _, _, _, rule, _, _, more = parted(line)
-            if rule not in ENDINGS:
-                found[rule or line] = 1 + int(more or 0)
-        tally.want(f"lint: {name}", found, wanted)
+        found = broken_by(room, records)
+        tally.want(f"lint: {name}", {rule: count for rule, count in found.items() if rule not in ENDINGS}, wanted)
+    for name, records, wanted in ENDED:
+        tally.want(f"lint, the end: {name}", dict(broken_by(room, records)), wanted)
+    names = Counter(name for name, _, _ in ROWS)
+    tally.want("sessions of one name", {name for name, count in names.items() if count > 1}, set())
 
 
 def without(row, rule):

@@ -22,7 +22,7 @@ pub enum Stage {
 
 /// Judges a capture that ends between messages.
 pub fn judge_end(stage: Stage, transmission: &Transmission, notes: &mut Notes) {
-    let outstanding = transmission.outstanding.len() as u64;
+    let outstanding = transmission.open;
     notes.note(
         Name::EndedWithoutDisconnect,
         ended_without_disconnect(stage, outstanding),

@@ -3,21 +3,16 @@
 use crate::breach::{Breach, breach_if};
 use crate::notes::Notes;
 use crate::numbers::{ENOMEM, ENOTSUP, EOVERFLOW, ESHUTDOWN, UNFRAGMENTED, USUAL_LARGEST};
-use crate::reply::Piece;
+use crate::reply::{Errored, Piece};
 use crate::table::Name;
 use crate::transmission::{Request, Transmission};
 use nbd_wire::flags::has;
 use nbd_wire::names::{ERRORS, name_in};
-use nbd_wire::{Failure, command_flags, commands, transmission};
+use nbd_wire::{command_flags, commands, transmission};
 
-/// Judges an error of a request, in a simple reply or a chunk; `failure` has an offset where it names one.
-pub fn judge_failure(
-    request: &Request,
-    before: &Transmission,
-    failure: Failure,
-    notes: &mut Notes,
-) {
-    let error = failure.error;
+/// Judges an error of a request.
+pub fn judge_error(request: &Request, before: &Transmission, errored: Errored, notes: &mut Notes) {
+    let error = errored.error;
     notes.note(Name::UnknownError, unknown_error(request, error));
     notes.note(Name::Enomem, enomem(request, error));
     notes.note(
@@ -27,7 +22,7 @@ pub fn judge_failure(
     notes.note(Name::ErrorOfImproper, error_of_improper(request, error));
     match error {
         ENOTSUP => judge_enotsup(request, before, notes),
-        EOVERFLOW => judge_eoverflow(request, before, failure, notes),
+        EOVERFLOW => judge_eoverflow(request, before, errored, notes),
         _ => {}
     }
 }
@@ -42,9 +37,9 @@ fn judge_enotsup(request: &Request, before: &Transmission, notes: &mut Notes) {
 }
 
 // Judges EOVERFLOW.
-fn judge_eoverflow(request: &Request, before: &Transmission, failure: Failure, notes: &mut Notes) {
+fn judge_eoverflow(request: &Request, before: &Transmission, errored: Errored, notes: &mut Notes) {
     notes.note(Name::Eoverflow, eoverflow(request, before));
-    if failure.offset.is_none() {
+    if errored.is_plain {
         notes.note(
             Name::ContentBesideEoverflow,
             content_beside_eoverflow(request),
@@ -57,12 +52,12 @@ fn judge_eoverflow(request: &Request, before: &Transmission, failure: Failure, n
 }
 
 /// Judges an error chunk beside those before it.
-pub fn judge_beside(request: &Request, failure: Failure, notes: &mut Notes) {
+pub fn judge_beside(request: &Request, errored: Errored, notes: &mut Notes) {
     notes.note(
         Name::ErrorNotAlone,
-        error_not_alone(request, failure.offset),
+        error_not_alone(request, errored.is_plain),
     );
-    if let Some(offset) = failure.offset {
+    if let Some(offset) = errored.offset {
         notes.note(Name::ErrorOffsetToFlush, error_offset_to_flush(request));
         notes.note(
             Name::ErrorOffsetRepeated,
@@ -208,11 +203,11 @@ fn simple_error(request: &Request, before: &Transmission, error: u32) -> Option<
     breach_if(before.structured, Breach::by(request, &[u64::from(error)]))
 }
 
-// Beside an error chunk without offset there is another error chunk (proto.md, "Structured reply types").
-fn error_not_alone(request: &Request, offset: Option<u64>) -> Option<Breach<'static>> {
+// Beside a chunk of type ERROR there is another error chunk (proto.md, "Structured reply types").
+fn error_not_alone(request: &Request, is_error: bool) -> Option<Breach<'static>> {
     let reply = &request.reply;
     breach_if(
-        reply.errors != 0 && (offset.is_none() || reply.has_error),
+        reply.errors != 0 && (is_error || reply.has_error),
         Breach::by(request, &[]),
     )
 }

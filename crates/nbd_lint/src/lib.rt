@@ -2,9 +2,9 @@
 //!
 //! A rule is a question to one accepted message and to what came before it: a function that returns how the message breaks
 //! it, and a row of the table. A `Linter` takes the messages one after the other, and has of the session what the rules ask:
-//! the options with their answers, and of the outstanding requests their replies so far. Of an answered request it has
-//! nothing. No byte is read here but those of payloads, by the readers of nbd_wire. Proved is that each call returns; what
-//! the rules say is tested.
+//! the options with their answers, where each request stands among the messages, and of those whose reply has begun what
+//! came of it. No byte is read here but those of payloads, by the readers of nbd_wire. Proved is that each call returns;
+//! what the rules say is tested.
 #![tactic(auto)]
 
 mod answers;
@@ -39,6 +39,7 @@ mod transmission;
 mod wildcards;
 
 pub use linter::Linter;
+pub use objects::Object;
 pub use places::Runs;
 pub use report::{Form, Refusal, Report, Wanted, is_kept, listed};
 pub use table::{Level, rule_named};

@@ -4,27 +4,27 @@ use crate::answers::judge_answer;
 use crate::asked::asks_contexts;
 use crate::chunks::{Chunk, judge_chunk, judge_content, judge_whole};
 use crate::endings::{Stage, judge_end};
-use crate::errors::{judge_beside, judge_failure, judge_simple_error};
+use crate::errors::{judge_beside, judge_error, judge_simple_error};
 use crate::handshake::judge_greeting;
 use crate::infos::judge_flags;
 use crate::negotiation::Negotiation;
 use crate::notes::{Finding, Notes};
-use crate::numbers::{EOVERFLOW, ESHUTDOWN};
+use crate::numbers::ESHUTDOWN;
 use crate::options::judge_option;
 use crate::places::{Places, Runs};
-use crate::reply::{Piece, cut_of, piece_of};
+use crate::reply::{Errored, Piece, cut_of, piece_of};
 use crate::requests::{judge_disconnect, judge_request};
 use crate::sizes::Announced;
 use crate::statuses::{Status, judge_status};
 use crate::strings::judge_message;
 use crate::table::Name;
 use crate::tls::tls_mode;
-use crate::transmission::{Request, Transmission};
+use crate::transmission::{Request, Transmission, request_of};
 use nbd_state::Export;
-use nbd_wire::chunks::{BLOCK_STATUS, BLOCK_STATUS_EXT};
+use nbd_wire::chunks::{BLOCK_STATUS, BLOCK_STATUS_EXT, ERROR};
 use nbd_wire::{
-    Bytes, Failure, Info, Message, Profile, RequestHead, answers, commands, content_of, failure_of,
-    info_of, options, read_as, side_of, status_ext_of, status_of,
+    Bytes, Info, Message, Profile, RequestHead, answers, commands, content_of, failure_of, info_of,
+    options, read_as, side_of, status_ext_of, status_of,
 };
 use std::alloc::{AllocError, Global};
 use std::collections::BTreeMap;
@@ -53,15 +53,16 @@ impl Linter {
     pub fn of(alloc: Global, messages: &[Message], runs: &Runs, are_hinting: bool) -> Linter {
         let mut linter = Linter::new(alloc, are_hinting);
         let mut places = Places::first();
-        for message in messages {
+        for at in 0..messages.len() {
+            let message = &messages[at];
             let place = places.place_of(runs, message);
-            linter.take(message, place);
+            linter.take(message, place, at, messages);
         }
         linter
     }
 
-    /// Takes the next message that a session accepted, whose last byte is the one at this place of the capture, from 1.
-    pub fn take(&mut self, message: &Message, place: u64) {
+    // Takes the next message, whose last byte is the one at this place of the capture, from 1, and which stands there among all.
+    fn take(&mut self, message: &Message, place: u64, at: usize, messages: &[Message]) {
         self.notes.begin(side_of(message), place);
         match message {
             Message::Greeting { flags } => judge_greeting(*flags, &mut self.notes),
@@ -69,14 +70,14 @@ impl Linter {
             Message::Choice { id, payload } => self.choose(*id, payload),
             Message::Answer { kind, payload, .. } => self.answer(*kind, payload.as_slice()),
             Message::Exported { size, flags, .. } => self.name(*size, *flags),
-            _ => self.transmit(message),
+            Message::Simple { error, cookie, .. } => self.simple(*cookie, *error, messages),
+            _ => self.transmit(message, at, messages),
         }
     }
 
-    // Takes a message of the transmission.
-    fn transmit(&mut self, message: &Message) {
+    // Takes a request or a chunk.
+    fn transmit(&mut self, message: &Message, at: usize, messages: &[Message]) {
         match message {
-            Message::Simple { error, cookie, .. } => self.simple(*cookie, *error),
             Message::Chunk {
                 flags,
                 kind,
@@ -95,53 +96,23 @@ impl Linter {
                     kind: *kind,
                     payload: payload.as_slice(),
                 };
+                self.reply(*cookie, messages);
                 self.chunk(*cookie, chunk);
             }
-            _ => self.ask_by(message),
+            _ => {
+                if let Some((head, payload)) = request_of(message) {
+                    self.ask(at, &head, payload);
+                }
+            }
         }
     }
 
-    // Takes a request.
-    fn ask_by(&mut self, message: &Message) {
-        match message {
-            Message::Request {
-                flags,
-                command,
-                cookie,
-                offset,
-                length,
-                payload,
-            } => {
-                let head = RequestHead {
-                    extended: false,
-                    flags: *flags,
-                    command: *command,
-                    cookie: *cookie,
-                    offset: *offset,
-                    length: u64::from(*length),
-                };
-                self.ask(&head, payload.as_slice());
-            }
-            Message::ExtendedRequest {
-                flags,
-                command,
-                cookie,
-                offset,
-                length,
-                payload,
-            } => {
-                let head = RequestHead {
-                    extended: true,
-                    flags: *flags,
-                    command: *command,
-                    cookie: *cookie,
-                    offset: *offset,
-                    length: *length,
-                };
-                self.ask(&head, payload.as_slice());
-            }
-            _ => {}
-        }
+    // The reply to a request begins or goes on.
+    fn reply(&mut self, cookie: u64, messages: &[Message]) {
+        let begun = self
+            .transmission
+            .reply(self.notes.alloc(), cookie, messages);
+        self.notes.refused_if(begun.is_err());
     }
 
     // Takes an option.
@@ -243,77 +214,75 @@ impl Linter {
         self.begin(Announced::none());
     }
 
-    // Takes a request with this head and payload.
-    fn ask(&mut self, head: &RequestHead, payload: &[u8]) {
+    // Takes a request with this head and payload, the message at this place of all.
+    fn ask(&mut self, at: usize, head: &RequestHead, payload: &[u8]) {
         if head.command == commands::DISC {
             judge_disconnect(head.flags, &self.transmission, &mut self.notes);
             self.stage = Stage::Disconnected;
             return;
         }
         match self.transmission.asking(self.notes.alloc(), head, payload) {
-            Ok(request) => self.take_request(request),
+            Ok(request) => judge_request(&request, &self.transmission, &mut self.notes),
             Err(_) => self.notes.refused_if(true),
         }
-    }
-
-    fn take_request(&mut self, request: Request) {
-        judge_request(&request, &self.transmission, &mut self.notes);
-        let taken = self.transmission.ask(request);
+        let taken = self.transmission.ask(head.cookie, at);
         self.notes.refused_if(taken.is_err());
     }
 
     // Takes a simple reply, whose error is 0 where it is none.
-    fn simple(&mut self, cookie: u64, error: u32) {
+    fn simple(&mut self, cookie: u64, error: u32, messages: &[Message]) {
         if error != 0 {
+            self.reply(cookie, messages);
             self.judge_simple(cookie, error);
             self.note_shutdown(error);
         }
-        self.transmission.outstanding.remove(&cookie);
+        self.transmission.end(cookie);
     }
 
     // Judges a simple reply that is an error.
     fn judge_simple(&mut self, cookie: u64, error: u32) {
         let transmission = &self.transmission;
-        let Some(request) = transmission.outstanding.get(&cookie) else {
+        let Some(request) = transmission.begun.get(&cookie) else {
             return;
         };
-        let failure = Failure {
+        let errored = Errored {
             error,
             offset: None,
+            is_plain: true,
         };
         judge_simple_error(request, transmission, error, &mut self.notes);
-        judge_failure(request, transmission, failure, &mut self.notes);
+        judge_error(request, transmission, errored, &mut self.notes);
     }
 
     // Notes the place of the first ESHUTDOWN.
     fn note_shutdown(&mut self, error: u32) {
-        if error == ESHUTDOWN && self.transmission.eshutdown == 0 {
-            self.transmission.eshutdown = self.notes.place();
+        if error == ESHUTDOWN {
+            self.transmission.shut_down(self.notes.place());
         }
     }
 
-    // Takes a chunk.
+    // Takes a chunk of a reply that has begun.
     fn chunk(&mut self, cookie: u64, chunk: Chunk<'_>) {
-        let failure = failure_of(read_as(Profile::Wide, chunk.kind), chunk.payload);
+        let errored = error_in(chunk);
         let piece = match content_of(chunk.kind, chunk.payload) {
             Some(content) => Some(piece_of(content)),
             None => None,
         };
         self.judge_chunk(cookie, chunk, piece);
-        if let Some(failure) = failure {
-            self.fail(cookie, chunk, failure);
+        if let Some(errored) = errored {
+            self.fail(cookie, chunk, errored);
         }
         if chunk.is_last() {
-            self.end(cookie, piece, failure.is_some());
+            self.end(cookie, piece, errored.is_some());
         } else {
-            self.keep(cookie, chunk, piece, failure);
+            self.keep(cookie, chunk, piece, errored);
         }
     }
 
     // Judges a chunk that may have a piece of content.
     fn judge_chunk(&mut self, cookie: u64, chunk: Chunk<'_>, piece: Option<Piece>) {
         let transmission = &self.transmission;
-        let Some(request) = transmission.outstanding.get(&cookie) else {
+        let Some(request) = transmission.begun.get(&cookie) else {
             return;
         };
         judge_chunk(request, transmission, chunk, &mut self.notes);
@@ -326,20 +295,20 @@ impl Linter {
     }
 
     // Judges the error that a chunk states.
-    fn fail(&mut self, cookie: u64, chunk: Chunk<'_>, failure: Failure) {
+    fn fail(&mut self, cookie: u64, chunk: Chunk<'_>, errored: Errored) {
         let transmission = &self.transmission;
-        let Some(request) = transmission.outstanding.get(&cookie) else {
+        let Some(request) = transmission.begun.get(&cookie) else {
             return;
         };
-        judge_message(failure.error, chunk.payload, &mut self.notes);
-        judge_failure(request, transmission, failure, &mut self.notes);
-        judge_beside(request, failure, &mut self.notes);
-        self.note_shutdown(failure.error);
+        judge_message(errored.error, chunk.payload, &mut self.notes);
+        judge_error(request, transmission, errored, &mut self.notes);
+        judge_beside(request, errored, &mut self.notes);
+        self.note_shutdown(errored.error);
     }
 
     // Takes the last chunk of a reply, which may have a piece of content, or be an error.
     fn end(&mut self, cookie: u64, piece: Option<Piece>, is_error: bool) {
-        if let Some(request) = self.transmission.outstanding.remove(&cookie) {
+        if let Some(request) = self.transmission.end(cookie) {
             if !is_error {
                 judge_whole(&request, piece, &mut self.notes);
             }
@@ -352,10 +321,10 @@ impl Linter {
         cookie: u64,
         chunk: Chunk<'_>,
         piece: Option<Piece>,
-        failure: Option<Failure>,
+        errored: Option<Errored>,
     ) {
-        if let Some(request) = self.transmission.outstanding.get_mut(&cookie) {
-            let kept = kept_by(request, chunk, piece, failure);
+        if let Some(request) = self.transmission.begun.get_mut(&cookie) {
+            let kept = kept_by(request, chunk, piece, errored);
             self.notes.refused_if(kept.is_err());
         }
     }
@@ -374,16 +343,25 @@ impl Linter {
     }
 }
 
+// The error that a chunk states, if it is one.
+fn error_in(chunk: Chunk<'_>) -> Option<Errored> {
+    let failure = failure_of(read_as(Profile::Wide, chunk.kind), chunk.payload)?;
+    Some(Errored {
+        error: failure.error,
+        offset: failure.offset,
+        is_plain: chunk.kind == ERROR,
+    })
+}
+
 // Keeps what a chunk says of its request.
 fn kept_by(
     request: &mut Request,
     chunk: Chunk<'_>,
     piece: Option<Piece>,
-    failure: Option<Failure>,
+    errored: Option<Errored>,
 ) -> Result<(), AllocError> {
-    if let Some(failure) = failure {
-        let is_eoverflow = failure.error == EOVERFLOW;
-        return request.reply.fail(failure.offset, is_eoverflow);
+    if let Some(errored) = errored {
+        return request.reply.fail(errored);
     }
     match piece {
         Some(piece) => {

@@ -194,7 +194,7 @@ fn changes_answers(id: u32) -> bool {
     )
 }
 
-// Whether an option that was granted tells the same when it is sent again.
-fn tells_same(id: u32) -> bool {
+/// Whether an option that was granted tells the same when it is sent again.
+pub fn tells_same(id: u32) -> bool {
     id == options::LIST || id == options::INFO || asks_contexts(id)
 }

@@ -1,4 +1,4 @@
-//! A report as JSON, an object a line.
+//! Objects of JSON, a line each, and a report as such.
 
 use crate::line::Line;
 use crate::notes::Finding;
@@ -9,74 +9,119 @@ use std::alloc::{AllocError, Global};
 
 /// An object that grows by its members. Once memory was refused it is not handed out.
 #[derive(Drop)]
-struct Object {
+pub struct Object {
     writer: Writer,
     is_refused: bool,
 }
 
 impl Object {
-    fn new(alloc: Global) -> Object {
+    /// One without a member.
+    pub fn new(alloc: Global) -> Object {
         let mut writer = Writer::new(Vec::new(alloc));
         let is_refused = writer.begin_object().is_err();
         Object { writer, is_refused }
     }
 
-    fn note(&mut self, written: Result<(), AllocError>) {
+    /// Notes whether memory was refused for something of it.
+    pub fn note(&mut self, written: Result<(), AllocError>) {
         self.is_refused |= written.is_err();
     }
 
-    // Adds a member that is a text.
-    fn text(&mut self, key: &str, text: &str) {
+    /// Begins a member, whose value is put behind that.
+    pub fn begin_member(&mut self, key: &str) {
         let named = self.writer.key(key);
         self.note(named);
-        let written = self.writer.string(text);
-        self.note(written);
     }
 
-    // Adds a member that is a number.
-    fn number(&mut self, key: &str, number: u64) {
-        let named = self.writer.key(key);
-        self.note(named);
-        let written = self.writer.u64(number);
-        self.note(written);
+    /// Adds a member that is a text.
+    pub fn text(&mut self, key: &str, text: &str) {
+        self.begin_member(key);
+        self.put_text(text);
     }
 
-    // Adds a member that is a number, or null where that is 0.
-    fn number_if(&mut self, key: &str, number: u64) {
+    /// Adds a member that is a number.
+    pub fn number(&mut self, key: &str, number: u64) {
+        self.begin_member(key);
+        self.put_number(number);
+    }
+
+    /// Adds a member that is a number, or null where that is 0.
+    pub fn number_if(&mut self, key: &str, number: u64) {
         if number != 0 {
             self.number(key, number);
             return;
         }
-        let named = self.writer.key(key);
-        self.note(named);
+        self.begin_member(key);
         let written = self.writer.null();
         self.note(written);
     }
 
-    // Begins a member that is an object.
-    fn begin(&mut self, key: &str) {
-        let named = self.writer.key(key);
-        self.note(named);
+    /// Adds a member that is true or false.
+    pub fn flag(&mut self, key: &str, flag: bool) {
+        self.begin_member(key);
+        let written = self.writer.boolean(flag);
+        self.note(written);
+    }
+
+    /// Adds a text to the list that was begun.
+    pub fn put_text(&mut self, text: &str) {
+        let written = self.writer.string(text);
+        self.note(written);
+    }
+
+    /// Adds a number to the list that was begun.
+    pub fn put_number(&mut self, number: u64) {
+        let written = self.writer.u64(number);
+        self.note(written);
+    }
+
+    /// Begins a member that is an object.
+    pub fn begin(&mut self, key: &str) {
+        self.begin_member(key);
         let begun = self.writer.begin_object();
         self.note(begun);
     }
 
-    // Ends the object that was begun last.
-    fn end(&mut self) {
+    /// Ends the object that was begun last.
+    pub fn end(&mut self) {
         let ended = self.writer.end_object();
         self.note(ended);
     }
 
-    // Adds the object to a report, a line.
-    fn finish(self, line: &mut Line) {
+    /// Begins a member that is a list.
+    pub fn begin_list(&mut self, key: &str) {
+        self.begin_member(key);
+        let begun = self.writer.begin_array();
+        self.note(begun);
+    }
+
+    /// Ends that list.
+    pub fn end_list(&mut self) {
+        let ended = self.writer.end_array();
+        self.note(ended);
+    }
+
+    /// The object on a line of its own, with its line feed.
+    pub fn line(mut self) -> Result<Vec<u8>, AllocError> {
+        self.end();
         let Object { writer, is_refused } = self;
-        let bytes = writer.into_inner();
-        match str::from_utf8(bytes.as_slice()) {
+        let mut bytes = writer.into_inner();
+        if is_refused || bytes.push(b'\n').is_err() {
+            Err(AllocError)
+        } else {
+            Ok(bytes)
+        }
+    }
+}
+
+// Adds an object to a report.
+fn put(object: Object, line: &mut Line) {
+    match object.line() {
+        Ok(bytes) => match str::from_utf8(bytes.as_slice()) {
             Ok(text) => line.say(text),
             Err(_) => line.refused_if(true),
-        }
-        line.say("\n");
-        line.refused_if(is_refused);
+        },
+        Err(_) => line.refused_if(true),
     }
 }
 
@@ -89,8 +134,7 @@ pub fn json_finding(alloc: Global, rule: &Rule, finding: &Finding, line: &mut Li
     object.number_if("request", finding.request);
     object.text("side", word_of(finding.side));
     add_rule(rule, finding, &mut object);
-    object.end();
-    object.finish(line);
+    put(object, line);
 }
 
 // Adds what is said of a finding, and how often it was made.
@@ -107,8 +151,7 @@ pub fn json_refusal(alloc: Global, refusal: Refusal<'_>, line: &mut Line) {
     let mut object = Object::new(alloc);
     object.text("refusal", refusal.fault());
     object.number("byte", refusal.place);
-    object.end();
-    object.finish(line);
+    put(object, line);
 }
 
 /// Adds how many lines of each level there are.
@@ -123,6 +166,5 @@ pub fn json_last(alloc: Global, counts: Counts, level: Level, line: &mut Line) {
         object.number("hint", counts.hints);
     }
     object.end();
-    object.end();
-    object.finish(line);
+    put(object, line);
 }

@@ -3,7 +3,7 @@
 use crate::asked::Asked;
 use crate::breach::{Breach, breach_if};
 use crate::fields::bytes_behind;
-use crate::negotiation::Negotiation;
+use crate::negotiation::{Negotiation, tells_same};
 use crate::notes::Notes;
 use crate::queries::{asked_twice, first_query, has_namespace};
 use crate::strings::judge_option_strings;
@@ -178,8 +178,10 @@ fn export_name_without_go(asked: &Asked, before: &Negotiation) -> Option<Breach<
 
 // Judges whether the same was granted before: a round trip that tells nothing new.
 fn judge_repeated(asked: &Asked, before: &Negotiation, notes: &mut Notes) {
-    if let Some(key) = key_of(asked, notes) {
-        notes.note(Name::OptionRepeated, option_repeated(asked, before, &key));
+    if tells_same(asked.id) {
+        if let Some(key) = key_of(asked, notes) {
+            notes.note(Name::OptionRepeated, option_repeated(asked, before, &key));
+        }
     }
 }
 
@@ -196,7 +198,7 @@ fn option_repeated(asked: &Asked, before: &Negotiation, key: &Vec<u8>) -> Option
     }
 }
 
-/// What an option and its data are found by; none where memory was refused.
+/// What one of these options and its data are found by; none where memory was refused.
 pub fn key_of(asked: &Asked, notes: &mut Notes) -> Option<Vec<u8>> {
     let mut key = Vec::new(notes.alloc());
     let is_refused = key.push((asked.id & 0xff) as u8).is_err()

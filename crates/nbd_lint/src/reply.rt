@@ -2,7 +2,7 @@
 
 ghost use Rattle.std.specs.Prelude.{◌≤◌};
 
-use crate::numbers::SECTOR;
+use crate::numbers::{EOVERFLOW, SECTOR};
 use nbd_wire::Content;
 use std::alloc::{AllocError, Global};
 use std::collections::{BTreeMap, BTreeSet};
@@ -15,14 +15,24 @@ pub struct Piece {
     ghost ordered: { first ≤ last },
 }
 
+/// An error of a request.
+#[derive(Clone, Copy)]
+pub struct Errored {
+    pub error: u32,
+    /// The offset that it names, if it names one.
+    pub offset: Option<u64>,
+    /// It came in a simple reply or in a chunk of type ERROR: not in one whose type proto.md does not have.
+    pub is_plain: bool,
+}
+
 /// What came of a reply.
 #[derive(Drop)]
 pub struct Reply {
     /// How many errors.
     pub errors: u64,
-    /// An error without offset.
+    /// A chunk of type ERROR.
     pub has_error: bool,
-    /// EOVERFLOW without offset.
+    /// One with EOVERFLOW.
     pub has_eoverflow: bool,
     /// Content.
     pub has_content: bool,
@@ -75,17 +85,13 @@ impl Reply {
     }
 
     /// Takes an error.
-    pub fn fail(&mut self, offset: Option<u64>, is_eoverflow: bool) -> Result<(), AllocError> {
+    pub fn fail(&mut self, errored: Errored) -> Result<(), AllocError> {
         self.errors = self.errors.saturating_add(1);
         self.is_behind_payload = false;
-        match offset {
-            Some(offset) => {
-                self.offsets.insert(offset)?;
-            }
-            None => {
-                self.has_error = true;
-                self.has_eoverflow |= is_eoverflow;
-            }
+        self.has_error |= errored.is_plain;
+        self.has_eoverflow |= errored.is_plain && errored.error == EOVERFLOW;
+        if let Some(offset) = errored.offset {
+            self.offsets.insert(offset)?;
         }
         Ok(())
     }

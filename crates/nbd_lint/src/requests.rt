@@ -61,10 +61,7 @@ fn fua_on_disc(flags: u16, before: &Transmission) -> Option<Breach<'static>> {
 
 // DISC is sent before all replies came (proto.md, "Terminating the transmission phase").
 fn disc_with_requests_outstanding(before: &Transmission) -> Option<Breach<'static>> {
-    breach_if(
-        !before.outstanding.is_empty(),
-        Breach::of(&[before.outstanding.len() as u64]),
-    )
+    breach_if(before.open != 0, Breach::of(&[before.open]))
 }
 
 // A WRITE with an extended header lacks the flag for its payload.

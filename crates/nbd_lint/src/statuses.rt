@@ -71,13 +71,14 @@ fn of_extent(request: &Request, place: u64, first: u64, second: u64) -> Breach<'
     Breach::by(request, &[place.saturating_add(1), first, second])
 }
 
-// An extent ends at no multiple of 512; the last one also not with the request or the export.
+// An extent ends at no multiple of 512; the last one also not with the request or the export. What ends at 2^64 or behind it is not
+// looked at.
 fn extent_off_512(request: &Request, size: u64, status: Status<'_>) -> Option<Breach<'static>> {
     let mut rest = status.descriptors;
     let mut end = request.head.offset;
     for place in 0..status.count() {
         let (extent, behind) = first_extent(status.extended, rest)?;
-        end = end.saturating_add(extent.length);
+        end = end.checked_add(extent.length)?;
         let is_excused = behind.is_empty() && (end == request.end() || end == size);
         if !is_sector(end) && !is_excused {
             return Some(of_extent(request, place, end, 0));

@@ -3,8 +3,8 @@
 use crate::reasons::Reasons;
 use crate::reply::Reply;
 use crate::sizes::Announced;
-use nbd_state::{Asking, Export, Selection, is_proper};
-use nbd_wire::RequestHead;
+use nbd_state::{Asking, Export, Outstanding, Selection, is_proper};
+use nbd_wire::{Message, RequestHead};
 use std::alloc::{AllocError, Global};
 use std::collections::BTreeMap;
 
@@ -46,12 +46,17 @@ pub struct Transmission {
     pub selection: Selection,
     /// In transmission: the selection is in force. Before it: it is if the last option leads there.
     pub is_agreed: bool,
-    /// How many requests came.
-    pub count: u64,
-    /// The outstanding ones, by their cookies.
-    pub outstanding: BTreeMap<u64, Request>,
-    /// The place of the first ESHUTDOWN; 0 where none came.
+    /// Of each request its place among the messages.
+    places: Vec<u32>,
+    /// Of each outstanding request, by its cookie, how many came before it.
+    outstanding: Outstanding,
+    /// How many are outstanding.
+    pub open: u64,
+    /// Those of them whose reply has begun, by their cookies.
+    pub begun: BTreeMap<u64, Request>,
+    /// The place of the first ESHUTDOWN, and how many requests came before it; 0 where none came.
     pub eshutdown: u64,
+    before_eshutdown: u64,
 }
 
 impl Transmission {
@@ -63,16 +68,30 @@ impl Transmission {
             structured: false,
             selection: Selection::none(alloc),
             is_agreed: false,
-            count: 0,
-            outstanding: BTreeMap::new(alloc),
+            places: Vec::new(alloc),
+            outstanding: Outstanding::none(alloc),
+            open: 0,
+            begun: BTreeMap::new(alloc),
             eshutdown: 0,
+            before_eshutdown: 0,
         }
     }
 
-    /// A request with this head and payload, as it stands behind what came before it.
+    /// The next request, with this head and payload, as it stands behind what came before it.
     pub fn asking(
         &self,
         alloc: Global,
+        head: &RequestHead,
+        payload: &[u8],
+    ) -> Result<Request, AllocError> {
+        self.asked(alloc, self.places.len(), head, payload)
+    }
+
+    // The request behind so many others, with this head and payload, as it stood behind what had come before it.
+    fn asked(
+        &self,
+        alloc: Global,
+        before: usize,
         head: &RequestHead,
         payload: &[u8],
     ) -> Result<Request, AllocError> {
@@ -80,34 +99,122 @@ impl Transmission {
         let asking = self
             .selection
             .asking(alloc, self.is_agreed, flags, head, payload)?;
-        Ok(self.request(alloc, head, &asking))
+        Ok(self.request(alloc, before as u64, head, &asking))
     }
 
     // The same of one that asks this.
-    fn request(&self, alloc: Global, head: &RequestHead, asking: &Asking) -> Request {
+    fn request(&self, alloc: Global, before: u64, head: &RequestHead, asking: &Asking) -> Request {
         let is_aligned = self.sizes.are_aligned(head.offset, asking.length);
         Request {
-            number: self.count.saturating_add(1),
+            number: before.saturating_add(1),
             head: *head,
             length: asking.length,
             has_contexts: asking.has_contexts,
             is_proper: is_proper(self.export, asking, head),
             is_aligned,
             reasons: Reasons::of(alloc, self.export, asking, head, is_aligned),
-            is_late: self.eshutdown != 0,
+            is_late: self.eshutdown != 0 && before >= self.before_eshutdown,
             reply: Reply::none(alloc),
         }
     }
 
-    /// Takes a request.
-    pub fn ask(&mut self, request: Request) -> Result<(), AllocError> {
-        self.count = self.count.saturating_add(1);
-        self.outstanding.insert(request.head.cookie, request)?;
+    /// Takes a request with this cookie, which is the message at this place of all.
+    pub fn ask(&mut self, cookie: u64, place: usize) -> Result<(), AllocError> {
+        let Ok(place) = u32::try_from(place) else {
+            return Err(AllocError);
+        };
+        self.outstanding.insert(cookie, self.places.len())?;
+        self.places.push(place)?;
+        self.open = self.open.saturating_add(1);
         Ok(())
+    }
+
+    /// The reply to a request begins or goes on. These are the messages so far.
+    pub fn reply(
+        &mut self,
+        alloc: Global,
+        cookie: u64,
+        messages: &[Message],
+    ) -> Result<(), AllocError> {
+        if self.begun.contains_key(&cookie) {
+            return Ok(());
+        }
+        let Some(before) = self.outstanding.get(cookie) else {
+            return Ok(());
+        };
+        let Some((head, payload)) = asked_at(self.places.get(before), messages) else {
+            return Ok(());
+        };
+        let request = self.asked(alloc, before, &head, payload)?;
+        self.begun.insert(cookie, request)?;
+        Ok(())
+    }
+
+    /// A request is answered; returns it where its reply had begun.
+    pub fn end(&mut self, cookie: u64) -> Option<Request> {
+        self.outstanding.remove(cookie);
+        self.open = self.open.saturating_sub(1);
+        self.begun.remove(&cookie)
+    }
+
+    /// Takes an ESHUTDOWN that comes at this place of the capture.
+    pub fn shut_down(&mut self, place: u64) {
+        if self.eshutdown == 0 {
+            self.eshutdown = place;
+            self.before_eshutdown = self.places.len() as u64;
+        }
     }
 
     /// Whether the context with this id is in force and is `base:allocation`.
     pub fn is_allocation(&self, id: u32) -> bool {
         self.is_agreed && self.selection.is_allocation(id)
+    }
+}
+
+// The head and the payload of the request at a place among the messages, if there is one.
+fn asked_at<'a>(place: Option<&u32>, messages: &'a [Message]) -> Option<(RequestHead, &'a [u8])> {
+    request_of(messages.get(*place? as usize)?)
+}
+
+/// The head and the payload of a message that is a request.
+pub fn request_of(message: &Message) -> Option<(RequestHead, &[u8])> {
+    match message {
+        Message::Request {
+            flags,
+            command,
+            cookie,
+            offset,
+            length,
+            payload,
+        } => {
+            let head = RequestHead {
+                extended: false,
+                flags: *flags,
+                command: *command,
+                cookie: *cookie,
+                offset: *offset,
+                length: u64::from(*length),
+            };
+            Some((head, payload.as_slice()))
+        }
+        Message::ExtendedRequest {
+            flags,
+            command,
+            cookie,
+            offset,
+            length,
+            payload,
+        } => {
+            let head = RequestHead {
+                extended: true,
+                flags: *flags,
+                command: *command,
+                cookie: *cookie,
+                offset: *offset,
+                length: *length,
+            };
+            Some((head, payload.as_slice()))
+        }
+        _ => None,
     }
 }
