@@ -8,13 +8,12 @@ order of single digits takes 17 times, since an entry has 32 bytes in memory whe
 times. Memory below some 10 MiB is not seen: the Python that starts the program takes it.
 """
 
-import subprocess
 import sys
 from itertools import chain
 from pathlib import Path
 
 sys.path.append(str(Path(__file__).resolve().parent.parent / "tests"))
-from built import PROGRAM, Room, Tally, build
+from built import Room, Tally, build
 from cases.extended_messages import BEGUN, asked, head_of, reads, spoken
 from messages import (
     LIST, OFFSET_DATA, PAYLOAD_LEN, SERVER_NAME, TRIM, WRITE, answer, begun, chunk, client_flags, greeting, option, read, request,
@@ -23,13 +22,6 @@ from messages import (
 
 LENGTH, MANY = 2**32 - 1, 1_000_000
 MIB = 2**20
-
-# Runs the words and prints their exit status and their peak memory in KiB.
-MEASURE = """
-import resource, subprocess, sys
-status = subprocess.call(sys.argv[1:])
-print(status, resource.getrusage(resource.RUSAGE_CHILDREN).ru_maxrss, file=sys.stderr)
-"""
 
 
 def head(message):
@@ -72,13 +64,11 @@ def run(tally):
         for name, records, order, line, profile in told:
             capture, size = text(records), sum(len(data) for _, data in records)
             paths = room.put("capture", capture), room.put("order", order)
-            words = [sys.executable, "-I", "-S", "-c", MEASURE, PROGRAM, "check", *paths, "--start", "zero", "--profile", profile]
-            found = subprocess.run(words, capture_output=True, text=True, check=True)
-            status, peak = map(int, found.stderr.split()[-2:])
+            said, status, peak = room.measured("check", *paths, "--start", "zero", "--profile", profile)
             times = 17 if "digits" in name else 6 if "numbers" in name else 4
             most = (16 * MIB + times * (size + len(order))) // 1024
-            print(f"{name:36}{len(capture):12}{size:12}{len(order):12}{peak:10}{most:10}  {found.stdout.strip()}")
-            tally.want(name, (status, found.stdout), (1, line + "\n"))
+            print(f"{name:36}{len(capture):12}{size:12}{len(order):12}{peak:10}{most:10}  {said.strip()}")
+            tally.want(name, (status, said), (1, line + "\n"))
             tally.holds(f"{name}, memory", peak <= most, peak)
 
 

@@ -16,10 +16,10 @@ _nbdcheck_files() {
 _nbdcheck() {
     # The commands, each with its options; every other word is the name of a file.
     local -A options=(
-        [check]="--start --profile --hints --help"
-        [explain]="--start --profile --states --steps --hints --help"
-        [order]="--start --profile --whole --arrival --states --steps --hints --help"
-        [show]="--names --profile --hints --help"
+        [check]="--start --profile --json --hints --help"
+        [explain]="--start --profile --states --steps --json --hints --help"
+        [order]="--start --profile --whole --arrival --states --steps --json --hints --help"
+        [show]="--names --profile --json --hints --help"
         [lint]="--profile --level --allow --json --list --hints --help"
         [make]="--hints --help"
         [help]=""

@@ -15,6 +15,13 @@ sys.path += [str(TOP / room) for room in ("bin", "tools", "bench")]
 # NBDCHECK names another program that is to be run, as one that was kept aside.
 PROGRAM = os.environ.get("NBDCHECK", str(TOP / "crates/nbdcheck/out/nbdcheck"))
 
+# Runs the words and prints their exit status and their peak memory in KiB.
+MEASURE = """
+import resource, subprocess, sys
+status = subprocess.call(sys.argv[1:])
+print(status, resource.getrusage(resource.RUSAGE_CHILDREN).ru_maxrss, file=sys.stderr)
+"""
+
 # A run's exit status (below 0: the signal that ended it), standard output and standard error.
 Ended = namedtuple("Ended", "status out err")
 
@@ -79,6 +86,12 @@ class Room:
         signal.setitimer(signal.ITIMER_REAL, 0)
         wrote = b"" if stdout else Path(self.out).read_bytes()
         return Ended(os.waitstatus_to_exitcode(status), wrote, Path(self.err).read_bytes())
+
+    def measured(self, *words):
+        """What a run wrote, its exit status, and its peak memory in KiB; what is below 10 MiB the Python takes that starts it."""
+        words = [sys.executable, "-I", "-S", "-c", MEASURE, PROGRAM, *map(str, words)]
+        found = subprocess.run(words, capture_output=True, text=True, check=True)
+        return found.stdout, *map(int, found.stderr.split()[-2:])
 
     def check(self, capture, order, start="zero", profile=None, **how):
         """`check` of these texts, with a profile where one is named."""

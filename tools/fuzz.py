@@ -16,6 +16,7 @@ status that the command has, with an output and a standard error of its form; an
   show     the same lines in these forms; what it accepts is, made and shown again, the same; `--names` has as many lines
   explain  the status and the line of `check`; without an order, those of `order`; the same words in other records
   order    what it finds is accepted by `check`; `--arrival` has the number of each request, or says that the session was refused
+  --json   of all these an object a line, which has what the line says, with the same status and standard error
 
 An input that breaks one of these is kept in the folder of failures.
 
@@ -38,6 +39,7 @@ from explain.orderless import ORDERLESS
 from messages import EXTENDED_HEADERS, LIST_META_CONTEXT, SET_META_CONTEXT, longest_runs, one_by_one, records_of, text
 from mistakes import Mutator
 from models import served
+from objects import lines_of
 from sessions.test_cases import TABLES
 from sessions.test_contexts import ANNOUNCED, differ_by_errors, differ_by_sizes
 from sessions.test_cuts import SESSIONS, examples
@@ -153,6 +155,8 @@ def said(name, status, capture):
 class Fuzz:
     def __init__(self, room, chance):
         self.room, self.mutator, self.endings, self.profile = room, Mutator(chance), Counter(), BASE
+        # Whether a run only compares other records with those of a run before it.
+        self.is_again = False
 
     def run(self, name, *words, capture=b"", order=b""):
         """A run in little memory, whose ending is one that its command has."""
@@ -168,7 +172,18 @@ class Fuzz:
             is_told = found.status == 3 and not found.out and self.is_bad_text(name, found.err, order)
         if not is_told:
             raise Wrong(f"{name}: {found.status} {found.out[-200:]!r} {found.err[-200:]!r}")
+        if name != "make" and not self.is_again:
+            self.in_objects(name, found, words)
         return found
+
+    def in_objects(self, name, found, words):
+        """The same run with `--json`."""
+        told = self.room.run(*words, "--json")
+        try:
+            lines = lines_of(told.out)
+        except (KeyError, ValueError) as error:
+            raise Wrong(f"{name} --json: {error!r} {told.out[-200:]!r}") from error
+        self.want(f"{name} --json", (told.status, lines, told.err), (found.status, found.out, found.err))
 
     def is_bad_text(self, name, err, order):
         bad = BAD_TEXTS.get(name, BAD_CAPTURE)
@@ -204,7 +219,9 @@ class Fuzz:
         except ValueError as error:
             raise Wrong(f"an answer to a malformed capture: {wanted.out!r}") from error
         for way in (one_by_one, longest_runs):
+            self.is_again = True
             found = ask(text(way(records)))
+            self.is_again = False
             self.want(f"{way.__name__}, another answer", (found.status, found.out), (wanted.status, wanted.out))
 
     def ask_check(self, capture, order, start):
@@ -316,7 +333,7 @@ class Fuzz:
     def one(self, command, capture, order, start):
         """One session with mistakes, and what is asked of it, in one of the profiles or in both."""
         capture, order = self.session(capture, order, OFTEN[command])
-        self.profile = self.mutator.chance.choice([BASE, WIDE])
+        self.profile, self.is_again = self.mutator.chance.choice([BASE, WIDE]), False
         getattr(self, f"ask_{command}")(capture, order, start)
 
 

@@ -66,11 +66,21 @@ class Nbdcheck:
         if child.returncode != 0:
             raise Fault(FAILED, f"cannot run {printable(self.program)}: it ended with status {child.returncode}")
 
+    def _objects(self, words, taken):
+        """The objects of a run, a line each, and what it said on standard error."""
+        _, out, said = self._run([*words, "--json"], taken)
+        try:
+            return [json.loads(line) for line in out.splitlines()], said.decode(errors="backslashreplace")
+        except ValueError:
+            raise Fault(FAILED, f"{printable(self.program)} {words[0]}: its lines are no JSON") from None
+
     def explain(self):
-        """The lines of `explain`, its status, and what it said beside them."""
+        """The objects of `explain`, and what it said beside them."""
         order = [] if self.order is None else [self.order]
-        status, out, said = self._run(["explain", self.capture, *order, "--start", self.start, *self.profile], (YES, NO, GAVE_UP))
-        return out.decode(errors="backslashreplace"), status, said.decode(errors="backslashreplace")
+        objects, said = self._objects(["explain", self.capture, *order, "--start", self.start, *self.profile], (YES, NO, GAVE_UP))
+        if not objects:
+            raise Fault(FAILED, f"{printable(self.program)} explain: it wrote no verdict")
+        return objects, said
 
     def found_order(self):
         """The order that nbdcheck finds."""
@@ -79,11 +89,8 @@ class Nbdcheck:
     def breaches(self):
         """The musts and shoulds of proto.md that `lint` tells, as its objects. (It reads further than the others where no profile is
         named.)"""
-        out = self._run(["lint", self.capture, "--json", *(self.profile or ["--profile", "base"])], (YES, NO))[1]
-        try:
-            return [told for told in map(json.loads, out.splitlines()) if "rule" in told]
-        except ValueError:
-            raise Fault(FAILED, f"{printable(self.program)} lint: its lines are no JSON") from None
+        objects, _ = self._objects(["lint", self.capture, *(self.profile or ["--profile", "base"])], (YES, NO))
+        return [told for told in objects if "rule" in told]
 
     def lines(self, *options):
         """The lines of `show`, each without its line feed."""

@@ -7,7 +7,7 @@ from .places import Places
 from .refused import refused_messages
 from .service import expected, history, moments, read_order
 from .session import Session, set_lanes
-from .verdict import read_verdict
+from .verdict import verdict_of
 
 # The largest whole number that is one in a browser too; a larger one is told as a text.
 EXACT = 2**53 - 1
@@ -116,8 +116,8 @@ def order_of(nbdcheck, verdict, path):
 def facts(nbdcheck, capture, order, names):
     """All that the page shows, and the line of each message. The names are those of the capture, the order and the start."""
     nbdcheck.try_out()
-    explained, _, said = nbdcheck.explain()
-    verdict = read_verdict(explained.split("\n")[0])
+    explained, said = nbdcheck.explain()
+    verdict = verdict_of(explained[0])
     session, told = read_session(nbdcheck, capture, verdict.offset)
     end = verdict.place if verdict.kind == "place" else session.places.length
     entries, source = order_of(nbdcheck, verdict, order)
@@ -125,7 +125,7 @@ def facts(nbdcheck, capture, order, names):
     data = {
         **names,
         "verdict": verdict.line,
-        "explained": explained,
+        "explained": "".join(f"{each['line']}\n" for each in explained),
         "said": said,
         "bytes": end,
         "unread": session.places.length - end,

@@ -1,36 +1,23 @@
-"""The first line of `explain`: what is wrong, and with what."""
+"""What is wrong, and with what: the first object of `explain`."""
 
-import re
 from collections import namedtuple
 
-# The kinds of answers, and what their lines name; those of docs/nbdcheck.1.
-FORMS = {
-    "place": re.compile(r"no at byte (?P<place>\d+): (?P<fault>\w+)"),
-    "order": re.compile(r"no order entry (?P<entry>\d+): (?P<fault>\w+)"),
-    "content": re.compile(r"no content request (?P<requests>\d+) offset (?P<offset>\d+)"),
-    "any": re.compile(r"no content request (?P<requests>\d+) offset (?P<offset>\d+) in any order"),
-    "status": re.compile(r"no status request (?P<requests>\d+) offset (?P<offset>\d+)( in any order)?"),
-    "none": re.compile(r"no order explains requests (?P<requests>[\d ]+) at offset (?P<offset>\d+)"),
-    "image": re.compile(r"no image \d+ size \d+"),
-    "yes": re.compile(r"yes requests \d+ answered \d+ improper \d+"),
-}
-# Of an order with one of these faults the line names a request.
-OF_REQUESTS = ("Missing", "NotCovered")
+# By what a no is about, what the picture marks; a no without an order is drawn otherwise than one with it.
+KINDS = {"session": "place", "requests": "none"}
+# Where there is no order, only a wrong byte of one READ is one that no order explains.
+ANY = {"content": "any"}
 
 Verdict = namedtuple("Verdict", "line kind place fault entry requests offset")
 
 
-def read_verdict(line):
-    """What a line names; of one that has no other form the kind is `other`."""
-    for kind, form in FORMS.items():
-        if found := form.fullmatch(line):
-            named = found.groupdict()
-            break
-    else:
-        kind, named = "other", {}
-    fault, entry = named.get("fault"), named.get("entry")
-    requests = [int(word) for word in named.get("requests", "").split()]
-    if fault in OF_REQUESTS:
-        requests, entry = [int(entry)], None
-    numbers = [None if word is None else int(word) for word in (named.get("place"), entry, named.get("offset"))]
-    return Verdict(line, kind, numbers[0], fault, numbers[1], requests, numbers[2])
+def kind_of(told):
+    """The kind of a verdict, as the picture has it: also `yes`, and `other` where the search came to no end."""
+    if told["verdict"] != "no":
+        return "yes" if told["verdict"] == "yes" else "other"
+    kind = told["kind"]
+    return ANY.get(kind, KINDS.get(kind, kind)) if told.get("any_order") else KINDS.get(kind, kind)
+
+
+def verdict_of(told):
+    requests = told.get("wrong") or ([told["request"]] if "request" in told and told["verdict"] == "no" else [])
+    return Verdict(told["line"], kind_of(told), told.get("byte"), told.get("fault"), told.get("entry"), requests, told.get("offset"))

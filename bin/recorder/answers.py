@@ -1,7 +1,7 @@
 """What nbdcheck says of captures, and the exit status of all of it."""
 
+import json
 import os
-import re
 import subprocess
 import sys
 from collections import namedtuple
@@ -14,8 +14,6 @@ NO, MALFORMED, MEMORY, FILES, GAVE_UP, NOT_JUDGED, STRICT, CLIENT_FAILED, YES = 
 GRAVEST = (NO, MALFORMED, MEMORY, FILES, GAVE_UP, NOT_JUDGED, STRICT, CLIENT_FAILED, YES)
 # Those of nbdcheck.
 ITS_OWN = (YES, NO, MALFORMED, FILES, MEMORY, GAVE_UP)
-# The noes of sessions in which nobody broke a rule.
-OUTSIDE = re.compile(r"no at byte \d+: (OutOfProfile|ExportTooLarge)")
 # More than the last line of `show` has.
 LAST = 2**12
 
@@ -33,13 +31,36 @@ def find_nbdcheck(folder):
     return beside if os.path.isfile(beside) else os.path.join(os.path.dirname(folder), "nbdcheck")
 
 
-# What nbdcheck says of a capture: its status, NOT_JUDGED in place of a no where nobody broke a rule, its first line, and the others.
-Answer = namedtuple("Answer", "status line more")
+class Answer(namedtuple("Answer", "status verdict facts")):
+    """What nbdcheck says of a capture: its status, NOT_JUDGED in place of a no where nobody broke a rule, the object of its verdict,
+    which is empty where there is none, and those of the lines behind that."""
+
+    def line(self):
+        return self.verdict.get("line", "")
+
+    def more(self):
+        """The lines behind the first: of a yes those alone on requests that the client should not have sent."""
+        facts = self.facts
+        if self.status == YES:
+            at = [number for number, fact in enumerate(facts) if fact["fact"] == "improper"]
+            facts = facts[at[0] :] if at else []
+        return [fact["line"] for fact in facts]
+
+    def is_refused(self):
+        """Whether the session broke the protocol, or is not followed."""
+        return self.verdict.get("kind") == "session"
+
+    def counts(self):
+        """How many requests a yes counts, how many have a reply, and how many the client should not have sent; else None."""
+        return tuple(self.verdict[name] for name in ("requests", "answered", "improper")) if self.verdict.get("verdict") == "yes" else None
+
+
+NO_ANSWER = Answer(YES, {}, [])
 
 
 def answer_of(status, text):
-    line, *more = text.decode(errors="replace").splitlines() or [""]
-    return Answer(NOT_JUDGED if status == NO and OUTSIDE.fullmatch(line) else status, line, more)
+    verdict, *facts = [json.loads(line) for line in text.splitlines()] or [{}]
+    return Answer(NOT_JUDGED if status == NO and not verdict.get("judged", True) else status, verdict, facts)
 
 
 class Nbdcheck:
@@ -72,7 +93,7 @@ class Nbdcheck:
 
     def explain(self, capture, order=None):
         """Whether an order explains the session: this one, or some."""
-        words = ["explain", capture, *([] if order is None else [order]), *self.start, *self.profile]
+        words = ["explain", capture, *([] if order is None else [order]), *self.start, *self.profile, "--json"]
         status, out, _ = ran([self.program, *words], stdout=subprocess.PIPE)
         return answer_of(self._status(status), out)
 
@@ -92,7 +113,7 @@ class Nbdcheck:
 
     def protocol(self, capture):
         """The last line of `show`: whether both sides kept the protocol."""
-        words = [self.program, "show", "--names", capture, *self.profile]
+        words = [self.program, "show", "--names", capture, *self.profile, "--json"]
         with running(words, stdout=subprocess.PIPE) as shown:
             last = b""
             while part := shown.stdout.read1(2**16):

@@ -1,9 +1,8 @@
 """What is said of each connection: whether an order explains it, what was compared, which rules it breaks, and what --strict refuses."""
 
-import re
 from collections import namedtuple
 
-from .answers import FILES, GAVE_UP, NO, NOT_JUDGED, STRICT, YES, gravest
+from .answers import FILES, GAVE_UP, NO, NO_ANSWER, NOT_JUDGED, STRICT, YES, gravest
 from .apart import BESIDE_NONE, Connections
 from .linting import MUST, UNASKED as NO_LINT, lint
 
@@ -12,29 +11,20 @@ EMPTY_LINE = "empty: no byte passed"
 # passed; nobody broke a rule, and nbdcheck does not follow the session; or there is no answer, or none was asked for.
 COMPARED, UNCOMPARED, EMPTY, OUTSIDE, NONE, UNASKED = "compared", "not compared", "empty", "not judged", "no answer", "not asked"
 COUNTED = (COMPARED, UNCOMPARED, EMPTY, OUTSIDE)
-# How the line of a refused session begins.
-REFUSED = "no at byte "
-COUNTS = re.compile(r"yes requests (\d+) answered (\d+) improper (\d+)")
 
 
-class Judged(namedtuple("Judged", "held kind status line more doubts apart linted", defaults=(BESIDE_NONE, NO_LINT))):
+class Judged(namedtuple("Judged", "held kind status line more doubts apart linted counts", defaults=(BESIDE_NONE, NO_LINT, None))):
     """A connection, what became of it, its exit status, nbdcheck's line with the lines behind it, what --strict refuses, also unasked,
-    what is said of it beside the other connections, and which rules it breaks."""
+    what is said of it beside the other connections, which rules it breaks, and what a yes counts."""
 
     def is_alone(self):
         """Whether it was compared, though other connections changed what it does not touch."""
         return self.kind == COMPARED and self.apart.is_alone
 
 
-def counts_of(line):
-    """How many requests a yes counts, how many have a reply, and how many the client should not have sent; else None."""
-    found = COUNTS.fullmatch(line)
-    return tuple(map(int, found.groups())) if found else None
-
-
-def doubts_of(held, line, kind, apart=BESIDE_NONE, linted=NO_LINT):
+def doubts_of(held, answer, kind, apart=BESIDE_NONE, linted=NO_LINT):
     """What a suite may not want to pass, where there is no no."""
-    requests, answered, improper = counts_of(line) or (0, 0, 0)
+    requests, answered, improper = answer.counts() or (0, 0, 0)
     left = held.ending.client_left()
     found = (
         (kind == EMPTY, EMPTY_LINE),
@@ -53,15 +43,7 @@ def kind_of(answer, compares):
         return OUTSIDE
     if answer.status not in (YES, NO):
         return NONE
-    return COMPARED if compares and not answer.line.startswith(REFUSED) else UNCOMPARED
-
-
-def worth_saying(answer):
-    """The lines behind the first: of a yes those alone on requests that the client should not have sent."""
-    if answer.status != YES:
-        return answer.more
-    at = [number for number, line in enumerate(answer.more) if line.startswith("improper: ")]
-    return answer.more[at[0] :] if at else []
+    return COMPARED if compares and not answer.is_refused() else UNCOMPARED
 
 
 class Judge:
@@ -82,7 +64,7 @@ class Judge:
 
     def _linted(self, held, answer):
         """The rules that a session breaks which is not refused."""
-        is_whole = answer.status in (YES, NO, GAVE_UP) and not answer.line.startswith(REFUSED)
+        is_whole = answer.status in (YES, NO, GAVE_UP) and not answer.is_refused()
         return lint(self.nbdcheck, held) if self.words.lint and is_whole else NO_LINT
 
     def _answered(self, held):
@@ -90,10 +72,11 @@ class Judge:
         answer = self._ask(held, apart.reason is None)
         kind = kind_of(answer, apart.reason is None)
         linted = self._linted(held, answer)
-        doubts = doubts_of(held, answer.line, kind, apart, linted) if answer.status == YES else []
+        doubts = doubts_of(held, answer, kind, apart, linted) if answer.status == YES else []
         status = gravest([STRICT if doubts and self.words.strict else answer.status, linted.status])
-        more = worth_saying(answer) if apart.reason is None else [apart.line()]
-        return Judged(held, kind, status, answer.line or f"no answer: status {answer.status}", more, doubts, apart, linted)
+        more = answer.more() if apart.reason is None else [apart.line()]
+        line = answer.line() or f"no answer: status {answer.status}"
+        return Judged(held, kind, status, line, more, doubts, apart, linted, answer.counts())
 
     def one(self, held):
         """What is said of a connection."""
@@ -104,7 +87,7 @@ class Judge:
         if not held.is_empty():
             return self._answered(held)
         status = FILES if self.recording.is_empty() else STRICT if self.words.strict else YES
-        return Judged(held, EMPTY, status, EMPTY_LINE, [], doubts_of(held, "", EMPTY))
+        return Judged(held, EMPTY, status, EMPTY_LINE, [], doubts_of(held, NO_ANSWER, EMPTY))
 
 
 def counted(judged):

@@ -7,7 +7,7 @@ import xml.etree.ElementTree as xml
 
 from .answers import NO, NOT_JUDGED, STRICT, YES
 from .captures import CLIENT, SERVER
-from .judging import COMPARED, EMPTY, UNASKED, UNCOMPARED, counts_of
+from .judging import COMPARED, EMPTY, UNASKED, UNCOMPARED
 from .room import reason_of
 
 # What XML cannot say.
@@ -67,7 +67,7 @@ def as_json(judged, kept, name):
     """A connection as an object on one line; the capture's path is null where it was not kept."""
     held = judged.held
     client, server = bytes_of(held)
-    _, answered, improper = counts_of(judged.line) or (None, None, None)
+    _, answered, improper = judged.counts or (None, None, None)
     is_kept = held.path is not None and held in kept
     return json.dumps({
         "name": name, "connection": held.number, "capture": held.path if is_kept else None, "verdict": judged.line or None,

@@ -22,10 +22,11 @@ def escaping(tally, room):
     bad = "</script><script>bad()</script><!--&\"'\n\u2028\x01"
     lines = f"C {bad!r}"
     stand_in = room.put("stand-in", f"""#!{sys.executable}
-import os, sys
+import json, os, sys
 words = sys.argv[1:]
 if words[0] == "explain":
-    print({bad!r} + "\\n" + {bad!r}, end="")
+    print(json.dumps({{"format": 1, "line": {bad!r}, "verdict": "yes"}}))
+    print(json.dumps({{"fact": "rule", "line": {bad!r}}}))
 elif words[0] == "show" and words[1] == "--names":
     print({lines!r} + "\\nok")
 elif words[0] == "show":
@@ -41,7 +42,7 @@ elif words[0] == "show":
     tally.want("ends of scripts", len(re.findall(r"</script", page)), 3)
     tally.holds("no tag of the name", "<img" not in page and "&lt;img src=x onerror=bad()&gt;&amp;amp;" in page)
     data = data_of(page)
-    tally.want("the words as they are", (data["verdict"], data["explained"], data["name"]), (bad.split("\n")[0], f"{bad}\n{bad}", name))
+    tally.want("the words as they are", (data["verdict"], data["explained"], data["name"]), (bad, f"{bad}\n{bad}\n", name))
     tally.want("a line as it is", [json.loads(line) for line in LINES.search(page).group(1).split("\n")], [lines])
     # An export's name, and a message of an error.
     names = [greeting(), client_flags(), option(LIST), answer(LIST, SERVER_NAME, named(b"</script>"))]
@@ -53,7 +54,8 @@ elif words[0] == "show":
 def gave_up(tally, room):
     """A search that gave up proves nothing, and its page has no order; the rest is as ever."""
     line = "gave up: too many states, request 2 offset 0"
-    path = room.put("gives-up", f'#!/bin/sh\n[ "$1" = explain ] || exec {PROGRAM} "$@"\necho "{line}"; exit 5\n'.encode())
+    told = json.dumps({"format": 1, "line": line, "verdict": "open", "kind": "search", "judged": False})
+    path = room.put("gives-up", f"#!/bin/sh\n[ $1 = explain ] || exec {PROGRAM} \"$@\"\necho '{told}'; exit 5\n".encode())
     os.chmod(path, 0o755)
     ended = run_script(room.put("s.cap", text(CROSSED)), more={"NBDCHECK": path})
     data = data_of(ended.out.decode())
@@ -86,7 +88,7 @@ def refusals(tally, room):
         ("another status", [good], stand_in_of(room, "exit 9"), 3, f"{room.path('ends-exit 9')} ended with status 9"),
         ("words", [good], stand_in_of(room, "exit 3", loud), 3, loud),
         ("a signal", [good], stand_in_of(room, "kill -9 $$"), 3, f"{room.path('ends-kill -9 $$')} was ended by signal 9"),
-        ("no messages", [good], stand_in_of(room, "exit 0"), 3, "the capture changed while it was read"),
+        ("no verdict", [good], stand_in_of(room, "exit 0"), 3, f"{room.path('ends-exit 0')} explain: it wrote no verdict"),
     ):
         tally.want(name, run_script(*words, **how), Ended(status, b"", f"{NAME}: {reason}\n"))
     for words in ([], [good, order, order], [good, "--start", "zeroes"], [good, "--starts", "zero"], [good, "--start"]):

@@ -1,7 +1,8 @@
 """Long messages and lines, many records and chunks, many READs as holes and statuses over many changes, many statuses and what they
-cost, and exports of no byte and of as many as there may be.
+cost, exports of no byte and of as many as there may be, and the memory that READs of an image take.
 """
 
+import random
 import resource
 
 from built import Ended, Room
@@ -239,6 +240,31 @@ def exports(tally, room):
     tally.want("a read of 1 MiB of zeroes", found, no("no content request 1 offset 1"))
 
 
+def reads_of(image, is_structured, length):
+    """READs of all of an image, a range after the other, each in one chunk or simple reply."""
+    reply = (lambda *one: content(*one, flags=DONE)) if is_structured else (lambda cookie, _, data: simple(cookie, data))
+    parts = [(at // length + 1, at, image[at : at + length]) for at in range(0, len(image), length)]
+    asked = (message for cookie, at, data in parts for message in (read(cookie, at, length), reply(cookie, at, data)))
+    return text([*begun(structured=is_structured, size=len(image)), *asked])
+
+
+def memory_of_images(tally, room):
+    """What is read of an image stands in memory once, and so does the image: `explain` takes hardly more than `check` does."""
+    image = random.Random(1).randbytes(48 * MIB)
+    start = ["--start", f"image:{room.put('image', image)}"]
+    for is_structured in (False, True):
+        count = len(image) // 2**16
+        capture = room.put("images.cap", reads_of(image, is_structured, 2**16))
+        order = room.put("images.ord", b"".join(b"%d\n" % number for number in range(1, count + 1)))
+        said, status, least = room.measured("check", capture, order, *start)
+        tally.want("check of an image", (said, status), (yes(count, count, 0).out.decode(), 0))
+        tally.holds("memory of check", least < 1.15 * 2 * len(image) / 1024, least)
+        for words in (["explain", capture, order], ["explain", capture], ["order", capture]):
+            _, status, peak = room.measured(*words, *start)
+            tally.want(f"{words} of an image", status, 0)
+            tally.holds(f"memory of {words}", peak < 1.3 * least, (peak, least))
+
+
 def long_lines(tally, room):
     """Bad lines of a MiB, and remarks that are as long."""
     good = text(begun())
@@ -259,5 +285,5 @@ def long_lines(tally, room):
 
 def run(tally):
     with Room() as room:
-        for part in (long_messages, many_chunks, a_million, costs_of_holes, costs_of_statuses, many_contexts, exports, long_lines):
+        for part in (long_messages, many_chunks, a_million, costs_of_holes, costs_of_statuses, many_contexts, exports, memory_of_images, long_lines):
             part(tally, room)

@@ -5,14 +5,14 @@ pub use Rattle.nbd_capture.specs.Writing.{AppendsPrefix}
 pub use Rattle.nbd_explain.specs.Answering.{answer_to}
 pub use Rattle.nbd_explain.specs.Arrival.{Arrives, number_lines}
 pub use Rattle.nbd_explain.specs.Explained.{BeginsWithLine, Explains, IsExplained}
-pub use Rattle.nbd_explain.specs.Named.{AreNamed, IsEnding, NamesAll, is_numbered, message_of, plain}
+pub use Rattle.nbd_explain.specs.Named.{AreNamed, IsEnding, KeepsUnread, NamesAll, is_numbered, message_of, plain}
 pub use Rattle.nbd_explain.specs.Named.AreNamed.{other, request}
 pub use Rattle.nbd_explain.specs.Ordering.{IsOrdered, IsOrderedFrom, IsOrderingCause, IsUnexplainedBy, LeavesOrdered, Orders, entry_lines, found_text, ordered_of, spaced_numbers, unexplained_line}
 pub use Rattle.nbd_explain.specs.Ordering.IsOrdered.{gave_up, image, none_whole, order, unexplained, wire}
 pub use Rattle.nbd_explain.specs.Orderless.{IsTold, Tells}
 pub use Rattle.nbd_explain.specs.Orderless.IsTold.{found}
 pub use Rattle.nbd_explain.specs.Outputs.{OneOutput}
-pub use Rattle.nbd_explain.specs.Shown.{IsShowCause, IsShown, Leads, LeavesShown, WritesAll, WritesMessages, WritesSome}
+pub use Rattle.nbd_explain.specs.Shown.{IsAnswered, IsShowCause, IsShown, Leads, LeavesShown, WritesAll, WritesMessages, WritesSome}
 pub use Rattle.nbd_explain.specs.Shown.IsShown.{accepted, refused}
 pub use Rattle.nbd_explain.specs.declared.answer.Answer.{Answer}
 pub use Rattle.nbd_explain.specs.declared.answer.Answer.TheVariants.{No, Open, Yes}

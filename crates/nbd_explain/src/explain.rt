@@ -55,6 +55,7 @@ pub fn run_explain<C: BufRead + Drop, O: Read + Drop, I: Measured + Drop, W: Wri
     run_explain_of(
         alloc,
         Profile::Base,
+        false,
         capture,
         order,
         start,
@@ -65,7 +66,8 @@ pub fn run_explain<C: BufRead + Drop, O: Read + Drop, I: Measured + Drop, W: Wri
 }
 
 /// Reads a capture text to its end, then an order text and an image, if there are such; writes the line that
-/// `check` writes in this profile, and behind it why the answer is no, or of a yes which requests the client should not have sent.
+/// `check` writes in this profile, and behind it why the answer is no, or of a yes which requests the client should not have sent;
+/// there each number has its name where the text is marked, as `objects_of` reads it.
 /// Without an order it looks for one within these limits: it writes the line that `check` writes of the order that was found, or that
 /// with which `order` says that there is none or that it found none, and behind it what that says.
 ///
@@ -74,6 +76,7 @@ pub fn run_explain<C: BufRead + Drop, O: Read + Drop, I: Measured + Drop, W: Wri
 pub fn run_explain_of<C: BufRead + Drop, O: Read + Drop, I: Measured + Drop, W: Write>(
     alloc: Global,
     profile: Profile,
+    is_marked: bool,
     capture: C,
     order: Option<O>,
     start: StartFrom<I>,
@@ -90,7 +93,9 @@ pub fn run_explain_of<C: BufRead + Drop, O: Read + Drop, I: Measured + Drop, W: 
     ensures cause { IfErr result (IsExplainCause O.remaining (C.remaining capture) order start) }
     ensures left { IfErr result (LeavesOrdered (W.contents out.old) (W.contents out.new)) }
 {
-    let told = told_over(alloc, profile, capture, order, start, limits, progress)?;
+    let told = told_over(
+        alloc, profile, is_marked, capture, order, start, limits, progress,
+    )?;
     write_told(told, out)
 }
 
@@ -109,6 +114,7 @@ fn write_told<W: Write>(told: (String, Answer), out: &mut W) -> Result<Answer, R
 fn told_over<C: BufRead + Drop, O: Read + Drop, I: Measured + Drop>(
     alloc: Global,
     profile: Profile,
+    is_marked: bool,
     capture: C,
     order: Option<O>,
     start: StartFrom<I>,
@@ -124,7 +130,7 @@ fn told_over<C: BufRead + Drop, O: Read + Drop, I: Measured + Drop>(
     ensures read { OnOk result (IsExplainCause O.remaining (C.remaining capture) order start Write) }
     ensures cause { IfErr result (IsExplainCause O.remaining (C.remaining capture) order start) }
 {
-    let mut recorder = Recorder::of(alloc, profile);
+    let mut recorder = Recorder::of(alloc, profile, is_marked);
     let finished = finished_over(alloc, profile, capture, &mut recorder);
     told_after(
         alloc,
@@ -243,7 +249,7 @@ fn told_from(
 ) -> Result<(String, Answer), AllocError>
     ensures { IfOk result (λ told. IsToldOn profile finished entries.now start told.1 told.0.bytes.items) }
 {
-    let kept = copy_of(alloc, &start)?;
+    let kept = copy_of(&start)?;
     let verdict = conclude_from(alloc, profile, finished, entries, start)?;
     told_verdict(alloc, verdict, story.with(entries, kept_of(&kept)))
 }

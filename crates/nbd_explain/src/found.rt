@@ -12,7 +12,7 @@ pub fn found_explanation(
     is_wider: bool,
     sources: Sources<'_>,
 ) -> Result<String, AllocError> {
-    let text = Text::new(alloc);
+    let text = Text::new(alloc, sources.story.is_marked);
     let text = match found {
         Found::Order(entries) => text
             .found(sources.story.profile, entries)

@@ -11,7 +11,7 @@ use nbd_judge::Verdict;
 use nbd_lint::{Level, Linter, Refusal, Report, Runs, Wanted, is_kept, listed};
 use nbd_session::{Session, SessionFault};
 use nbd_tool::{Witness, line_of, session_over};
-use nbd_wire::{Profile, Side, WireFault};
+use nbd_wire::{Message, Profile, Side, WireFault};
 use std::alloc::{AllocError, Global};
 use std::io::{BufRead, Write};
 
@@ -24,6 +24,10 @@ struct Counter {
 impl Witness for Counter {
     fn see(&mut self, side: Side, bytes: &[u8]) -> Result<(), AllocError> {
         self.runs.add(side, bytes.len() as u64)
+    }
+
+    fn accept(&mut self, _messages: &[Message]) -> Result<(), AllocError> {
+        Ok(())
     }
 }
 

@@ -65,7 +65,7 @@ pub fn run_names_of<C: BufRead + Drop, W: Write>(
     ensures cause { IfErr result (IsShowCause (C.remaining capture)) }
     ensures left { IfErr result (KeepsUnread (W.contents out.old) (W.contents out.new)) }
 {
-    let mut recorder = Recorder::of(alloc, profile);
+    let mut recorder = Recorder::of(alloc, profile, false);
     write_recorded(alloc, profile, capture, &mut recorder, out)
 }
 
@@ -85,14 +85,14 @@ fn write_recorded<C: BufRead + Drop, W: Write>(
     ensures left { IfErr result (KeepsUnread (W.contents out.old) (W.contents out.new)) }
 {
     let session = session_over(alloc, profile, capture, recorder)?;
-    write_names(alloc, session, &mut recorder.story, out)
+    write_names(alloc, session, &recorder.story, out)
 }
 
 // Writes the line of each message of a session, and the last line.
 fn write_names<W: Write>(
     alloc: Global,
     session: Session,
-    story: &mut Story,
+    story: &Story,
     out: &mut W,
 ) -> Result<bool, RunFault>
     ensures written { IfOk result (λ yes. (profile : Profile) (known : Option (List ℕ)) → IsOverText profile known session →
@@ -109,13 +109,12 @@ fn write_names<W: Write>(
 fn write_story<W: Write>(
     alloc: Global,
     messages: &[Message],
-    story: &mut Story,
+    story: &Story,
     out: &mut W,
 ) -> Result<(), RunFault>
     ensures appends { OnOk result (AppendsNames messages.now (W.contents out.old) (W.contents out.new)) }
     ensures fault { IfErr result (λ fault. (fault ≡ Write) ⊎ (fault ≡ Memory)) }
 {
-    story.tell(messages)?;
     write_lines(alloc, fates_of(alloc, messages)?, story, out)
 }
 
@@ -152,8 +151,8 @@ fn write_line<W: Write>(
     Ok(write_whole(out, line.as_bytes())?)
 }
 
-// The line of a message: its words, and what became of it.
-fn line_of(
+/// The line of a message: its words, and what became of it.
+pub fn line_of(
     alloc: Global,
     told: Option<&Told>,
     fate: Option<Outcome>,

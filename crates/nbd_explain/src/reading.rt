@@ -1,4 +1,4 @@
-//! The bytes of a capture, kept while its session takes them.
+//! The story of a capture, told while its session is read.
 
 ghost use Rattle.std.specs.Prelude.{IfErr, IfOk, OnOk};
 ghost use Rattle.nbd_tool.specs.Runs.{IsCaptureCause};
@@ -9,22 +9,22 @@ use nbd_files::RunFault;
 use nbd_session::{SessionFault, Transcript};
 use nbd_story::Story;
 use nbd_tool::{Witness, session_over};
-use nbd_wire::{Profile, Side};
+use nbd_wire::{Message, Profile, Side};
 use std::alloc::{AllocError, Global};
 use std::io::BufRead;
 
-/// Keeps all bytes that it is shown.
+/// Tells the story of what it is shown.
 #[derive(Drop)]
 pub struct Recorder {
-    /// A story that has them, and no message yet.
+    /// The story of it.
     pub story: Story,
 }
 
 impl Recorder {
-    /// It was shown nothing of a session of this profile; takes no memory.
-    pub fn of(alloc: Global, profile: Profile) -> Recorder {
+    /// It was shown nothing of a session of this profile; whether what is told of it has the names of numbers. Takes no memory.
+    pub fn of(alloc: Global, profile: Profile, is_marked: bool) -> Recorder {
         Recorder {
-            story: Story::of(alloc, profile),
+            story: Story::of(alloc, profile, is_marked),
         }
     }
 }
@@ -33,9 +33,13 @@ impl Witness for Recorder {
     fn see(&mut self, side: Side, bytes: &[u8]) -> Result<(), AllocError> {
         self.story.recording.add(side, bytes)
     }
+
+    fn accept(&mut self, messages: &[Message]) -> Result<(), AllocError> {
+        self.story.tell(messages)
+    }
 }
 
-/// Reads a capture text to its end, and finishes its session of this profile; the recorder's story then has its messages.
+/// Reads a capture text to its end, and finishes its session of this profile, which the recorder's story then tells.
 pub fn finished_over<C: BufRead + Drop>(
     alloc: Global,
     profile: Profile,
@@ -47,8 +51,5 @@ pub fn finished_over<C: BufRead + Drop>(
     ensures cause { IfErr result (IsCaptureCause (C.remaining capture)) }
 {
     let session = session_over(alloc, profile, capture, recorder)?;
-    let Ok(()) = recorder.story.tell(session.messages()) else {
-        return Err(RunFault::Memory);
-    };
     Ok(session.finish())
 }

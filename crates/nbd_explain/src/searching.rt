@@ -91,7 +91,7 @@ fn told_of_found(
 ) -> Result<(String, Answer), AllocError>
     ensures { IfOk result (λ told. IsToldOfFound profile transcript start told.1 told.0.bytes.items) }
 {
-    let kept = copy_of(alloc, &start)?;
+    let kept = copy_of(&start)?;
     let scope = Scope {
         wanted: Wanted::Any,
         limits,
@@ -137,7 +137,7 @@ fn is_explained_in_wide(
     scope: Scope,
     progress: &mut Progress,
 ) -> Result<bool, AllocError> {
-    let start = copy_of(alloc, start)?;
+    let start = copy_of(start)?;
     let found = find_order(alloc, Profile::Wide, transcript, start, scope, progress)?;
     Ok(matches!(found, Found::Order(_)))
 }

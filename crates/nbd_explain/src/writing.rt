@@ -28,19 +28,15 @@ pub fn told_verdict(
     Ok((text, verdict_answer(&verdict)))
 }
 
-/// A beginning once more, since what judges takes it.
-pub fn copy_of(alloc: Global, beginning: &Beginning) -> Result<Beginning, AllocError>
+/// A beginning once more, since what judges takes it. They share an image.
+pub fn copy_of(beginning: &Beginning) -> Result<Beginning, AllocError>
     ensures { IfOk result (λ copy. (room : ℕ) (initial : definitions.Start) →
         IsReadAs room initial beginning.now → IsReadAs room initial copy) }
 {
     match beginning {
         Beginning::Whole(Start::Unknown) => Ok(Beginning::Whole(Start::Unknown)),
         Beginning::Whole(Start::Zeroes) => Ok(Beginning::Whole(Start::Zeroes)),
-        Beginning::Whole(Start::Image(image)) => {
-            let mut copy = Vec::new(alloc);
-            copy.extend_from_slice(image)?;
-            Ok(Beginning::Whole(Start::Image(copy)))
-        }
+        Beginning::Whole(Start::Image(image)) => Ok(Beginning::Whole(Start::Image(image.clone()?))),
         Beginning::Longer(image) => Ok(Beginning::Longer(*image)),
     }
 }

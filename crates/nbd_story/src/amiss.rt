@@ -52,7 +52,7 @@ impl Text {
         let requests = story.requests.len() as u64;
         let mut text = self.fill_if(
             count != 0,
-            "improper: {} of {request}\n",
+            "improper: {count} of {requests:request}\n",
             &[count, requests],
         );
         let mut listed = 0u64;
@@ -62,7 +62,7 @@ impl Text {
                 listed += 1;
             }
         }
-        text.more(count, LISTED, "improper: {} more\n")
+        text.more(count, LISTED, "improper: {more} more\n")
     }
 
     // One of them, and each reason.
@@ -89,17 +89,17 @@ impl Text {
             || head.command == commands::READ && !structured;
         self.fill_if(
             !head.offset.is_multiple_of(least),
-            "wrong: outside of the block sizes {}/{}/{}: its offset is no multiple of {}\n",
+            "wrong: outside of the block sizes {least}/{preferred}/{largest}: its offset is no multiple of {unit}\n",
             &[least, preferred, largest, least],
         )
         .fill_if(
             !length.is_multiple_of(least),
-            "wrong: outside of the block sizes {}/{}/{}: its length is no multiple of {}\n",
+            "wrong: outside of the block sizes {least}/{preferred}/{largest}: its length is no multiple of {unit}\n",
             &[least, preferred, largest, least],
         )
         .fill_if(
             has_payload && length > largest,
-            "wrong: outside of the block sizes {}/{}/{}: its length is more than {}\n",
+            "wrong: outside of the block sizes {least}/{preferred}/{largest}: its length is more than {most}\n",
             &[least, preferred, largest, largest],
         )
     }

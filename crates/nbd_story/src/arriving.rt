@@ -53,7 +53,7 @@ impl Text {
         } else {
             self.fill_if(
                 count > story.client,
-                "arriving: {byte} of the client from byte {} on, no whole head of a message\n",
+                "arriving: {count:byte} of the client from byte {first} on, no whole head of a message\n",
                 &[
                     count.saturating_sub(story.client),
                     story.recording.place(Side::Client, story.client),
@@ -65,7 +65,7 @@ impl Text {
     /// Adds from which byte on a message is there, and how many of its bytes have come and how many are missing.
     pub fn cut(self, told: &Told, there: u64) -> Text {
         self.fill(
-            "; from byte {} on, {} of its {} bytes, {} missing",
+            "; from byte {first} on, {there} of its {whole} bytes, {missing} missing",
             &[
                 told.first,
                 there,

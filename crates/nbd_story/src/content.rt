@@ -93,7 +93,10 @@ impl Text {
         self.asked(label, story.request(entry.request))
             .say("; ")
             .part_served(entry, " ")
-            .number("served by entry {}\n", (place as u64).saturating_add(1))
+            .number(
+                "served by entry {entry}\n",
+                (place as u64).saturating_add(1),
+            )
     }
 
     /// The part that an entry serves, before words; nothing where it serves its request atomically.
@@ -108,11 +111,11 @@ impl Text {
     pub fn came(self, came: &Came, offset: u64, story: &Story) -> Text {
         let text = self.told("reply: ", &came.reply, story);
         if came.is_status() {
-            text.number("called zero: offset {}", offset)
+            text.number("called zero: offset {offset}", offset)
                 .descriptor(came.descriptor, &came.reply, story)
         } else {
             text.fill(
-                "came: {:02x} for offset {}",
+                "came: {value:02x} for offset {offset}",
                 &[u64::from(came.byte), offset],
             )
             .place_of(came)
@@ -123,7 +126,7 @@ impl Text {
     fn descriptor(self, one: Descriptor, chunk: &Told, story: &Story) -> Text {
         let (id, descriptors) = story.status_in(chunk);
         self.fill(
-            ", in {byte} at {}, descriptor {} of {}",
+            ", in {length:byte} at {at}, descriptor {descriptor} of {descriptors}",
             &[
                 one.part.length,
                 one.part.offset,
@@ -139,11 +142,11 @@ impl Text {
     /// Adds at which place a byte came.
     pub fn place_of(self, came: &Came) -> Text {
         let words = if came.reply.is_hole() {
-            ", in a hole, whose chunk ends at byte {}\n"
+            ", in a hole, whose chunk ends at byte {byte}\n"
         } else if came.is_status() {
-            ", in a descriptor that ends at byte {}\n"
+            ", in a descriptor that ends at byte {byte}\n"
         } else {
-            ", at byte {}\n"
+            ", at byte {byte}\n"
         };
         self.number(words, came.place)
     }
@@ -153,7 +156,7 @@ impl Text {
         let Some(byte) = held.byte(offset, sources) else {
             return self;
         };
-        let text = self.byte("expected: {:02x}", byte);
+        let text = self.byte("expected: {value:02x}", byte);
         match (sources.order.get(held.place), held.origin) {
             (Some(entry), _) => text.served(", by ", held.place, entry, sources.story),
             (None, Origin::Zeroes) => text

@@ -221,12 +221,12 @@ impl Text {
                     .bytes_at(Side::Server, name.before, name.length),
                 id,
             ),
-            None => text.number("context {}", u64::from(id)),
+            None => text.number("context {context}", u64::from(id)),
         }
     }
 
     fn named(self, name: &[u8], id: u32) -> Text {
-        self.bytes(name).number(" ({})", u64::from(id))
+        self.bytes(name).number(" ({context})", u64::from(id))
     }
 
     // Bytes that are text on a line, or else their digits; of too many the first.
@@ -259,7 +259,7 @@ impl Text {
                 .say_either(number == 0, ", asks ", "; ")
                 .context("", id_in(ids, number), story);
         }
-        text.more(count, LISTED, "; {} more")
+        text.more(count, LISTED, "; {more} more")
     }
 
     /// What is wrong with the filter of a request that has one: its first id that no client sends.
@@ -270,14 +270,15 @@ impl Text {
             let id = id_in(ids, number);
             if !story.contexts.has(id) {
                 return self.number(
-                    "wrong: its filter asks context {}, which is not in force\n",
+                    "wrong: its filter asks context {context}, which is not in force\n",
                     u64::from(id),
                 );
             }
             if !seen.add(id) {
-                return self
-                    .refused_if(seen.is_refused)
-                    .number("wrong: its filter asks context {} twice\n", u64::from(id));
+                return self.refused_if(seen.is_refused).number(
+                    "wrong: its filter asks context {context} twice\n",
+                    u64::from(id),
+                );
             }
         }
         self
@@ -315,7 +316,7 @@ impl Text {
                 .extent(is_allocation, one);
             from = end_of(one.part);
         }
-        text.more(count, LISTED, "; {} more")
+        text.more(count, LISTED, "; {more} more")
     }
 
     // A descriptor, and what it says of its bytes.
@@ -328,7 +329,7 @@ impl Text {
                 .say_if(is_zero, " zero")
                 .say_if(!is_hole && !is_zero, " data")
         } else {
-            text.number(" flags {:#x}", one.flags)
+            text.number(" flags {states:#x}", one.flags)
         }
     }
 
@@ -364,7 +365,7 @@ impl Text {
                 }
             }
         }
-        text.more(missing, LISTED, "missing: {} more\n")
+        text.more(missing, LISTED, "missing: {more} more\n")
     }
 }
 

@@ -106,21 +106,24 @@ impl Text {
             offset: found.first,
             length: rest.min(SHOWN),
         };
-        self.fill("differ: {} of {byte}", &[found.count, found.among])
-            .say_if(compared.is_status, " called zero")
-            .number_if(found.count == 1, ", at offset {}", found.first)
-            .fill_if(
-                found.count != 1,
-                ", from offset {} to {}",
-                &[found.first, found.last],
-            )
-            .number("\nfrom offset {}:\n", found.first)
-            .say_either(compared.is_status, "  called  ", "  came    ")
-            .row(shown, &compared.got, sources)
-            .say("\n  expected")
-            .row(shown, &compared.held, sources)
-            .end()
-            .refused_if(compared.got.is_refused || compared.held.is_refused)
+        self.fill(
+            "differ: {count} of {length:byte}",
+            &[found.count, found.among],
+        )
+        .say_if(compared.is_status, " called zero")
+        .number_if(found.count == 1, ", at offset {first}", found.first)
+        .fill_if(
+            found.count != 1,
+            ", from offset {first} to {last}",
+            &[found.first, found.last],
+        )
+        .number("\nfrom offset {first}:\n", found.first)
+        .say_either(compared.is_status, "  called  ", "  came    ")
+        .row(shown, &compared.got, sources)
+        .say("\n  expected")
+        .row(shown, &compared.held, sources)
+        .end()
+        .refused_if(compared.got.is_refused || compared.held.is_refused)
     }
 
     // The bytes of a part, and two points for one that is not known.

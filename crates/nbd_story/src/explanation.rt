@@ -37,7 +37,7 @@ pub fn explanation_of(
     verdict: &Verdict,
     sources: Sources<'_>,
 ) -> Result<String, AllocError> {
-    let text = Text::new(alloc);
+    let text = Text::new(alloc, sources.story.is_marked);
     let text = match verdict {
         Verdict::Yes { .. } => text.amiss(sources.story),
         Verdict::Wire { at, fault } => text.wire_fault(alloc, *at, *fault, sources.story),
@@ -53,7 +53,7 @@ impl Text {
     /// Adds why an image of so many bytes does not fit an export of this size.
     pub fn image(self, image: u64, size: u64) -> Text {
         self.rule(&IMAGE_RULE, "the image that was given").fill(
-            "sizes: the image has {byte}, the export {byte}\n",
+            "sizes: the image has {image:byte}, the export {size:byte}\n",
             &[image, size],
         )
     }

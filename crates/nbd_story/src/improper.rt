@@ -212,7 +212,7 @@ impl Text {
             return self;
         }
         let text = self.number(
-            "wrong: its range passes the end of the export of {byte} by ",
+            "wrong: its range passes the end of the export of {size:byte} by ",
             size,
         );
         let inside = size.saturating_sub(head.offset).min(length);
@@ -221,8 +221,8 @@ impl Text {
             .saturating_sub(size)
             .checked_add(length - inside)
         {
-            Some(count) => text.number("{byte}\n", count),
-            None => text.number("more than {} bytes\n", u64::MAX),
+            Some(count) => text.number("{past:byte}\n", count),
+            None => text.number("more than {past} bytes\n", u64::MAX),
         }
     }
 }

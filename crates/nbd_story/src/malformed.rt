@@ -38,7 +38,7 @@ impl Text {
                 .bad_name(data, first)
                 .bad_queries(data, first),
             _ => text.number(
-                "wrong: the option has no data, and there is some from byte {} on\n",
+                "wrong: the option has no data, and there is some from byte {first} on\n",
                 first,
             ),
         }
@@ -50,12 +50,12 @@ impl Text {
         let behind = count_behind(data, 4);
         self.number_if(
             data.len() < 4,
-            "wrong: the data ends within the length of the name, 4 bytes from byte {} on\n",
+            "wrong: the data ends within the length of the name, 4 bytes from byte {first} on\n",
             first,
         )
         .fill_if(
             length > behind,
-            "wrong: at byte {} the name has the length {}, and the bytes behind that are {}\n",
+            "wrong: at byte {first} the name has the length {length}, and the bytes behind that are {there}\n",
             &[first, length, behind],
         )
     }
@@ -69,12 +69,12 @@ impl Text {
             self
         } else if there < 2 {
             self.number(
-                "wrong: the data ends within the count of infos, 2 bytes from byte {} on\n",
+                "wrong: the data ends within the count of infos, 2 bytes from byte {first} on\n",
                 place,
             )
         } else {
             self.fill(
-                "wrong: at byte {} the count of infos is {}, of 2 bytes each, and the bytes behind that are {}\n",
+                "wrong: at byte {first} the count of infos is {count}, of 2 bytes each, and the bytes behind that are {there}\n",
                 &[place, number_in(data, at, 2), there - 2],
             )
         }
@@ -89,7 +89,7 @@ impl Text {
         }
         if count_behind(data, at) < 4 {
             return self.number(
-                "wrong: the data ends within the count of queries, 4 bytes from byte {} on\n",
+                "wrong: the data ends within the count of queries, 4 bytes from byte {first} on\n",
                 first.saturating_add(at),
             );
         }
@@ -101,7 +101,7 @@ impl Text {
             if there < 4 || length > there - 4 {
                 return self
                     .fill(
-                        "wrong: the data has {} of {} queries whole; ",
+                        "wrong: the data has {whole} of {count} queries whole; ",
                         &[number, count],
                     )
                     .cut_query(length, there, first.saturating_add(at));
@@ -109,7 +109,7 @@ impl Text {
             at = at.saturating_add(length).saturating_add(4);
         }
         self.fill(
-            "wrong: the count of queries is {}, and behind them the data goes on, from byte {}\n",
+            "wrong: the count of queries is {count}, and behind them the data goes on, from byte {first}\n",
             &[count, first.saturating_add(at)],
         )
     }
@@ -118,12 +118,12 @@ impl Text {
     fn cut_query(self, length: u64, there: u64, place: u64) -> Text {
         if there < 4 {
             self.number(
-                "the data ends within the length of the next, 4 bytes from byte {} on\n",
+                "the data ends within the length of the next, 4 bytes from byte {first} on\n",
                 place,
             )
         } else {
             self.fill(
-                "at byte {} the next has the length {}, and the bytes behind that are {}\n",
+                "at byte {first} the next has the length {length}, and the bytes behind that are {there}\n",
                 &[place, length, there - 4],
             )
         }

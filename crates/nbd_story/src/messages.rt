@@ -11,7 +11,7 @@ use std::alloc::{AllocError, Global};
 
 /// A message in words, behind the letter of its sender.
 pub fn told_words(alloc: Global, told: &Told, story: &Story) -> Result<String, AllocError> {
-    Text::new(alloc)
+    Text::new(alloc, story.is_marked)
         .say(letter_of(told.side))
         .say(" ")
         .message(told, story)
@@ -20,7 +20,7 @@ pub fn told_words(alloc: Global, told: &Told, story: &Story) -> Result<String, A
 
 /// The error that a request's reply told.
 pub fn told_error(alloc: Global, told: &Told, story: &Story) -> Result<String, AllocError> {
-    Text::new(alloc)
+    Text::new(alloc, story.is_marked)
         .error("", story.request(told.request).error)
         .finish()
 }
@@ -37,7 +37,7 @@ impl Text {
                 .flags(flag_names::CLIENT, told.choice),
             Form::Choice => self
                 .option(told.choice)
-                .number(", {byte} of data", told.payload),
+                .number(", {payload:byte} of data", told.payload),
             Form::Answer => self.answer(told, story),
             Form::Exported => self.export("export of ", told.part.length, told.flags),
             Form::Request => self.request(&told.head(), told.request).filter(told, story),
@@ -73,7 +73,7 @@ impl Text {
     pub fn numbered(self, words: &str, request: &Request) -> Text {
         self.say(words)
             .command(request.head.command)
-            .number(" #{}", request.number)
+            .number(" #{request}", request.number)
     }
 
     /// Words and a request that was named before, by its type: ` before the READ`.
@@ -85,7 +85,7 @@ impl Text {
     fn command(self, command: u16) -> Text {
         match name_in(COMMANDS, u32::from(command)) {
             Some(name) => self.say(name),
-            None => self.number("command {}", u64::from(command)),
+            None => self.number("command {command}", u64::from(command)),
         }
     }
 
@@ -93,10 +93,14 @@ impl Text {
     pub fn request(self, head: &RequestHead, number: u64) -> Text {
         let length = head.length;
         self.command(head.command)
-            .fill_if(number != 0, " #{}, cookie {:#x}", &[number, head.cookie])
+            .fill_if(
+                number != 0,
+                " #{request}, cookie {cookie:#x}",
+                &[number, head.cookie],
+            )
             .fill_if(
                 length != 0 || head.offset != 0,
-                ", {byte} at {}",
+                ", {length:byte} at {offset}",
                 &[length, head.offset],
             )
             .flags_in(flag_names::COMMAND, head.flags)
@@ -119,7 +123,7 @@ impl Text {
         } else {
             text.numbered(" to ", story.request(told.request))
         };
-        text.number(", cookie {:#x}: ", told.cookie)
+        text.number(", cookie {cookie:#x}: ", told.cookie)
     }
 
     fn simple(self, told: &Told, story: &Story) -> Text {
@@ -134,7 +138,7 @@ impl Text {
     fn chunk(self, told: &Told, story: &Story) -> Text {
         self.reply("chunk", told, story)
             .name(CHUNKS, "type", u32::from(told.kind))
-            .number(", {byte} of payload", told.payload)
+            .number(", {payload:byte} of payload", told.payload)
             .brought(told)
             .status(told, story)
             .flags_in(flag_names::CHUNK, told.flags)
@@ -150,7 +154,7 @@ impl Text {
         }
         self.error(", ", told.error).number_if(
             told.kind == chunks::ERROR_OFFSET,
-            " at {}",
+            " at {offset}",
             told.part.offset,
         )
     }
@@ -168,7 +172,7 @@ impl Text {
             .option(told.choice)
             .say(": ")
             .name(REPLIES, "kind", told.answer)
-            .number(", {byte} of data", told.payload);
+            .number(", {payload:byte} of data", told.payload);
         match told.answer {
             answers::INFO if data.len() as u64 == told.payload => text.info(data),
             answers::META_CONTEXT => text.context_told(data),
@@ -189,7 +193,7 @@ impl Text {
                     most,
                 },
             ) => self.info_kind(infos::BLOCK_SIZE).fill(
-                ": at least {}, preferred {}, at most {}",
+                ": at least {least}, preferred {preferred}, at most {largest}",
                 &[u64::from(least), u64::from(preferred), u64::from(most)],
             ),
             Some(Info::Other { kind }) => self.info_kind(kind),

@@ -74,13 +74,13 @@ impl Text {
         };
         let request = &served_by(entry, sources);
         let text = self
-            .number("entry {}: ", (place as u64).saturating_add(1))
+            .number("entry {entry}: ", (place as u64).saturating_add(1))
             .part_served(entry, " of ");
         if request.is_there() {
             text.moments("", request)
         } else {
             text.fill(
-                "request {}; the capture has {request}\n",
+                "request {request}; the capture has {requests:request}\n",
                 &[entry.request, sources.story.requests.len() as u64],
             )
         }
@@ -91,13 +91,13 @@ impl Text {
         let text = self
             .say(label)
             .request(&request.head, request.number)
-            .number("; whole at byte {}", request.last);
+            .number("; whole at byte {whole}", request.last);
         if request.due > request.replied {
-            text.number(", served before byte {}\n", request.due)
+            text.number(", served before byte {before}\n", request.due)
         } else {
             text.number_or(
                 request.replied,
-                ", first reply at byte {}\n",
+                ", first reply at byte {replied}\n",
                 ", no reply\n",
             )
         }
@@ -113,12 +113,12 @@ impl Text {
         let inside = request.inside(size);
         let text = self.part("range: ", range(&request.head));
         if inside.length == request.head.length {
-            text.number(", in the export of {byte}\n", size)
+            text.number(", in the export of {size:byte}\n", size)
         } else if inside.length == 0 {
-            text.number(", beyond the end of the export of {byte}\n", size)
+            text.number(", beyond the end of the export of {size:byte}\n", size)
         } else {
             text.fill(
-                ", in the export of {byte} only {byte} at {}\n",
+                ", in the export of {size:byte} only {inside:byte} at {at}\n",
                 &[size, inside.length, inside.offset],
             )
         }
@@ -141,7 +141,7 @@ impl Text {
             .outside(part, request, sources.story.export.size)
             .fill_if(
                 at < place,
-                "wrong: the part has offset {}, which entry {} serves already\n",
+                "wrong: the part has offset {offset}, which entry {entry} serves already\n",
                 &[offset, (at as u64).saturating_add(1)],
             )
             .entry_at(at, sources)
@@ -154,7 +154,7 @@ impl Text {
         if rest.length == 0 {
             return self;
         }
-        self.number("wrong: the part has offset {}", rest.offset)
+        self.number("wrong: the part has offset {offset}", rest.offset)
             .say_either(
                 is_in_range,
                 ", which lies beyond the end of the export\n",

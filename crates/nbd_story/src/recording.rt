@@ -1,6 +1,7 @@
 //! The bytes of a capture with their senders and their places.
 
-use nbd_wire::Side;
+use crate::stream::Stream;
+use nbd_wire::{Bytes, Side};
 use std::alloc::{AllocError, Global};
 
 /// Bytes of a side that came one after the other.
@@ -42,8 +43,8 @@ impl Stretch {
 /// The bytes of a capture.
 #[derive(Drop)]
 pub struct Recording {
-    client: Vec<u8>,
-    server: Vec<u8>,
+    client: Stream,
+    server: Stream,
     stretches: Vec<Stretch>,
 }
 
@@ -51,8 +52,8 @@ impl Recording {
     /// One without a byte; takes no memory.
     pub fn new(alloc: Global) -> Recording {
         Recording {
-            client: Vec::new(alloc),
-            server: Vec::new(alloc),
+            client: Stream::new(alloc),
+            server: Stream::new(alloc),
             stretches: Vec::new(alloc),
         }
     }
@@ -62,32 +63,46 @@ impl Recording {
         if self.sender(self.len()) != Some(side) {
             self.stretches.push(Stretch {
                 side,
-                client: self.client.len() as u64,
-                server: self.server.len() as u64,
+                client: self.client.len(),
+                server: self.server.len(),
             })?;
         }
         match side {
-            Side::Client => self.client.extend_from_slice(bytes),
-            Side::Server => self.server.extend_from_slice(bytes),
+            Side::Client => self.client.add(bytes),
+            Side::Server => self.server.add(bytes),
+        }
+    }
+
+    /// Takes the next so many bytes of a side for a message, which ends with this payload.
+    pub fn tell(
+        &mut self,
+        side: Side,
+        length: u64,
+        payload: Option<&Bytes>,
+    ) -> Result<(), AllocError> {
+        match side {
+            Side::Client => self.client.tell(length, payload),
+            Side::Server => self.server.tell(length, payload),
         }
     }
 
     /// How many bytes there are, of both sides.
     pub fn len(&self) -> u64 {
-        (self.client.len() as u64).saturating_add(self.server.len() as u64)
+        self.client.len().saturating_add(self.server.len())
     }
 
     // All bytes of a side.
-    fn bytes(&self, side: Side) -> &[u8] {
+    fn stream(&self, side: Side) -> &Stream {
         match side {
-            Side::Client => self.client.as_slice(),
-            Side::Server => self.server.as_slice(),
+            Side::Client => &self.client,
+            Side::Server => &self.server,
         }
     }
 
-    /// The bytes of a side that have so many of this side before them.
+    /// The bytes of a side that have so many of this side before them, as far as they stand together: those of a payload, or those
+    /// behind the messages.
     pub fn bytes_from(&self, side: Side, before: u64) -> &[u8] {
-        self.bytes(side).get(before as usize..).unwrap_or(&[])
+        self.stream(side).bytes_from(before)
     }
 
     /// The first of these, so many of them as there are.
@@ -98,7 +113,7 @@ impl Recording {
 
     /// The byte of a side that has so many of this side before it.
     pub fn byte_of(&self, side: Side, before: u64) -> Option<u8> {
-        self.bytes(side).get(before as usize).copied()
+        self.bytes_from(side, before).first().copied()
     }
 
     // The last stretch before which at most so many bytes of a side stand, or of both.
@@ -145,7 +160,7 @@ impl Recording {
         if stretch.side == side {
             place
                 .saturating_sub(stretch.count_of_other(side))
-                .min(self.bytes(side).len() as u64)
+                .min(self.stream(side).len())
         } else {
             stretch.count(Some(side))
         }

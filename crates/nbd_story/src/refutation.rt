@@ -54,7 +54,10 @@ impl Text {
     // The byte at an offset at first, where that is known.
     fn byte_of_start(self, offset: u64, sources: &Sources<'_>) -> Text {
         match byte_at_first(offset, sources) {
-            Some(byte) => self.fill("start: {:02x} at offset {}\n", &[u64::from(byte), offset]),
+            Some(byte) => self.fill(
+                "start: {value:02x} at offset {offset}\n",
+                &[u64::from(byte), offset],
+            ),
             None => self,
         }
     }
@@ -66,7 +69,7 @@ impl Text {
             let change = sources.story.request(*number);
             text = text.between("change: ", change).byte_or(
                 byte_by(change, offset, sources),
-                "left {:02x}\n",
+                "left {value:02x}\n",
                 "left a byte that is not known\n",
             );
         }
@@ -99,14 +102,14 @@ impl Text {
         if is_status {
             self.say("called it zero")
         } else {
-            self.byte("got {:02x}", byte)
+            self.byte("got {value:02x}", byte)
         }
     }
 
     // A request with its places, and between which bytes of the capture it can have been served.
     fn between(self, label: &str, request: &Request) -> Text {
         self.asked(label, request)
-            .number("; served after byte {}", request.last)
-            .number_or(request.due, " and before byte {}; ", " or never; ")
+            .number("; served after byte {after}", request.last)
+            .number_or(request.due, " and before byte {before}; ", " or never; ")
     }
 }

@@ -93,8 +93,11 @@ impl Text {
             ),
             WireFault::IncompleteStatus => self.missing_statuses(alloc, told, request, story),
             WireFault::BadReplyOffset => self
-                .number("wrong: its header has offset {}, ", told.at.unwrap_or(0))
-                .number("that of its request is {}\n", request.head.offset),
+                .number(
+                    "wrong: its header has offset {came}, ",
+                    told.at.unwrap_or(0),
+                )
+                .number("that of its request is {offset}\n", request.head.offset),
             _ => self,
         }
     }
@@ -109,7 +112,7 @@ impl Text {
         }
         if last.is_there() {
             self.asked("answered before: ", last)
-                .number("; its reply ended at byte {}\n", last.finished)
+                .number("; its reply ended at byte {ended}\n", last.finished)
         } else {
             self
         }
@@ -128,7 +131,7 @@ impl Text {
             }
         }
         text.say_if(count == 0, "outstanding: no request\n")
-            .more(count, LISTED, "outstanding: {} more\n")
+            .more(count, LISTED, "outstanding: {more} more\n")
     }
 
     /// Adds the first bytes that are not known, where there are some, and what of them is said.

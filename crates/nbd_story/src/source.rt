@@ -51,7 +51,7 @@ impl Text {
     fn not_the_start(self, got: &Got, sources: &Sources<'_>) -> Text {
         let byte = byte_at_first(got.offset, sources).unwrap_or(got.byte);
         if byte != got.byte {
-            return self.byte("not the start: it had {:02x}\n", byte);
+            return self.byte("not the start: it had {value:02x}\n", byte);
         }
         self.served_before(
             "not the start: ",
@@ -94,7 +94,7 @@ impl Text {
         text.more(
             count,
             LISTED,
-            "not from: {} more that changed this offset before\n",
+            "not from: {more} more that changed this offset before\n",
         )
     }
 
@@ -104,7 +104,7 @@ impl Text {
         let text = self.asked("not from: ", change);
         let left = byte_by(change, got.offset, sources).unwrap_or(got.byte);
         if left != got.byte {
-            return text.byte("; it left {:02x}\n", left);
+            return text.byte("; it left {value:02x}\n", left);
         }
         let later = change_before(&sources.story.requests, change, got);
         text.say_if(!later.is_there(), "; no reason found\n")

@@ -39,7 +39,7 @@ impl Text {
     // A READ and the byte that it got, behind words.
     fn got_by(self, words: &str, read: usize, deduced: &Deduced) -> Text {
         self.party(words, read, deduced)
-            .byte(" can have its {:02x}", deduced.at(read).byte)
+            .byte(" can have its {value:02x}", deduced.at(read).byte)
     }
 
     // From which sources the byte of a READ can't come, and why: also from those that left another byte, where these are wanted.
@@ -68,7 +68,7 @@ impl Text {
         let request = &deduced.at(read).request;
         match hindrance {
             Hindrance::Nothing => self,
-            Hindrance::Left => self.byte(" ({:02x})", deduced.at(source).byte),
+            Hindrance::Left => self.byte(" ({value:02x})", deduced.at(source).byte),
             Hindrance::Later => self.the(", served after ", request),
             Hindrance::Between(place) if place < deduced.reads => self
                 .party(", which ", place, deduced)
@@ -99,7 +99,7 @@ impl Text {
         for number in 0..MOST_STEPS {
             let known = *deduced;
             let step = deduced.next();
-            text = text.number("step {}: ", number + 1);
+            text = text.number("step {step}: ", number + 1);
             if step.read == START {
                 return text.say("none; the search went through each order of these\n");
             }

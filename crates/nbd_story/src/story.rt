@@ -8,8 +8,8 @@ use crate::told::{Form, Told};
 use nbd_state::{Export, is_proper};
 use nbd_wire::flags::{has, has_wide};
 use nbd_wire::{
-    Info, Message, Part, Profile, RequestHead, Side, Sizing, answers, chunks, commands, handshake,
-    head_lengths, info_of, options, side_of,
+    Bytes, Info, Message, Part, Profile, RequestHead, Side, Sizing, answers, chunks, commands,
+    handshake, head_lengths, info_of, options, side_of,
 };
 use std::alloc::{AllocError, Global};
 use std::collections::BTreeMap;
@@ -45,13 +45,16 @@ pub struct Story {
     pub sizing: Sizing,
     /// Extended headers are in force.
     pub is_extended: bool,
+    /// What is told of it has the names of numbers.
+    pub is_marked: bool,
     /// Memory was refused for something of this.
     is_refused: bool,
 }
 
 impl Story {
-    /// One of a session of this profile, without a byte and without a message; takes no memory.
-    pub fn of(alloc: Global, profile: Profile) -> Story {
+    /// One of a session of this profile, without a byte and without a message; whether what is told of it has the names of numbers. Takes
+    /// no memory.
+    pub fn of(alloc: Global, profile: Profile, is_marked: bool) -> Story {
         Story {
             profile,
             recording: Recording::new(alloc),
@@ -67,18 +70,21 @@ impl Story {
             contexts: Contexts::none(alloc),
             sizing: Sizing::none(),
             is_extended: false,
+            is_marked,
             is_refused: false,
         }
     }
 
-    /// Tells messages, of which the recording has the bytes: all but who sent them is read from there.
+    /// Tells those of these messages, which are all so far, that it was not told of yet. The recording has their bytes: all but who
+    /// sent them is read from there, and it then has their long payloads in common with them.
     pub fn tell(&mut self, messages: &[Message]) -> Result<(), AllocError> {
-        for message in messages {
+        for message in messages.get(self.told.len()..).unwrap_or(&[]) {
             let told = self.begun(side_of(message));
-            if told.is_there() {
-                self.note(&told);
-                self.is_refused |= self.told.push(told).is_err();
-            }
+            self.note(&told);
+            let kept = self
+                .recording
+                .tell(told.side, told.length, payload_in(message));
+            self.is_refused |= kept.is_err() || self.told.push(told).is_err();
         }
         if self.is_refused {
             Err(AllocError)
@@ -278,4 +284,18 @@ fn export_after(known: Export, told: &Told, data: &[u8]) -> Export {
 fn payload_of<'a>(recording: &'a Recording, told: &Told) -> &'a [u8] {
     let head = told.length.saturating_sub(told.payload);
     recording.bytes_at(told.side, told.before.saturating_add(head), told.payload)
+}
+
+// What a message has behind its head, where that is more than its kind says.
+fn payload_in(message: &Message) -> Option<&Bytes> {
+    match message {
+        Message::Choice { payload, .. }
+        | Message::Answer { payload, .. }
+        | Message::Request { payload, .. }
+        | Message::Simple { payload, .. }
+        | Message::Chunk { payload, .. }
+        | Message::ExtendedRequest { payload, .. }
+        | Message::ExtendedChunk { payload, .. } => Some(payload),
+        Message::Greeting { .. } | Message::ClientFlags { .. } | Message::Exported { .. } => None,
+    }
 }

@@ -3,19 +3,31 @@
 use std::alloc::{AllocError, Global};
 use std::fmt::Write;
 
+/// What stands before the name of a number, then where it is told in hexadecimal, behind the name, and behind the number.
+pub const BEGUN: &str = "\x01";
+
+pub const DIGITS: &str = "\x02";
+
+pub const NAMED: &str = "\x03";
+
+pub const ENDED: &str = "\x04";
+
 /// A text that grows by what is said. Once memory was refused it stays as it is, and is not handed out.
 #[derive(Drop)]
 pub struct Text {
     written: String,
     is_refused: bool,
+    /// Each number has its name before it, between signs that no text has.
+    is_marked: bool,
 }
 
 impl Text {
-    /// One without a word; takes no memory.
-    pub fn new(alloc: Global) -> Text {
+    /// One without a word, in which numbers have their names where that is wanted; takes no memory.
+    pub fn new(alloc: Global, is_marked: bool) -> Text {
         Text {
             written: String::new(alloc),
             is_refused: false,
+            is_marked,
         }
     }
 
@@ -66,8 +78,8 @@ impl Text {
         }
     }
 
-    /// Adds words with numbers in the places of their braces: `{}` is a number, `{:#x}` one in hexadecimal, as `0x2a`, `{:02x}` a byte, as
-    /// `0a`, and `{byte}` so many bytes, as `1 byte` or `4 bytes`.
+    /// Adds words with numbers in the places of their braces, in which they have a name: `{at}` is a number, `{at:#x}` one in hexadecimal,
+    /// as `0x2a`, `{at:02x}` a byte, as `0a`, and `{at:byte}` so many bytes, as `1 byte` or `4 bytes`.
     pub fn fill(self, words: &str, numbers: &[u64]) -> Text {
         let mut text = self;
         let mut rest = words;
@@ -131,22 +143,43 @@ impl Text {
     }
 
     // Adds a number as its braces ask, and what there are so many of, if they say that.
-    fn put(mut self, number: u64, form: &str) -> Text {
-        if !self.is_refused {
-            self.is_refused = push_number(&mut self.written, number, form).is_err();
-        }
-        if form.is_empty() || form.starts_with(":") {
-            self
+    fn put(self, number: u64, braces: &str) -> Text {
+        let (name, form) = braces.split_once(":").unwrap_or((braces, ""));
+        let text = self.value(name, number, form);
+        if form.is_empty() || form.starts_with("#") || form.starts_with("0") {
+            text
         } else {
-            self.say(" ").say(form).say_if(number != 1, "s")
+            text.say(" ").say(form).say_if(number != 1, "s")
+        }
+    }
+
+    /// Adds a number of this name in a form: `#x` and `02x` are in hexadecimal.
+    pub fn value(self, name: &str, number: u64, form: &str) -> Text {
+        let is_marked = self.is_marked && !name.is_empty();
+        let mut text = self.marked(is_marked, name, form);
+        if !text.is_refused {
+            text.is_refused = push_number(&mut text.written, number, form).is_err();
+        }
+        text.say_if(is_marked, ENDED)
+    }
+
+    // Adds the name of a number, where it has one.
+    fn marked(self, is_marked: bool, name: &str, form: &str) -> Text {
+        if is_marked {
+            self.say(BEGUN)
+                .say_if(form.ends_with("x"), DIGITS)
+                .say(name)
+                .say(NAMED)
+        } else {
+            self
         }
     }
 }
 
 fn push_number(out: &mut String, number: u64, form: &str) -> Result<(), AllocError> {
     match form {
-        ":#x" => write!(out, "{number:#x}"),
-        ":02x" => write!(out, "{number:02x}"),
+        "#x" => write!(out, "{number:#x}"),
+        "02x" => write!(out, "{number:02x}"),
         _ => write!(out, "{number}"),
     }
 }

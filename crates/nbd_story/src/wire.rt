@@ -104,7 +104,7 @@ impl Text {
         let before = story.count(side);
         let last = before.saturating_add(taken).saturating_sub(1);
         let is_bad = matches!(fault, WireFault::BadMagic);
-        self.number("message: {byte} of the ", taken)
+        self.number("message: {length:byte} of the ", taken)
             .say_either(side == Side::Client, "client, ", "server, ")
             .say_either(
                 is_bad,

@@ -9,21 +9,25 @@ impl Text {
     /// Words and a part of an export: `4 bytes at 8`.
     pub fn part(self, words: &str, part: Part) -> Text {
         self.say(words)
-            .fill("{byte} at {}", &[part.length, part.offset])
+            .fill("{length:byte} at {offset}", &[part.length, part.offset])
     }
 
     /// Words and places of a capture, from the first to the last: `byte 1`, `bytes 1 to 4`.
     pub fn places(self, words: &str, first: u64, last: u64) -> Text {
         self.say(words)
-            .number_if(first == last, "byte {}", first)
-            .fill_if(first != last, "bytes {} to {}", &[first, last])
+            .number_if(first == last, "byte {first}", first)
+            .fill_if(first != last, "bytes {first} to {last}", &[first, last])
     }
 
     /// A number with its name, as `NBD_OPT_GO (7)`; one that its table does not have as `option 77`.
     pub fn name(self, table: &[Name], noun: &str, number: u32) -> Text {
         match name_in(table, number) {
-            Some(name) => self.say(name).number(" ({})", u64::from(number)),
-            None => self.say(noun).number(" {}", u64::from(number)),
+            Some(name) => self
+                .say(name)
+                .say(" (")
+                .value(noun, u64::from(number), "")
+                .say(")"),
+            None => self.say(noun).say(" ").value(noun, u64::from(number), ""),
         }
     }
 
@@ -43,13 +47,13 @@ impl Text {
                 text = text.say(name).say(" ");
             }
         }
-        text.number("({:#x})", u64::from(bits))
+        text.number("({flags:#x})", u64::from(bits))
     }
 
     /// The size and the flags of an export: `8 bytes, HAS_FLAGS (0x1)`.
     pub fn export(self, words: &str, size: u64, flags: u16) -> Text {
         self.say(words)
-            .number("{byte}, ", size)
+            .number("{size:byte}, ", size)
             .flags(flag_names::TRANSMISSION, u32::from(flags))
     }
 }

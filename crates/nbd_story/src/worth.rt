@@ -7,7 +7,7 @@ impl Text {
     /// Adds what an order is worth that was found.
     pub fn found(self, profile: Profile, order: &[Entry]) -> Text {
         self.fill(
-            "entries: {}, of which {} are parts\n\
+            "entries: {entries}, of which {parts} are parts\n\
             shows: some order explains the session, not that the server kept it\n\
             misses: of generated sessions in which one READ returned a stale value another order explained 3, 13 and 33 % \
             at 4, 16 and 64 requests outstanding, on an export of 1 KiB\n\

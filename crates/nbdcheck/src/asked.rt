@@ -48,6 +48,8 @@ pub struct Asked<'a> {
     pub is_arrival: bool,
     /// The messages are wanted in words.
     pub is_named: bool,
+    /// Objects of JSON are wanted.
+    pub is_json: bool,
 }
 
 impl<'a> Asked<'a> {
@@ -70,6 +72,7 @@ impl<'a> Asked<'a> {
             order: words.get_str("ORDER"),
             is_arrival: words.get_flag("arrival"),
             is_named: words.get_flag("names"),
+            is_json: words.get_flag("json"),
         })
     }
 }

@@ -6,7 +6,7 @@ ghost use Rattle.nbd_explain.specs.Answering as answering;
 ghost use Rattle.nbd_explain.specs.Ordering as ordering;
 
 use crate::asked::{Asked, BadWord};
-use crate::files::{Output, explain_files, order_files, write_of};
+use crate::files::{Output, check_inputs, explain_files, order_files, write_of};
 use crate::hints::{tell_of_capture, tell_of_fault};
 use crate::linting::{Linting, lint_files};
 use crate::words::command;
@@ -14,7 +14,6 @@ use clap::error::ErrorKind;
 use clap::{ArgMatches, Error};
 use nbd_explain::{Answer, Ordered, explain_status, order_status};
 use nbd_files::{Files, RunFault, complain, exit_status, tell};
-use nbd_tool::check_files;
 use std::{env, io};
 
 /// The exit status of help and of the version.
@@ -133,8 +132,7 @@ fn reported(files: &Files<'_>, answer: &Result<bool, RunFault>, asked: &Asked<'_
 
 /// `nbdcheck check CAPTURE ORDER --start START`.
 fn check(files: &mut Files<'_>, asked: &Asked<'_>) -> u8 {
-    let order = asked.order.unwrap_or("");
-    let answer = check_files(files, asked.profile, asked.input, order, asked.start);
+    let answer = check_inputs(files, asked);
     checked(files, &answer, asked)
 }
 
@@ -184,7 +182,12 @@ fn ordered(files: &Files<'_>, answer: &Result<Ordered, RunFault>, asked: &Asked<
 
 /// `nbdcheck order CAPTURE --arrival`.
 fn arrival(files: &mut Files<'_>, asked: &Asked<'_>) -> u8 {
-    let answer = write_of(files, asked.input, Output::Numbers(asked.profile));
+    let answer = write_of(
+        files,
+        asked.input,
+        Output::Numbers(asked.profile),
+        asked.is_json,
+    );
     if let Ok(false) = answer {
         tell(files.rt, "no order: the session was refused");
     }
@@ -198,7 +201,7 @@ fn show(files: &mut Files<'_>, asked: &Asked<'_>) -> u8 {
     } else {
         Output::Lines(asked.profile)
     };
-    let answer = write_of(files, asked.input, output);
+    let answer = write_of(files, asked.input, output, asked.is_json);
     reported(files, &answer, asked)
 }
 
@@ -214,7 +217,7 @@ fn lint(files: &mut Files<'_>, asked: &Asked<'_>, linting: &Linting) -> u8 {
 
 /// `nbdcheck make SCRIPT`.
 fn make(files: &mut Files<'_>, asked: &Asked<'_>) -> u8 {
-    let answer = write_of(files, asked.input, Output::Capture);
+    let answer = write_of(files, asked.input, Output::Capture, false);
     made(files, &answer, asked)
 }
 

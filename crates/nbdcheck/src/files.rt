@@ -1,19 +1,55 @@
 //! What is written of the files of a run.
 
 use crate::asked::Asked;
+use nbd_capture::write_whole;
 use nbd_explain::{
-    Answer, Ordered, run_arrival_of, run_explain_of, run_names_of, run_order_of, run_show_of,
+    Answer, Ordered, objects_of, run_arrival_of, run_explain_of, run_names_as_objects,
+    run_names_of, run_order_of, run_show_as_objects, run_show_of,
 };
 use nbd_files::{
     Files, FinalWriter, Opener, RunFault, StartFrom, open_inputs, open_start, terminal,
 };
 use nbd_lines::run_make;
 use nbd_search::Progress;
+use nbd_tool::check_files;
 use nbd_wire::Profile;
 use std::alloc::Global;
 use std::fs::File;
 use std::io;
 use std::io::{BufReader, BufWriter, Write};
+
+/// Opens the files in the order capture, order, image, and then checks the session.
+pub fn check_inputs(files: &mut Files<'_>, asked: &Asked<'_>) -> Result<bool, RunFault> {
+    let rt = files.rt;
+    if asked.is_json {
+        let mut text = Vec::new(rt.alloc());
+        let is_yes = check_into(files, asked, &mut text)?;
+        write_objects(rt, &text)?;
+        Ok(is_yes)
+    } else {
+        check_into(files, asked, &mut io::writer(rt))
+    }
+}
+
+fn check_into<W: Write>(
+    files: &mut Files<'_>,
+    asked: &Asked<'_>,
+    out: &mut W,
+) -> Result<bool, RunFault> {
+    let order = asked.order.unwrap_or("");
+    check_files(files, asked.profile, asked.input, order, asked.start, out)
+}
+
+// Writes a text as objects on standard output.
+fn write_objects(rt: &HostRuntime, text: &[u8]) -> Result<(), RunFault> {
+    put_objects(rt.alloc(), text, &mut io::writer(rt))
+}
+
+// Writes a text as objects.
+fn put_objects<W: Write>(alloc: Global, text: &[u8], out: &mut W) -> Result<(), RunFault> {
+    let text = str::from_utf8(text).unwrap_or("");
+    Ok(write_whole(out, &objects_of(alloc, text)?)?)
+}
 
 /// Opens the files in the order capture, order, image, where there are such, and then explains.
 pub fn explain_files(files: &mut Files<'_>, asked: &Asked<'_>) -> Result<Answer, RunFault> {
@@ -49,23 +85,58 @@ fn explain_over(
     order: Option<File>,
     start: StartFrom<File>,
 ) -> Result<Answer, RunFault> {
+    if asked.is_json {
+        let mut text = Vec::new(rt.alloc());
+        let answer = explain_into(rt, asked, capture, order, start, &mut text)?;
+        write_objects(rt, &text)?;
+        Ok(answer)
+    } else {
+        explain_into(rt, asked, capture, order, start, &mut io::writer(rt))
+    }
+}
+
+fn explain_into<W: Write>(
+    rt: &HostRuntime,
+    asked: &Asked<'_>,
+    capture: File,
+    order: Option<File>,
+    start: StartFrom<File>,
+    out: &mut W,
+) -> Result<Answer, RunFault> {
     let Ok(capture) = BufReader::new(rt.alloc(), capture) else {
         return Err(RunFault::Memory);
     };
     run_explain_of(
         rt.alloc(),
         asked.profile,
+        asked.is_json,
         capture,
         order,
         start,
         asked.scope.limits,
-        &mut io::writer(rt),
+        out,
         &mut Progress::new(terminal(rt)),
     )
 }
 
 /// Opens the capture and then the image, if there is one, and looks for an order.
 pub fn order_files(files: &mut Files<'_>, asked: &Asked<'_>) -> Result<Ordered, RunFault> {
+    let rt = files.rt;
+    if asked.is_json {
+        let mut text = Vec::new(rt.alloc());
+        let answer = order_into(files, asked, &mut text)?;
+        write_objects(rt, &text)?;
+        Ok(answer)
+    } else {
+        order_into(files, asked, &mut io::writer(rt))
+    }
+}
+
+fn order_into<W: Write>(
+    files: &mut Files<'_>,
+    asked: &Asked<'_>,
+    out: &mut W,
+) -> Result<Ordered, RunFault> {
     let (rt, alloc) = (files.rt, files.rt.alloc());
     let capture = files.open_buffered(asked.input, RunFault::CaptureRead)?;
     let start = open_start(files, asked.start)?;
@@ -75,7 +146,7 @@ pub fn order_files(files: &mut Files<'_>, asked: &Asked<'_>) -> Result<Ordered, 
         capture,
         start,
         asked.scope,
-        &mut io::writer(rt),
+        out,
         &mut Progress::new(terminal(rt)),
     )
 }
@@ -93,14 +164,19 @@ pub enum Output {
     Capture,
 }
 
-/// Opens a file and writes this of it; false where its session was refused.
-pub fn write_of(files: &mut Files<'_>, path: &str, output: Output) -> Result<bool, RunFault> {
+/// Opens a file and writes this of it, or objects of JSON; false where its session was refused.
+pub fn write_of(
+    files: &mut Files<'_>,
+    path: &str,
+    output: Output,
+    is_json: bool,
+) -> Result<bool, RunFault> {
     let fault = match output {
         Output::Capture => RunFault::ScriptRead,
         _ => RunFault::CaptureRead,
     };
     let input = files.open_buffered(path, fault)?;
-    write_buffered(files.rt, input, output)
+    write_buffered(files.rt, input, output, is_json)
 }
 
 // Writes this of an input, and all that is buffered of it.
@@ -108,12 +184,17 @@ fn write_buffered(
     rt: &HostRuntime,
     input: BufReader<File>,
     output: Output,
+    is_json: bool,
 ) -> Result<bool, RunFault> {
     let out = FinalWriter::new(io::writer(rt));
     let Ok(mut out) = BufWriter::new(rt.alloc(), out) else {
         return Err(RunFault::Memory);
     };
-    let is_accepted = write_to(rt.alloc(), input, output, &mut out)?;
+    let is_accepted = if is_json {
+        write_as_objects(rt.alloc(), input, output, &mut out)?
+    } else {
+        write_to(rt.alloc(), input, output, &mut out)?
+    };
     match out.flush() {
         Ok(()) => Ok(is_accepted),
         Err(_) => Err(RunFault::Write),
@@ -131,5 +212,23 @@ fn write_to<W: Write>(
         Output::Lines(profile) => run_show_of(alloc, profile, input, out),
         Output::Names(profile) => run_names_of(alloc, profile, input, out),
         Output::Capture => run_make(alloc, input, out).map(|()| true),
+    }
+}
+
+fn write_as_objects<W: Write>(
+    alloc: Global,
+    input: BufReader<File>,
+    output: Output,
+    out: &mut W,
+) -> Result<bool, RunFault> {
+    match output {
+        Output::Lines(profile) => run_show_as_objects(alloc, profile, input, out),
+        Output::Names(profile) => run_names_as_objects(alloc, profile, input, out),
+        _ => {
+            let mut text = Vec::new(alloc);
+            let is_accepted = write_to(alloc, input, output, &mut text)?;
+            put_objects(alloc, &text, out)?;
+            Ok(is_accepted)
+        }
     }
 }

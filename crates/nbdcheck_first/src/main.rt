@@ -50,7 +50,8 @@ fn run_words(rt: &HostRuntime, words: &[String]) -> u8 {
 
 fn check(rt: &HostRuntime, capture: &str, order: &str, start: StartWord<'_>) -> u8 {
     let mut files = Files::new(rt, false);
-    let answer = check_files(&mut files, Profile::Base, capture, order, start);
+    let out = &mut io::writer(rt);
+    let answer = check_files(&mut files, Profile::Base, capture, order, start, out);
     checked(&files, &answer)
 }
 

@@ -1,0 +1,8 @@
+use Rattle.std.proofs.Common.{◌≡◌, ℕ, ◌+◌, ◌-◌, ◌*◌, ◌<◌, ◌≤◌, length}
+use denote.Text.{Utf8}
+use denote.Shadow.{shadow}
+use Rattle.nbd_explain.proofs.objects.tell_members.Given as goal
+
+-- says that each `&str` the loop changes is text: keep it, and add clauses with ×
+abbrev pub invariant-loop-part : goal.invariant-loop-part
+invariant-loop-part l = shadow (Utf8 l.rest)
