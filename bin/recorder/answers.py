@@ -91,11 +91,20 @@ class Nbdcheck:
                   f"{self.program} was ended by signal {-returned}")
         return FILES
 
+    def _answer(self, returned, text):
+        """What a run said; lines that are no objects are no answer."""
+        status = self._status(returned)
+        try:
+            return answer_of(status, text)
+        except ValueError:
+            self.tell(f"{self.program}: its lines are no JSON")
+            return answer_of(FILES, b"")
+
     def explain(self, capture, order=None):
         """Whether an order explains the session: this one, or some."""
         words = ["explain", capture, *([] if order is None else [order]), *self.start, *self.profile, "--json"]
         status, out, _ = ran([self.program, *words], stdout=subprocess.PIPE)
-        return answer_of(self._status(status), out)
+        return self._answer(status, out)
 
     def explain_arrival(self, capture, order):
         """The same of the order in which the requests came, which is written to the path `order`."""
@@ -109,7 +118,7 @@ class Nbdcheck:
             return self.explain(capture, order)
         if status == FILES:
             self.tell(f"no order in {order}")
-        return answer_of(self._status(status), b"")
+        return self._answer(status, b"")
 
     def protocol(self, capture):
         """The last line of `show`: whether both sides kept the protocol."""
@@ -118,7 +127,7 @@ class Nbdcheck:
             last = b""
             while part := shown.stdout.read1(2**16):
                 last = (last + part)[-LAST:]
-        return answer_of(self._status(shown.returncode), last.rstrip(b"\n").rpartition(b"\n")[2])
+        return self._answer(shown.returncode, last.rstrip(b"\n").rpartition(b"\n")[2])
 
     def lint(self, capture, allowed):
         """The status of `lint`, and its objects, an object a line; these rules are left out."""

@@ -236,7 +236,8 @@ echo "$*" >>"$NOTES"
 for word; do
     case $word in *.1.cap) status=$FIRST ;; *.2.cap) status=$SECOND ;; esac
 done
-echo "line $status"
+[ -n "$PLAIN" ] || echo "{\\"format\\":1,\\"line\\":\\"line $status\\",\\"verdict\\":\\"no\\",\\"judged\\":true}"
+[ -z "$PLAIN" ] || echo "$PLAIN"
 exit $status
 """
 
@@ -248,9 +249,9 @@ def statuses(tally, folder):
     program.chmod(0o755)
     both = ["sh", "-c", '"$@"; "$@"', "sh", *player(folder, GOOD)]
 
-    def ask(count, first, second=0, *asked, version="0"):
+    def ask(count, first, second=0, *asked, version="0", plain=""):
         notes.write_text("")
-        env = {"FIRST": str(first), "SECOND": str(second), "NOTES": str(notes), "VERSION": version}
+        env = {"FIRST": str(first), "SECOND": str(second), "NOTES": str(notes), "VERSION": version, "PLAIN": plain}
         with Server(GOOD, count=count) as server:
             client = both if count == 2 else player(folder, GOOD)
             return ended("--to", server.address, *asked, "--keep", f"{folder}/k", "--", *client, nbdcheck=program, env_more=env)
@@ -268,9 +269,9 @@ def statuses(tally, folder):
         lines += f"connections 2: compared 0, not compared {known}, empty 0, not judged 0{unknown}\n"
         tally.want(f"statuses {first} and {second}", ask(2, first, second), (wanted, lines, kept_lines(capture, other)))
     for asked, wanted in (
-        (["--start", "zero"], [f"explain {capture} --start zero --profile wide --hints"]),
-        ([], [f"explain {capture} --start unknown --profile wide --hints"]),
-        (["--order", notes, "--profile", "base"], [f"explain {capture} {notes} --start unknown --profile base --hints"]),
+        (["--start", "zero"], [f"explain {capture} --start zero --profile wide --hints --json"]),
+        ([], [f"explain {capture} --start unknown --profile wide --hints --json"]),
+        (["--order", notes, "--profile", "base"], [f"explain {capture} {notes} --start unknown --profile base --hints --json"]),
     ):
         ask(1, 0, 0, *asked)
         tally.want(f"its words, {asked}", notes.read_text().splitlines(), ["--version", *wanted])
@@ -278,6 +279,8 @@ def statuses(tally, folder):
     found = notes.read_text().splitlines()
     tally.want("its words, --arrival", (found[1], found[2].startswith(f"explain {capture} /")),
                (f"order {capture} --arrival --profile base --hints", True))
+    tally.want("lines that are no objects", ask(1, 0, plain="yes requests 1"),
+               (3, f"no answer: status 3\n{NO_ANSWER}", f"nbdcheck-record: {program}: its lines are no JSON\n{kept_lines(capture)}"))
     tally.want("nbdcheck fails at once", ask(1, 0, version="3"),
                (3, "", f"nbdcheck-record: cannot run {program}: it ended with status 3\n"))
     client = ["touch", f"{folder}/came", "{uri}"]

@@ -117,7 +117,8 @@ def strict(tally, folder):
     tally.want("strict: a capture without --keep", captures, {"session.1.cap"})
     # The program calls a message that breaks off a no; one that calls it a yes is refused too.
     program = Path(folder, "yes")
-    program.write_text(f"#!/bin/sh\necho {YES}\n")
+    told = {"format": 1, "line": YES, "verdict": "yes", "requests": 2, "answered": 2, "improper": 0, "judged": True}
+    program.write_text(f"#!/bin/sh\necho '{json.dumps(told)}'\n")
     program.chmod(0o755)
     status, lines = lines_of(client_of(folder, GOOD + [(CLIENT, bytes.fromhex("25609513"))], "--strict", nbdcheck=program))
     tally.want("strict, in a message", (status, lines[1]), (7, "strict: the client left in the middle of the head of a request"))
@@ -237,7 +238,9 @@ def as_junit(tally, folder):
     tally.want("JUnit without a connection", (status, suite(out)[1]),
                (3, [("recording", ("error", "no connection came: nothing was recorded"))]))
     program = Path(folder, "odd")
-    program.write_text("#!/bin/sh\n[ $1 = --version ] || { printf 'no <\\001&\\n]]> \\377\\n'; exit 1; }\n")
+    told = [{"format": 1, "line": "no <\x01&", "verdict": "no", "judged": True}, {"fact": "odd", "line": "]]> \udcff"}]
+    lines = "\n".join(map(json.dumps, told))
+    program.write_text(f"#!/bin/sh\n[ $1 = --version ] && exit\ncat <<'END'\n{lines}\nEND\nexit 1\n")
     program.chmod(0o755)
     out = client_of(folder, GOOD, "--format", "junit", nbdcheck=program)[1]
     tally.want("JUnit of odd bytes", suite(out)[1], [("connection 1", ("failure", "no <?&"))])
