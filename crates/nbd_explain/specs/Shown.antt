@@ -37,7 +37,7 @@ pub data IsShown (profile : Profile) (capture : List Pair) : Bool → List Messa
       → IsOfNoRunOf profile capture
       → IsShown profile capture false messages (line (Wire (length prefix) fault))
 
--- what a capture's session of the profile came to is answered
+-- the answer to a capture: true where a run of the profile has exactly its bytes, false where no run of it has them
 pub record IsAnswered (profile : Profile) (known : Option (List ℕ)) (yes : Bool) : Type 0 where
   pub chunks : List Chunk
   pub is_text : IfSome known (λ text. IsCaptureText text chunks)
