@@ -7,7 +7,15 @@ pub use Rattle.hex.specs.declared.error.FromHexError.{FromHexError}
 pub use Rattle.nbd_capture.specs.Capture.{AreDigits, Chunk, IsCaptureLine, IsCaptureText, IsDigit, IsFirstBadCaptureLine, chunk_line, hash, letter, space}
 pub use Rattle.nbd_capture.specs.Capture.AreDigits.{byte, none}
 pub use Rattle.nbd_capture.specs.Capture.IsCaptureLine.{blank, chunk, comment}
-pub use Rattle.nbd_capture.specs.Faults.{IsCaptureFault, IsOrderTextFault}
+pub use Rattle.nbd_capture.specs.Contents.{AreContentsLines, IsContentsLine, IsContentsText, IsFirstBadContentsLine, IsValue, Piece, Told, are_zeroes, before_pieces, join, joined, piece_line, piece_lines, printed, shown, size_line, told, value_text, word}
+unfoldable pub use Rattle.nbd_capture.specs.Contents.{cut}
+pub use Rattle.nbd_export.specs.Held.{AreHeld, Held, held}
+unfoldable pub use Rattle.nbd_export.specs.Held.{held_from}
+pub use Rattle.nbd_capture.specs.Contents.AreContentsLines.{line as next-line, none as no-line}
+pub use Rattle.nbd_capture.specs.Contents.IsContentsLine.{blank as blank-line, comment as comment-line, piece as piece-line, size as size-line}
+pub use Rattle.nbd_capture.specs.Contents.Piece.{known, unknown, zeroes}
+pub use Rattle.nbd_capture.specs.Contents.Told.{nothing, part}
+pub use Rattle.nbd_capture.specs.Faults.{IsCaptureFault, IsContentsFault, IsOrderTextFault}
 pub use Rattle.nbd_capture.specs.Lines.{IsFirstBadLine, IsText, IsUnbroken, line_feed}
 pub use Rattle.nbd_capture.specs.Lines.IsFirstBadLine.{formless, later, unended}
 pub use Rattle.nbd_capture.specs.Lines.IsText.{empty, line}
@@ -26,6 +34,7 @@ pub use Rattle.nbd_capture.specs.declared.source.Piece.TheVariants.{Last}
 pub use Rattle.nbd_capture.specs.internal.Kept.{IsAdded, IsKept, IsOf, Kept, Spell, kept}
 pub use Rattle.nbd_capture.specs.internal.Pieces.{IsLine, IsPiece, reading}
 pub use Rattle.nbd_capture.specs.internal.Steps.{IsChunkFault}
+pub use Rattle.nbd_capture.specs.internal.Telling.{IsLaid, Seen, up_to, word_text}
 pub use Rattle.nbd_capture.specs.internal.Words.{IsWord}
 pub use Rattle.nbd_wire.specs.declared.entry.Entry.{Entry}
 pub use Rattle.nbd_wire.specs.declared.entry.Part.{Part}
@@ -33,7 +42,7 @@ pub use Rattle.nbd_wire.specs.declared.message.Side.{Side}
 pub use Rattle.nbd_wire.specs.declared.message.Side.TheVariants.{Client, Server}
 pub use Rattle.nbd_wire.specs.protocol.Entries.{whole}
 pub use Rattle.std.proofs.BufReadLemmas.{Consumes_shown}
-pub use Rattle.std.proofs.Common.{Bool, Err, IfErr, IfOk, IfSome, IsTrue, List, MatchBool, None, Ok, Result, Some, [], ap, append-nil, append_assoc, arith, drop, eq-eqb, false, get_or, inl, inr, is_ok, length, length-take-le, nat_eq, nat_lt, refl, rules, slice_get, slice_index, subst, suc, sym, take, take-take, true, true≢false, vec_capacity, zero, ℕ, ◌%◌, ◌&&◌, ◌*◌, ◌++◌, ◌+◌, ◌-◌, ◌/◌, ◌<◌, ◌==◌, ◌^◌, ◌∙◌, ◌∷◌, ◌≡◌, ◌≢◌, ◌≤◌, ◌⊎◌}
+pub use Rattle.std.proofs.Common.{Bool, Err, IfErr, IfOk, IfSome, IsTrue, List, MatchBool, MatchOption, None, Option, codes, Ok, Result, Some, [], ap, append-nil, append_assoc, arith, drop, eq-eqb, false, get_or, inl, inr, is_ok, length, length-take-le, nat_eq, nat_lt, not, refl, rules, slice_get, slice_index, subst, suc, sym, take, take-take, true, true≢false, vec_capacity, zero, ℕ, ◌%◌, ◌&&◌, ◌*◌, ◌++◌, ◌+◌, ◌-◌, ◌/◌, ◌<◌, ◌==◌, ◌^◌, ◌∙◌, ◌∷◌, ◌≡◌, ◌≢◌, ◌≤◌, ◌⊎◌}
 pub use Rattle.std.proofs.KnownBytes.{Appends-nil, Appends-trans, Consumes-kept, Consumes-nil, Consumes-trans, Keeps-refl}
 pub use Rattle.std.proofs.Math.Seq.{take-append-add, take-append_seam}
 pub use Rattle.std.proofs.lemmas.Bool.{and_parts, cases_eq, cases_lt, eqb-true, ne_eqb}

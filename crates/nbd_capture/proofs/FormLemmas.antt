@@ -49,7 +49,7 @@ letters Server Client e = absurd (omega arith)
 pub same_parts : (s t : Side) (a b : List ℕ) → letter s ∷ space ∷ a ≡ letter t ∷ space ∷ b → (s ≡ t) × (a ≡ b)
 same_parts s t a b e = let first : letter s ≡ letter t = cc in (letters s t first, cc)
 
-same_bytes : (digits other a b : List ℕ) → digits ≡ other → AreDigits digits a → AreDigits other b → a ≡ b
+pub same_bytes : (digits other a b : List ℕ) → digits ≡ other → AreDigits digits a → AreDigits other b → a ≡ b
 same_bytes digits other a b e da db =
     let first = decodes digits a da in
     let second = decodes other b db in

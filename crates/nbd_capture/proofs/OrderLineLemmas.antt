@@ -7,7 +7,7 @@ digits_word [] all = tt
 digits_word (d ∷ ds) all = let digit = digit_from_value d all.0 in (omega (arith, digit), digits_word ds all.1)
 
 -- the first space ends the first word
-first_words : (a b x y : List ℕ) → IsWord a → IsWord b → a ++ space ∷ x ≡ b ++ space ∷ y → (a ≡ b) × (x ≡ y)
+pub first_words : (a b x y : List ℕ) → IsWord a → IsWord b → a ++ space ∷ x ≡ b ++ space ∷ y → (a ≡ b) × (x ≡ y)
 first_words [] [] x y ua ub e = (refl, cc)
 first_words [] (b ∷ bs) x y ua ub e = absurd (ub.0 (cc))
 first_words (a ∷ prefix) [] x y ua ub e = absurd (ua.0 (cc))
@@ -19,7 +19,7 @@ first_words (a ∷ prefix) (b ∷ bs) x y ua ub e =
     (cc, parts.1)
 
 -- a word has no space
-one_word : (a b x : List ℕ) → IsWord b → b ≡ a ++ space ∷ x → ⊥
+pub one_word : (a b x : List ℕ) → IsWord b → b ≡ a ++ space ∷ x → ⊥
 one_word [] [] x u e = cc
 one_word [] (b ∷ bs) x u e = u.0 cc
 one_word (a ∷ prefix) [] x u e = cc

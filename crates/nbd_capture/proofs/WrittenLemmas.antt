@@ -4,7 +4,7 @@ use Rattle.std.proofs.Common.{Option}
 use Rattle.nbd_capture.proofs.DigitLemmas.{lower_below, spelled}
 
 -- no digit is a line feed
-unbroken_digits : (bytes : List ℕ) → IsBytes bytes → IsUnbroken (encode_lower bytes)
+pub unbroken_digits : (bytes : List ℕ) → IsBytes bytes → IsUnbroken (encode_lower bytes)
 unfolding encode_with
 unbroken_digits [] fits = tt
 unbroken_digits (b ∷ bs) fits =
@@ -50,17 +50,17 @@ unbroken_numeral [] all = tt
 unbroken_numeral (d ∷ ds) all = let digit = digit_from_value d all.0 in (omega (arith, digit), unbroken_numeral ds all.1)
 
 -- a printed number is read as the number
-printed_number : (n : ℕ) → n < 2 ^ 64 → IsNumber (decimal n) n
+pub printed_number : (n : ℕ) → n < 2 ^ 64 → IsNumber (decimal n) n
 printed_number n fits =
     let numeral = decimal_is_IsNumeral n fits in
     (numeral.0, begins n fits, rw numeral.1 fits, sym numeral.1)
 
 -- one byte more, no line feed
-unbroken_append : (xs ys : List ℕ) → IsUnbroken xs → IsUnbroken ys → IsUnbroken (xs ++ ys)
+pub unbroken_append : (xs ys : List ℕ) → IsUnbroken xs → IsUnbroken ys → IsUnbroken (xs ++ ys)
 unbroken_append [] ys u v = v
 unbroken_append (x ∷ xs) ys u v = (u.0, unbroken_append xs ys u.1 v)
 
-unbroken_number : (n : ℕ) → n < 2 ^ 64 → IsUnbroken (decimal n)
+pub unbroken_number : (n : ℕ) → n < 2 ^ 64 → IsUnbroken (decimal n)
 unbroken_number n fits = unbroken_numeral (decimal n) (printed_number n fits).0.1
 
 unbroken_part : (p : Option Part) → PartFits p → IsUnbroken (part_text p)

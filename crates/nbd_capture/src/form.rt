@@ -148,7 +148,7 @@ fn spell_pairs(side: Side, digits: &[u8], bytes: &mut Vec<u8>) -> Result<Form, A
 }
 
 // Adds the bytes that an even number of digits spells, and answers whether they do.
-fn append_spelled(digits: &[u8], bytes: &mut Vec<u8>) -> Result<bool, AllocError>
+pub(crate) fn append_spelled(digits: &[u8], bytes: &mut Vec<u8>) -> Result<bool, AllocError>
     requires { length digits.now % 2 ≡ 0 }
     ensures spelled { IfOk result (λ spelled. MatchBool spelled
         ((more : List ℕ) × (bytes.new.items ≡ bytes.old.items ++ more) × AreDigits digits.now more)

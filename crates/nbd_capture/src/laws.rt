@@ -1,9 +1,14 @@
-//! What holds of the grammars of both texts, as contracts of functions that do nothing.
+//! What holds of the grammars of the texts, as contracts of functions that do nothing.
 
-ghost use Rattle.std.specs.Prelude.{IfSome, length, ◌≤◌, ◌≡◌, ◌⊎◌, ◌∷◌, ◌++◌, [], ℕ, List, flat_map};
+ghost use Rattle.std.specs.Prelude.{IfSome, length, ◌<◌, ◌≤◌, ◌^◌, ◌↔◌, ◌≡◌, ◌⊎◌, ◌∷◌, ◌++◌, [], ℕ, List, flat_map};
 ghost use Rattle.std.specs.List.{AllByRecursion};
 ghost use Rattle.hex.specs.Hex.{IsBytes};
 ghost use Rattle.nbd_wire.specs.declared.entry.Entry.{Entry};
+ghost use Rattle.nbd_export.specs.Extents.{byte_of, size_of};
+ghost use Rattle.nbd_export.specs.Ranges.{AreSameBelow};
+ghost use Rattle.nbd_export.specs.declared.extents.Extents.{Extents};
+ghost use Rattle.nbd_export.specs.Held.{AreHeld, Held, held};
+ghost use Rattle.nbd_capture.specs.Contents.{IsContentsText, IsFirstBadContentsLine, printed};
 ghost use Rattle.nbd_capture.specs.Lines.{line_feed};
 ghost use Rattle.nbd_capture.specs.Capture.{Chunk, chunk_line, IsCaptureText, IsFirstBadCaptureLine};
 ghost use Rattle.nbd_capture.specs.Reading.{Reading, Reads, ReadsToEnd, Refuses};
@@ -87,4 +92,37 @@ pub fn capture_or_bad_line()
 pub fn order_or_bad_line()
     ensures { (text : List ℕ) → ((entries : List Entry) × IsOrderText text entries)
         ⊎ ((n : ℕ) × IsFirstBadOrderLine text n) }
+{}
+
+/// A text has one reading as contents at most.
+pub fn one_contents_reading()
+    ensures { (text : List ℕ) (a b : Held) → IsContentsText text a → IsContentsText text b → a ≡ b }
+{}
+
+/// A text with a bad contents line has no reading as contents.
+pub fn no_contents_with_a_bad_line()
+    ensures { (text : List ℕ) (n : ℕ) (bytes : Held) → IsFirstBadContentsLine text n →
+        IsContentsText text bytes → ⊥ }
+{}
+
+/// A text has one first bad contents line at most.
+pub fn one_first_bad_contents_line()
+    ensures { (text : List ℕ) (m n : ℕ) → IsFirstBadContentsLine text m → IsFirstBadContentsLine text n → m ≡ n }
+{}
+
+/// What is printed of contents of a size below 2^63 is read as the same contents.
+pub fn printed_contents_are_read()
+    ensures { (bytes : Held) → length bytes < 2 ^ 63 → AreHeld bytes → IsContentsText (printed bytes) bytes }
+{}
+
+/// Two texts of one contents are printed alike, and texts of different contents are not.
+pub fn texts_of_one_contents_print_alike()
+    ensures { (s t : List ℕ) (a b : Held) → AreHeld a → AreHeld b → IsContentsText s a → IsContentsText t b
+        → (printed a ≡ printed b) ↔ (a ≡ b) }
+{}
+
+/// Where two contents have the same size and the same bytes, what they print is the same, whatever their ranges.
+pub fn same_contents_print_alike()
+    ensures { (e f : Extents) → size_of e ≡ size_of f → AreSameBelow (size_of e) (byte_of e) (byte_of f)
+        → printed (held e) ≡ printed (held f) }
 {}

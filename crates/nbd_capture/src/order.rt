@@ -114,7 +114,7 @@ fn part_on(text: &[u8]) -> Option<Part>
 }
 
 // The bytes before the first space, and those after it. `None` where there is no space.
-fn split_word(line: &[u8]) -> Option<(&[u8], &[u8])>
+pub(crate) fn split_word(line: &[u8]) -> Option<(&[u8], &[u8])>
     ensures { MatchOption result (IsWord line.now)
         (λ parts. IsWord parts.0.now × (line.now ≡ parts.0.now ++ space ∷ parts.1.now)) }
 {
@@ -123,7 +123,7 @@ fn split_word(line: &[u8]) -> Option<(&[u8], &[u8])>
 }
 
 // The number that these digits stand for.
-fn number_on(digits: &[u8]) -> Option<u64>
+pub(crate) fn number_on(digits: &[u8]) -> Option<u64>
     ensures { MatchOption result ((n : ℕ) → IsNumber digits.now n → ⊥) (IsNumber digits.now) }
 {
     if !is_plain(digits) {

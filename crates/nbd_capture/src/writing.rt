@@ -46,7 +46,7 @@ fn letter_of(side: Side) -> u8
 }
 
 // The digits of the bytes, a piece at a time.
-fn write_digits<W: Write>(out: &mut W, bytes: &[u8]) -> Result<(), WriteFault>
+pub(crate) fn write_digits<W: Write>(out: &mut W, bytes: &[u8]) -> Result<(), WriteFault>
     ensures ok { OnOk result
         (Appends (W.contents out.old) (W.contents out.new) (encode_lower bytes.now)) }
     ensures err { OnErr result

@@ -23,9 +23,9 @@ pub use Rattle.nbd_explain.specs.internal.Fates.AreLines.{named, none}
 pub use Rattle.nbd_explain.specs.internal.Lines.{Begins, HasVerdictLine, IsFinishOf, IsLineOf, IsToldBySearch, IsToldOfFound, IsToldOn, OnWritten}
 pub use Rattle.nbd_explain.specs.internal.Outcomes.{IsToldFrom, IsToldOf}
 pub use Rattle.nbd_explain.specs.internal.Outcomes.IsToldOf.{of_refusal, of_report}
-pub use Rattle.nbd_files.specs.Starts.{HasImage, initial_from}
+pub use Rattle.nbd_files.specs.Starts.{IsStartCause}
 pub use Rattle.nbd_files.specs.declared.fault.RunFault.{RunFault}
-pub use Rattle.nbd_files.specs.declared.fault.RunFault.TheVariants.{CaptureLine, CaptureRead, ImageRead, Memory, OrderLine, OrderRead, ScriptLine, ScriptRead, Write}
+pub use Rattle.nbd_files.specs.declared.fault.RunFault.TheVariants.{AgainstRead, CaptureLine, CaptureRead, ContentsLine, ContentsRead, ImageRead, Memory, OrderLine, OrderRead, ScriptLine, ScriptRead, Write}
 pub use Rattle.nbd_files.specs.declared.start.StartFrom.{StartFrom}
 pub use Rattle.nbd_judge.proofs.contents.StartLemmas.{no_export}
 pub use Rattle.nbd_judge.proofs.verdicts.ChunkLemmas.{checked}

@@ -1,5 +1,5 @@
 -- The verdict that is explained, what faults say, and the lines of an order of arrival.
-use Rattle.nbd_explain.proofs.Common.{◌≡◌, ℕ, List, ◌++◌, true, false, refl, sym, subst, Option, None, Some, Result, Ok, Err, IfOk, IfErr, IfSome, OnOk, inl, inr, length, suc, ◌⊎◌, ◌+◌, arith, codes, decimal, Appends, Keeps, Entry, WireFault, Profile, Start, Report, IsOrderText, SessionFault, Wire, EndsIn, IsReported, SessionView, fault_at_end, fault_of, no_run_of, IsFaultOf, HasReport, RunFault, CaptureLine, CaptureRead, ImageRead, Memory, OrderLine, OrderRead, ScriptLine, ScriptRead, Write, IsOverText, StartFrom, Beginning, IsBeginningOf, room_in, IsCapture, IsCause, IsOrder, flat_of, HasImage, IsOrderingCause, LeavesOrdered, verdict_on, checked_over, fault_over, report_over, Arrives, number_lines, Answer, Explains, IsFinishOf, IsToldOn, OnWritten}
+use Rattle.nbd_explain.proofs.Common.{◌≡◌, ℕ, List, ◌++◌, true, false, refl, sym, subst, Option, None, Some, Result, Ok, Err, IfOk, IfErr, IfSome, OnOk, inl, inr, length, suc, ◌⊎◌, ◌+◌, arith, codes, decimal, Appends, Keeps, Entry, WireFault, Profile, Start, Report, IsOrderText, SessionFault, Wire, EndsIn, IsReported, SessionView, fault_at_end, fault_of, no_run_of, IsFaultOf, HasReport, RunFault, AgainstRead, CaptureLine, CaptureRead, ContentsLine, ContentsRead, ImageRead, Memory, OrderLine, OrderRead, ScriptLine, ScriptRead, Write, IsOverText, StartFrom, Beginning, IsBeginningOf, room_in, IsCapture, IsCause, IsOrder, flat_of, IsStartCause, IsOrderingCause, LeavesOrdered, verdict_on, checked_over, fault_over, report_over, Arrives, number_lines, Answer, Explains, IsFinishOf, IsToldOn, OnWritten}
 use Rattle.nbd_explain.specs.Arrival.HasArrival.{accepted, refused}
 
 -- what holds of a value holds of another claim that follows
@@ -37,16 +37,22 @@ pub is_order : (order : Option (List ℕ)) (entries : List Entry) → IfSome ord
 is_order None entries text = tt
 is_order (Some bytes) entries text = (entries, text)
 
--- what a fault says that came of reading the image, behind an order
-pub cause_on : {I : Type 0} (order : Option (List ℕ)) (start : StartFrom I) (fault : RunFault) → IsOrder order → (fault ≡ ImageRead) × HasImage start ⊎ (fault ≡ Memory) →
-    (known : Option (List ℕ)) → IsCapture known → IsCause known order start fault
-cause_on order start fault is_order (inl read) = λ known capture. subst (IsCause known order start) (sym read.0) (capture, is_order, read.1)
-cause_on order start fault is_order (inr memory) = λ known capture. subst (IsCause known order start) (sym memory) tt
+-- what a fault says that came of reading the start, behind an order
+pub cause_on : {I : Type 0} (remaining : I → Option (List ℕ)) (order : Option (List ℕ)) (start : StartFrom I) (fault : RunFault) → IsOrder order → IsStartCause remaining start fault →
+    (known : Option (List ℕ)) → IsCapture known → IsCause remaining known order start fault
+cause_on remaining order start ImageRead is_order cause = λ known capture. (capture, is_order, cause)
+cause_on remaining order start ContentsRead is_order cause = λ known capture. (capture, is_order, cause)
+cause_on remaining order start (ContentsLine n) is_order cause = λ known capture. (capture, is_order, cause)
+cause_on remaining order start Memory is_order cause = λ known capture. tt
+cause_on remaining order start fault is_order cause = absurd cause
 
 -- and without an order
-pub cause_of : {I : Type 0} (start : StartFrom I) (fault : RunFault) → (fault ≡ ImageRead) × HasImage start ⊎ (fault ≡ Memory) → (known : Option (List ℕ)) → IsCapture known → IsOrderingCause known start fault
-cause_of start fault (inl read) = λ known capture. subst (IsOrderingCause known start) (sym read.0) (capture, read.1)
-cause_of start fault (inr memory) = λ known capture. subst (IsOrderingCause known start) (sym memory) tt
+pub cause_of : {I : Type 0} (remaining : I → Option (List ℕ)) (start : StartFrom I) (fault : RunFault) → IsStartCause remaining start fault → (known : Option (List ℕ)) → IsCapture known → IsOrderingCause remaining known start fault
+cause_of remaining start ImageRead cause = λ known capture. (capture, cause)
+cause_of remaining start ContentsRead cause = λ known capture. (capture, cause)
+cause_of remaining start (ContentsLine n) cause = λ known capture. (capture, cause)
+cause_of remaining start Memory cause = λ known capture. tt
+cause_of remaining start fault cause = absurd cause
 
 -- where nothing was written
 keeps_same : (old : Option (List ℕ)) → Keeps old old
@@ -59,6 +65,9 @@ leaves_same old CaptureRead = keeps_same old
 leaves_same old (OrderLine n) = keeps_same old
 leaves_same old OrderRead = keeps_same old
 leaves_same old ImageRead = keeps_same old
+leaves_same old (ContentsLine n) = keeps_same old
+leaves_same old ContentsRead = keeps_same old
+leaves_same old AgainstRead = keeps_same old
 leaves_same old (ScriptLine n) = keeps_same old
 leaves_same old ScriptRead = keeps_same old
 leaves_same old Write = tt

@@ -114,21 +114,16 @@ told_from known start beginning wanted r _ _ _ old new session same reported end
 told_from known start beginning wanted r _ _ _ old new session same reported ends begun (of_refusal at fault) appended =
     refuses known start wanted r at fault (Err (Wire at fault)) old new session refl same ends appended
 
-orders_told : {profile : Profile} (known : Option (List ℕ)) (start : Option Start) (wanted : Wanted) (r : SessionView) (finished : Result Report SessionFault) (answer : Ordered) (text : List ℕ)
-    (old new : Option (List ℕ)) →
-    IsOverText profile known r → fault_of finished ≡ fault_at_end r → IfOk finished (IsReported r) → IfErr finished (EndsIn r) →
-    IsToldFrom profile start wanted finished answer text → Appends old new text → Orders profile known start wanted answer old new
-orders_told known start wanted r finished answer text old new session same reported ends told appended =
-    told_from known start told.0 wanted r finished answer text old new session same reported ends told.1 told.2 appended
-
 -- and was written
-pub orders_written : {profile : Profile} (known : Option (List ℕ)) (start : Option Start) (wanted : Wanted) (r : SessionView) (finished : Result Report SessionFault) (answer : Ordered) (text : List ℕ)
+pub orders_written : {profile : Profile} {IsStart : Option Start → Type 0} (known : Option (List ℕ)) (wanted : Wanted) (r : SessionView) (finished : Result Report SessionFault) (answer : Ordered) (text : List ℕ)
     (old new : Option (List ℕ)) (o : Result Ordered RunFault) →
     IsOverText profile known r → fault_of finished ≡ fault_at_end r → IfOk finished (IsReported r) → IfErr finished (EndsIn r) →
-    IsToldFrom profile start wanted finished answer text → IfOk o (λ ordered. (ordered ≡ answer) × Appends old new text) → IfOk o (λ ordered. Orders profile known start wanted ordered old new)
-orders_written {profile} known start wanted r finished answer text old new (Ok said) session same reported ends told written =
-    subst (λ ordered. Orders profile known start wanted ordered old new) (sym written.0) (orders_told known start wanted r finished answer text old new session same reported ends told written.1)
-orders_written known start wanted r finished answer text old new (Err fault) session same reported ends told written = tt
+    IsToldFrom profile IsStart wanted finished answer text → IfOk o (λ ordered. (ordered ≡ answer) × Appends old new text) →
+    IfOk o (λ ordered. (start : Option Start) → IsStart start → Orders profile known start wanted ordered old new)
+orders_written {profile} known wanted r finished answer text old new (Ok said) session same reported ends told written = λ start is.
+    subst (λ ordered. Orders profile known start wanted ordered old new) (sym written.0)
+    (told_from known start told.0 wanted r finished answer text old new session same reported ends (told.1 start is) told.2 written.1)
+orders_written known wanted r finished answer text old new (Err fault) session same reported ends told written = tt
 
 -- the line of one request, and that of another count of them
 pub one_line : (told : Report) (reads : List ℕ) (offset : ℕ) → length reads ≡ 1 → words (wrong_verdict told (slice_index reads 0) offset) ++ codes " in any order\n" ≡ unexplained_line told reads offset

@@ -30,13 +30,13 @@ use Rattle.nbd_order.specs.declared.finding.Found.TheVariants as found
 use Rattle.nbd_order.specs.declared.finding.Wanted.{Wanted}
 use Rattle.nbd_order.specs.declared.finding.Wanted.TheVariants.{Whole}
 use Rattle.nbd_files.specs.declared.fault.RunFault.{RunFault}
-use Rattle.nbd_files.specs.declared.fault.RunFault.TheVariants.{ImageRead, Write}
+use Rattle.nbd_files.specs.declared.fault.RunFault.TheVariants.{CaptureLine, CaptureRead, Memory, Write}
 use Rattle.nbd_explain.specs.declared.ordering.Ordered.{Ordered}
 use Rattle.nbd_explain.specs.declared.ordering.Ordered.TheVariants.{Found as IsFound, Open, Refuted}
 use Rattle.nbd_files.specs.declared.start.StartFrom.{StartFrom}
 use Rattle.nbd_files.specs.RunFaults.{status}
 use Rattle.nbd_tool.specs.Runs.{IsCapture, IsCaptureCause, flat_of}
-use Rattle.nbd_files.specs.Starts.{HasImage}
+use Rattle.nbd_files.specs.Starts.{IsStartCause}
 use Rattle.nbd_tool.specs.Verdicts.{line, words}
 
 -- the lines of an order, an entry on each
@@ -139,10 +139,12 @@ pub record Orders (profile : Profile) (known : Option (List ℕ)) (initial : Opt
   pub is_ordered : IsOrderedFrom profile (flat_of chunks) initial wanted old new ordered
 
 -- what a fault says of the capture and of the start
-abbrev pub IsOrderingCause : {I : Type 0} → Option (List ℕ) → StartFrom I → RunFault → Type 0
-IsOrderingCause known start ImageRead = IsCapture known × HasImage start
-IsOrderingCause known start Write = IsCapture known
-IsOrderingCause known start fault = IsCaptureCause known fault
+abbrev pub IsOrderingCause : {I : Type 0} → (I → Option (List ℕ)) → Option (List ℕ) → StartFrom I → RunFault → Type 0
+IsOrderingCause remaining known start (CaptureLine n) = IsCaptureCause known (CaptureLine n)
+IsOrderingCause remaining known start CaptureRead = IsCaptureCause known CaptureRead
+IsOrderingCause remaining known start Memory = IsCaptureCause known Memory
+IsOrderingCause remaining known start Write = IsCapture known
+IsOrderingCause remaining known start fault = IsCapture known × IsStartCause remaining start fault
 
 -- nothing was written before a fault, but where the writer failed
 abbrev pub LeavesOrdered : (old new : Option (List ℕ)) → RunFault → Type 0

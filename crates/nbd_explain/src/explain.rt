@@ -9,7 +9,7 @@ ghost use Rattle.nbd_files.specs.declared.fault.RunFault.TheVariants.{ImageRead,
 ghost use Rattle.nbd_tool.specs.declared.beginning.Beginning.{Beginning};
 ghost use Rattle.nbd_explain.specs.Ordering.{LeavesOrdered};
 ghost use Rattle.nbd_tool.specs.Runs.{IsCapture, IsCaptureCause, IsCause, IsOrder};
-ghost use Rattle.nbd_files.specs.Starts.{HasImage, IsStartWithinLimit, IsWithinLimit, initial_from};
+ghost use Rattle.nbd_files.specs.Starts.{IsStartCause, IsStartWithinLimit, IsWithinLimit, OfStart};
 ghost use Rattle.nbd_explain.specs.Explained.{Explains, IsExplainCause, IsExplained, IsOrderWithinLimit};
 ghost use Rattle.nbd_explain.specs.internal.Lines.{IsFinishOf, IsToldOn, OnWritten};
 
@@ -43,13 +43,13 @@ pub fn run_explain<C: BufRead + Drop, O: Read + Drop, I: Measured + Drop, W: Wri
     out: &mut W,
     progress: &mut Progress,
 ) -> Result<Answer, RunFault>
-    ensures written { IfOk result (λ answer. IsExplained Base O.remaining (C.remaining capture) order
-        (initial_from I.remaining start) answer (W.contents out.old) (W.contents out.new)) }
+    ensures written { IfOk result (λ answer. OfStart I.remaining start (λ initial. IsExplained Base O.remaining
+        (C.remaining capture) order initial answer (W.contents out.old) (W.contents out.new))) }
     ensures well_formed { OnOk result (IsCapture (C.remaining capture)) }
     ensures limited { OnOk result (IsWithinLimit (C.remaining capture)) }
     ensures order_limited { OnOk result (IsOrderWithinLimit O.remaining order) }
     ensures start_limited { OnOk result (IsStartWithinLimit I.remaining start) }
-    ensures cause { IfErr result (IsExplainCause O.remaining (C.remaining capture) order start) }
+    ensures cause { IfErr result (IsExplainCause O.remaining I.remaining (C.remaining capture) order start) }
     ensures left { IfErr result (LeavesOrdered (W.contents out.old) (W.contents out.new)) }
 {
     run_explain_of(
@@ -84,13 +84,13 @@ pub fn run_explain_of<C: BufRead + Drop, O: Read + Drop, I: Measured + Drop, W: 
     out: &mut W,
     progress: &mut Progress,
 ) -> Result<Answer, RunFault>
-    ensures written { IfOk result (λ answer. IsExplained profile O.remaining (C.remaining capture) order
-        (initial_from I.remaining start) answer (W.contents out.old) (W.contents out.new)) }
+    ensures written { IfOk result (λ answer. OfStart I.remaining start (λ initial. IsExplained profile O.remaining
+        (C.remaining capture) order initial answer (W.contents out.old) (W.contents out.new))) }
     ensures well_formed { OnOk result (IsCapture (C.remaining capture)) }
     ensures limited { OnOk result (IsWithinLimit (C.remaining capture)) }
     ensures order_limited { OnOk result (IsOrderWithinLimit O.remaining order) }
     ensures start_limited { OnOk result (IsStartWithinLimit I.remaining start) }
-    ensures cause { IfErr result (IsExplainCause O.remaining (C.remaining capture) order start) }
+    ensures cause { IfErr result (IsExplainCause O.remaining I.remaining (C.remaining capture) order start) }
     ensures left { IfErr result (LeavesOrdered (W.contents out.old) (W.contents out.new)) }
 {
     let told = told_over(
@@ -121,14 +121,14 @@ fn told_over<C: BufRead + Drop, O: Read + Drop, I: Measured + Drop>(
     limits: Limits,
     progress: &mut Progress,
 ) -> Result<(String, Answer), RunFault>
-    ensures told { IfOk result (λ told. OnWritten told.0.bytes.items (IsExplained profile O.remaining (C.remaining capture)
-        order (initial_from I.remaining start) told.1)) }
+    ensures told { IfOk result (λ told. OfStart I.remaining start (λ initial. OnWritten told.0.bytes.items
+        (IsExplained profile O.remaining (C.remaining capture) order initial told.1))) }
     ensures well_formed { OnOk result (IsCapture (C.remaining capture)) }
     ensures limited { OnOk result (IsWithinLimit (C.remaining capture)) }
     ensures order_limited { OnOk result (IsOrderWithinLimit O.remaining order) }
     ensures start_limited { OnOk result (IsStartWithinLimit I.remaining start) }
-    ensures read { OnOk result (IsExplainCause O.remaining (C.remaining capture) order start Write) }
-    ensures cause { IfErr result (IsExplainCause O.remaining (C.remaining capture) order start) }
+    ensures read { OnOk result (IsExplainCause O.remaining I.remaining (C.remaining capture) order start Write) }
+    ensures cause { IfErr result (IsExplainCause O.remaining I.remaining (C.remaining capture) order start) }
 {
     let mut recorder = Recorder::of(alloc, profile, is_marked);
     let finished = finished_over(alloc, profile, capture, &mut recorder);
@@ -156,15 +156,15 @@ fn told_after<O: Read + Drop, I: Measured + Drop>(
     progress: &mut Progress,
 ) -> Result<(String, Answer), RunFault>
     ensures told { IfOk result (λ told. (known : Option (List ℕ)) → IfOk finished (IsFinishOf profile known) →
-        OnWritten told.0.bytes.items
-        (IsExplained profile O.remaining known order (initial_from I.remaining start) told.1)) }
+        OfStart I.remaining start (λ initial. OnWritten told.0.bytes.items
+        (IsExplained profile O.remaining known order initial told.1))) }
     ensures order_limited { OnOk result (IsOrderWithinLimit O.remaining order) }
     ensures start_limited { OnOk result (IsStartWithinLimit I.remaining start) }
     ensures finished { OnOk result (IsOk finished) }
     ensures read { OnOk result ((known : Option (List ℕ)) → IsCapture known →
-        IsExplainCause O.remaining known order start Write) }
+        IsExplainCause O.remaining I.remaining known order start Write) }
     ensures cause { IfErr result (λ fault. (profile : Profile) (known : Option (List ℕ)) →
-        IfOk finished (IsFinishOf profile known) → IfErr finished (IsCaptureCause known) → IsExplainCause O.remaining known order start fault) }
+        IfOk finished (IsFinishOf profile known) → IfErr finished (IsCaptureCause known) → IsExplainCause O.remaining I.remaining known order start fault) }
 {
     told_of(
         alloc, profile, finished?, story, order, start, limits, progress,
@@ -183,14 +183,14 @@ fn told_of<O: Read + Drop, I: Measured + Drop>(
     progress: &mut Progress,
 ) -> Result<(String, Answer), RunFault>
     ensures told { IfOk result (λ told. (known : Option (List ℕ)) → IsFinishOf profile known finished →
-        OnWritten told.0.bytes.items
-        (IsExplained profile O.remaining known order (initial_from I.remaining start) told.1)) }
+        OfStart I.remaining start (λ initial. OnWritten told.0.bytes.items
+        (IsExplained profile O.remaining known order initial told.1))) }
     ensures order_limited { OnOk result (IsOrderWithinLimit O.remaining order) }
     ensures start_limited { OnOk result (IsStartWithinLimit I.remaining start) }
     ensures read { OnOk result ((known : Option (List ℕ)) → IsCapture known →
-        IsExplainCause O.remaining known order start Write) }
+        IsExplainCause O.remaining I.remaining known order start Write) }
     ensures cause { IfErr result (λ fault. (known : Option (List ℕ)) → IsCapture known →
-        IsExplainCause O.remaining known order start fault) }
+        IsExplainCause O.remaining I.remaining known order start fault) }
 {
     match order {
         Some(order) => told_with(alloc, profile, finished, story, order, start),
@@ -208,12 +208,13 @@ fn told_with<O: Read + Drop, I: Measured + Drop>(
     start: StartFrom<I>,
 ) -> Result<(String, Answer), RunFault>
     ensures told { IfOk result (λ told. (known : Option (List ℕ)) → IsFinishOf profile known finished →
-        OnWritten told.0.bytes.items (Explains profile known (O.remaining order) (initial_from I.remaining start) told.1)) }
+        OfStart I.remaining start (λ initial. OnWritten told.0.bytes.items
+        (Explains profile known (O.remaining order) initial told.1))) }
     ensures limited { OnOk result (IsWithinLimit (O.remaining order)) }
     ensures start_limited { OnOk result (IsStartWithinLimit I.remaining start) }
     ensures read { OnOk result (IsOrder (O.remaining order)) }
     ensures cause { IfErr result (λ fault. (known : Option (List ℕ)) → IsCapture known →
-        IsCause known (O.remaining order) start fault) }
+        IsCause I.remaining known (O.remaining order) start fault) }
 {
     let order = read_order(alloc, &mut order)?;
     told_on(alloc, profile, finished, story, &order, start)
@@ -229,10 +230,10 @@ fn told_on<I: Measured + Drop>(
     start: StartFrom<I>,
 ) -> Result<(String, Answer), RunFault>
     ensures told { IfOk result (λ told. (beginning : Beginning)
-        × IsBeginningOf (initial_from I.remaining start) (room_in finished) beginning
+        × OfStart I.remaining start (λ initial. IsBeginningOf initial (room_in finished) beginning)
         × IsToldOn profile finished entries.now beginning told.1 told.0.bytes.items) }
     ensures start_limited { OnOk result (IsStartWithinLimit I.remaining start) }
-    ensures cause { IfErr result (λ fault. (fault ≡ ImageRead) × HasImage start ⊎ (fault ≡ Memory)) }
+    ensures cause { IfErr result (IsStartCause I.remaining start) }
 {
     let start = read_start(alloc, start, room_of(&finished))?;
     Ok(told_from(alloc, profile, finished, story, entries, start)?)

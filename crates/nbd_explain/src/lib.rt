@@ -1,10 +1,11 @@
 //! What is said of a session: its messages as lines and in words, why it was refused, what it breaks of proto.md beside that, an order
-//! that explains it, and that of arrival.
+//! that explains it, that of arrival, and what it leaves on the export.
 #![tactic(auto)]
 
 pub mod answer;
 mod arrival;
 mod as_objects;
+mod contents;
 mod explain;
 mod fates;
 mod found;
@@ -20,6 +21,7 @@ mod writing;
 
 pub use answer::{Answer, explain_status};
 pub use arrival::{run_arrival, run_arrival_of};
+pub use contents::run_contents;
 pub use as_objects::{run_names_as_objects, run_show_as_objects};
 pub use explain::{run_explain, run_explain_of};
 pub use linting::{run_lint, write_rules};

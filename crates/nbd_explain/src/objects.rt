@@ -78,6 +78,26 @@ const FORMS: &[Form] = &[
         line: "no order explains requests {wrong} at offset {offset}",
     },
     Form {
+        verdict: "agrees",
+        kind: "",
+        line: "agrees known {known} unknown {unknown}",
+    },
+    Form {
+        verdict: "no",
+        kind: "against",
+        line: "no against offset {offset}",
+    },
+    Form {
+        verdict: "no",
+        kind: "against",
+        line: "no against {image} size {size}",
+    },
+    Form {
+        verdict: "no",
+        kind: "export",
+        line: "no export",
+    },
+    Form {
         verdict: "open",
         kind: "whole",
         line: "no order of whole requests found",
@@ -89,7 +109,26 @@ const FORMS: &[Form] = &[
     },
 ];
 
-/// The objects of what `check`, `explain` and `order` print.
+// The lines of a contents text, but for one with bytes.
+const HELD: &[Form] = &[
+    Form {
+        verdict: "",
+        kind: "size",
+        line: "size {size}",
+    },
+    Form {
+        verdict: "",
+        kind: "zero",
+        line: "zero {offset} {length}",
+    },
+    Form {
+        verdict: "",
+        kind: "unknown",
+        line: "unknown {offset} {length}",
+    },
+];
+
+/// The objects of what `check`, `explain`, `order` and `contents` print.
 pub fn objects_of(alloc: Global, text: &str) -> Result<Vec<u8>, AllocError> {
     let mut objects = Vec::new(alloc);
     let mut is_first = true;
@@ -146,9 +185,9 @@ fn side_of(line: &str) -> Option<(&'static str, &str)> {
     }
 }
 
-// A verdict, an entry of an order, or a fact.
+// A verdict, an entry of an order, a line of a contents text, or a fact.
 fn tell_line(alloc: Global, line: &str, object: &mut Object) {
-    if !tell_verdict(line, object) && !tell_entry(line, object) {
+    if !tell_verdict(line, object) && !tell_entry(line, object) && !tell_held(line, object) {
         tell_fact(alloc, line, object);
     }
 }
@@ -285,6 +324,26 @@ fn tell_entry(line: &str, object: &mut Object) -> bool {
             tell_members(line, form, object);
         }
         is_part
+    }
+}
+
+// What the export holds, if the line is one of a contents text: its size, or what is known of the bytes from an offset on.
+fn tell_held(line: &str, object: &mut Object) -> bool {
+    for form in HELD {
+        if has_form(line, form.line) {
+            object.text("holds", form.kind);
+            tell_members(line, form.line, object);
+            return true;
+        }
+    }
+    match line.strip_prefix("data ").unwrap_or("").split_once(" ") {
+        Some((offset, bytes)) if offset.parse::<u64>().is_ok() => {
+            object.text("holds", "data");
+            tell_value("offset", offset, object);
+            object.text("bytes", bytes);
+            true
+        }
+        _ => false,
     }
 }
 

@@ -17,7 +17,7 @@ ghost use Rattle.nbd_order.specs.declared.finding.Wanted.{Wanted};
 ghost use Rattle.nbd_tool.specs.Beginnings.{IsReadAs};
 ghost use Rattle.nbd_tool.specs.declared.beginning.Beginning.{Beginning};
 ghost use Rattle.nbd_explain.specs.Ordering.{IsOrderingCause, LeavesOrdered, Orders, entry_lines, found_text, gave_up_line, ordered_of, reason_words, spaced_numbers, status_of, unexplained_line};
-ghost use Rattle.nbd_files.specs.Starts.{HasImage, IsStartWithinLimit, IsWithinLimit, initial_from};
+ghost use Rattle.nbd_files.specs.Starts.{IsInitial, IsStartCause, IsStartWithinLimit, IsWithinLimit, OfStart};
 ghost use Rattle.nbd_files.specs.declared.fault.RunFault.TheVariants as faults;
 ghost use Rattle.nbd_explain.specs.internal.Outcomes.{IsToldFrom, IsToldOf};
 
@@ -68,11 +68,11 @@ pub fn run_order<C: BufRead + Drop, I: Measured + Drop, W: Write>(
     out: &mut W,
     progress: &mut Progress,
 ) -> Result<Ordered, RunFault>
-    ensures written { IfOk result (λ ordered. Orders Base (C.remaining capture) (initial_from I.remaining start) scope.wanted
-        ordered (W.contents out.old) (W.contents out.new)) }
+    ensures written { IfOk result (λ ordered. OfStart I.remaining start (λ initial. Orders Base (C.remaining capture) initial
+        scope.wanted ordered (W.contents out.old) (W.contents out.new))) }
     ensures limited { OnOk result (IsWithinLimit (C.remaining capture)) }
     ensures start_limited { OnOk result (IsStartWithinLimit I.remaining start) }
-    ensures cause { IfErr result (IsOrderingCause (C.remaining capture) start) }
+    ensures cause { IfErr result (IsOrderingCause I.remaining (C.remaining capture) start) }
     ensures left { IfErr result (LeavesOrdered (W.contents out.old) (W.contents out.new)) }
 {
     run_order_of(alloc, Profile::Base, capture, start, scope, out, progress)
@@ -92,11 +92,11 @@ pub fn run_order_of<C: BufRead + Drop, I: Measured + Drop, W: Write>(
     out: &mut W,
     progress: &mut Progress,
 ) -> Result<Ordered, RunFault>
-    ensures written { IfOk result (λ ordered. Orders profile (C.remaining capture) (initial_from I.remaining start) scope.wanted
-        ordered (W.contents out.old) (W.contents out.new)) }
+    ensures written { IfOk result (λ ordered. OfStart I.remaining start (λ initial. Orders profile (C.remaining capture) initial
+        scope.wanted ordered (W.contents out.old) (W.contents out.new))) }
     ensures limited { OnOk result (IsWithinLimit (C.remaining capture)) }
     ensures start_limited { OnOk result (IsStartWithinLimit I.remaining start) }
-    ensures cause { IfErr result (IsOrderingCause (C.remaining capture) start) }
+    ensures cause { IfErr result (IsOrderingCause I.remaining (C.remaining capture) start) }
     ensures left { IfErr result (LeavesOrdered (W.contents out.old) (W.contents out.new)) }
 {
     let session = session_over(alloc, profile, capture, &mut Unseen)?;
@@ -124,10 +124,10 @@ fn told_over<I: Measured + Drop>(
     scope: Scope,
     progress: &mut Progress,
 ) -> Result<(String, Ordered), RunFault>
-    ensures told { IfOk result (λ told. IsToldFrom profile (initial_from I.remaining start) scope.wanted finished
-        told.1 told.0.bytes.items) }
+    ensures told { IfOk result (λ told. IsToldFrom profile (IsInitial I.remaining start) scope.wanted finished told.1
+        told.0.bytes.items) }
     ensures limited { OnOk result (IsStartWithinLimit I.remaining start) }
-    ensures cause { IfErr result (λ fault. (fault ≡ faults.ImageRead) × HasImage start ⊎ (fault ≡ faults.Memory)) }
+    ensures cause { IfErr result (IsStartCause I.remaining start) }
 {
     let start = read_start(alloc, start, room_of(&finished))?;
     Ok(told_of(alloc, profile, finished, start, scope, progress)?)

@@ -5,7 +5,7 @@ ghost use Rattle.nbd_files.specs.declared.fault.RunFault.TheVariants.{ImageRead,
 ghost use Rattle.nbd_tool.specs.declared.beginning.Beginning.{Beginning};
 ghost use Rattle.nbd_wire.specs.declared.profile.Profile.{Profile};
 ghost use Rattle.nbd_tool.specs.Beginnings.{IsBeginningOf, room_in};
-ghost use Rattle.nbd_files.specs.Starts.{HasImage, IsStartWithinLimit, initial_from};
+ghost use Rattle.nbd_files.specs.Starts.{IsStartCause, IsStartWithinLimit, OfStart};
 ghost use Rattle.nbd_explain.specs.Answering.{answer_to};
 ghost use Rattle.nbd_explain.specs.internal.Lines.{Begins, BeginsWithLineOf, IsLineOf, IsToldBySearch, IsToldOfFound};
 
@@ -35,10 +35,10 @@ pub fn told_searching<I: Measured + Drop>(
     progress: &mut Progress,
 ) -> Result<(String, Answer), RunFault>
     ensures told { IfOk result (λ told. (beginning : Beginning)
-        × IsBeginningOf (initial_from I.remaining start) (room_in finished) beginning
+        × OfStart I.remaining start (λ initial. IsBeginningOf initial (room_in finished) beginning)
         × IsToldBySearch profile beginning finished told.1 told.0.bytes.items) }
     ensures start_limited { OnOk result (IsStartWithinLimit I.remaining start) }
-    ensures cause { IfErr result (λ fault. (fault ≡ ImageRead) × HasImage start ⊎ (fault ≡ Memory)) }
+    ensures cause { IfErr result (IsStartCause I.remaining start) }
 {
     let start = read_start(alloc, start, room_of(&finished))?;
     Ok(told_by_search(alloc, profile, finished, story, start, limits, progress)?)

@@ -37,6 +37,9 @@ pub fn copy_of(beginning: &Beginning) -> Result<Beginning, AllocError>
         Beginning::Whole(Start::Unknown) => Ok(Beginning::Whole(Start::Unknown)),
         Beginning::Whole(Start::Zeroes) => Ok(Beginning::Whole(Start::Zeroes)),
         Beginning::Whole(Start::Image(image)) => Ok(Beginning::Whole(Start::Image(image.clone()?))),
+        Beginning::Whole(Start::Contents(contents)) => {
+            Ok(Beginning::Whole(Start::Contents(contents.clone()?)))
+        }
         Beginning::Longer(image) => Ok(Beginning::Longer(*image)),
     }
 }

@@ -4,7 +4,7 @@ pub use Rattle.nbd_export.specs.Kinds.{IsApartAt, first_of_two, kind_from}
 unfoldable pub use Rattle.nbd_export.specs.Kinds.{kind_at, kind_before, ranges_met}
 pub use Rattle.nbd_export.specs.Pages.{byte_from, page_from}
 unfoldable pub use Rattle.nbd_export.specs.Pages.{stored_byte}
-pub use Rattle.nbd_export.specs.RangeKinds.{byte_by_kind, kind_of}
+pub use Rattle.nbd_export.specs.RangeKinds.{IsOfKind, byte_by_kind, kind_of}
 pub use Rattle.nbd_export.specs.Ranges.{AreSameBelow, DiffersIn, IsLeast, bytes_from, overlay, unknown, zeroes}
 pub use Rattle.nbd_export.specs.Starts.{FitsSize, start_byte}
 pub use Rattle.nbd_export.specs.contracts.kind.Kind.{the_type}

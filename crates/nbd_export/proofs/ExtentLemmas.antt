@@ -1,5 +1,5 @@
 -- What is known of a byte, by the kind of its range and the byte in its page, and ranges that were seen to be zeroes.
-use Rattle.nbd_export.proofs.Common.{◌≡◌, ℕ, zero, suc, List, ◌+◌, ◌-◌, ◌<◌, ◌≤◌, ◌⊎◌, inl, inr, length, slice_index, refl, sym, ◌∙◌, ap, Option, Some, Result, Ok, Err, OnErr, OnOk, arith, ⊎_elim, if◌then◌else◌, nat_le, nat_lt, and_from, and_left, and_right, cases_lt, le-leb, lt-leb, le-ltb, lt-ltb, slice_get-get_or, Extents, Kind, Zeroes, Kinds, Pages, byte_of, byte_by_kind, kind_of, stored_byte, AreSameBelow, DiffersIn, bytes_from, overlay, zeroes, HasZeroesAlone}
+use Rattle.nbd_export.proofs.Common.{◌≡◌, ℕ, zero, suc, List, ◌+◌, ◌-◌, ◌<◌, ◌≤◌, ◌⊎◌, inl, inr, length, slice_index, refl, sym, ◌∙◌, ap, Option, Some, None, IsSome, Result, Ok, Err, OnErr, OnOk, arith, ⊎_elim, if◌then◌else◌, nat_le, nat_lt, and_from, and_left, and_right, cases_lt, le-leb, lt-leb, le-ltb, lt-ltb, slice_get-get_or, Extents, Kind, Unknown, Zeroes, Bytes, Kinds, Pages, byte_of, byte_by_kind, first_of_two, kind_at, kind_before, kind_from, kind_of, IsOfKind, stored_byte, AreSameBelow, DiffersIn, bytes_from, overlay, zeroes, HasZeroesAlone}
 
 -- a byte in a range of this kind
 pub byte_of-kind : (e : Extents) (x : ℕ) (kind : Kind) → kind_of e.kinds x ≡ Some kind → byte_of e x ≡ byte_by_kind (Some kind) (stored_byte e.pages x)
@@ -12,10 +12,10 @@ unfolding byte_of
 byte_of-same p q x k s = ap (λ o. byte_by_kind o (stored_byte q.pages x)) k ∙ ap (byte_by_kind (kind_of p.kinds x)) s
 
 -- inside a range the new bytes, before it and after it the old ones
-changed_inside : (offset len x : ℕ) (new old : ℕ → Option ℕ) → offset ≤ x → x < offset + len → overlay offset len new old x ≡ new x
+pub changed_inside : (offset len x : ℕ) (new old : ℕ → Option ℕ) → offset ≤ x → x < offset + len → overlay offset len new old x ≡ new x
 changed_inside offset len x new old lo hi = ap (λ b. if b then new x else old x) (and_from (nat_le offset x) (nat_lt x (offset + len)) (le-leb offset x lo) (lt-ltb x (offset + len) hi))
 
-changed_before : (offset len x : ℕ) (new old : ℕ → Option ℕ) → x < offset → overlay offset len new old x ≡ old x
+pub changed_before : (offset len x : ℕ) (new old : ℕ → Option ℕ) → x < offset → overlay offset len new old x ≡ old x
 changed_before offset len x new old l = ap (λ b. if b then new x else old x) (and_left (nat_le offset x) (nat_lt x (offset + len)) (lt-leb offset x l))
 
 changed_behind : (offset len x : ℕ) (new old : ℕ → Option ℕ) → offset + len ≤ x → overlay offset len new old x ≡ old x
@@ -94,3 +94,40 @@ zeroes_noted r e new offset len before behind refused none x b l seen known = �
     (λ (m : (offset ≤ x) × (x < offset + len)). no_other b (λ other. none x (m.0, m.1, (b, known, other))))
     (λ (m : kind_of new x ≡ kind_of e.seen x). e.zeroes x b l (sym m ∙ seen) known)
     (noted_or_not r e.seen new offset (offset + len) e.seen.size x before behind refused (let s = e.sizes in omega (arith, s)))
+
+-- a byte in a range of this kind is of it
+pub is_of_kind : (e : Extents) (x : ℕ) (kind : Kind) → kind_of e.kinds x ≡ Some kind → IsOfKind kind (byte_of e x)
+unfolding byte_of
+is_of_kind e x Unknown is = byte_of-kind e x Unknown is
+is_of_kind e x Zeroes is = byte_of-kind e x Zeroes is
+is_of_kind e x Bytes is = rw is refl
+
+-- the range behind another one is of another kind
+pub other_kind : (kinds : Kinds) (first end : ℕ) (kind : Kind) → first < end → IsSome (kind_from kinds.starts end)
+    → ((x : ℕ) → first ≤ x → x < end → kind_of kinds x ≡ Some kind) → kind_of kinds end ≡ Some kind → ⊥
+unfolding kind_at kind_before
+other_kind kinds first zero kind lt begun inside same = absurd (omega arith)
+other_kind kinds first (suc end) kind lt begun inside same = go (kind_from kinds.starts (suc end)) refl begun
+  where
+    go : (o : Option Kind) → kind_from kinds.starts (suc end) ≡ o → IsSome o → ⊥
+    go None e some = cc some
+    go (Some k) e some =
+        let here : kind_of kinds (suc end) ≡ Some k = ap (λ o. first_of_two o (kind_at (kind_from kinds.starts) end)) e in
+        let own : Some k ≡ Some kind = sym here ∙ same in
+        kinds.apart (suc end) kind (e ∙ own) (inside end (omega arith) (omega arith))
+
+-- the known bytes that were read, and the next ones behind them
+pub known_more : (f : ℕ → Option ℕ) (offset done : ℕ) (old new more : List ℕ)
+    → ((i : ℕ) → i < done → f (offset + i) ≡ Some (slice_index old i))
+    → ((i : ℕ) → i < done → slice_index new i ≡ slice_index old i)
+    → ((i : ℕ) → i < length more → slice_index new (done + i) ≡ slice_index more i)
+    → ((i : ℕ) → i < length more → f (offset + done + i) ≡ Some (slice_index more i))
+    → (i : ℕ) → i < done + length more → f (offset + i) ≡ Some (slice_index new i)
+known_more f offset done old new more known before inside next i l = ⊎_elim
+    (λ (m : i < done). known i m ∙ ap Some (sym (before i m)))
+    (λ (m : done ≤ i).
+    let is : offset + i ≡ offset + done + (i - done) = omega arith in
+    let at : done + (i - done) ≡ i = omega arith in
+    let lt : i - done < length more = omega arith in
+    ap f is ∙ next (i - done) lt ∙ ap Some (sym (inside (i - done) lt) ∙ ap (slice_index new) at))
+    (cases_lt i done)

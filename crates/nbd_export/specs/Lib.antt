@@ -1,4 +1,5 @@
 pub mod Extents
+pub mod Held
 pub mod Kinds
 pub mod Pages
 pub mod RangeKinds

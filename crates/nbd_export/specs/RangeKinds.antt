@@ -1,5 +1,5 @@
 -- The kind of each byte of an export, where ranges of one kind cover it, and what it says of the byte.
-use Rattle.std.specs.Prelude.{ℕ, Option, Some, None}
+use Rattle.std.specs.Prelude.{ℕ, ◌≡◌, Option, Some, None, IsSome}
 use Rattle.nbd_export.specs.declared.kind.Kind.{Kind}
 use Rattle.nbd_export.specs.declared.kind.Kind.TheVariants.{Unknown, Zeroes, Bytes}
 use Rattle.nbd_export.specs.declared.kinds.Kinds.{Kinds}
@@ -15,3 +15,9 @@ byte_by_kind (Some Unknown) stored = None
 byte_by_kind (Some Zeroes) stored = Some 0
 byte_by_kind (Some Bytes) stored = Some stored
 byte_by_kind None stored = None
+
+-- what is known of a byte is what a range of this kind says: nothing, 0, or a byte
+abbrev pub IsOfKind : Kind → Option ℕ → Type 0
+IsOfKind Unknown byte = byte ≡ None
+IsOfKind Zeroes byte = byte ≡ Some 0
+IsOfKind Bytes byte = IsSome byte

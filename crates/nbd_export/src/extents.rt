@@ -1,17 +1,16 @@
 //! Contents by ranges: what costs is the ranges and the bytes that a call names, never the export's size.
 
-ghost use Rattle.std.specs.Prelude.{◌≡◌, ◌==◌, ◌+◌, ◌<◌, ◌≤◌, ℕ, if◌then◌else◌, IfOk, IsOk, OnErr, OnOk, length};
-ghost use Rattle.nbd_export.specs.RangeKinds.{kind_of};
+ghost use Rattle.std.specs.Prelude.{◌≡◌, ◌==◌, ◌+◌, ◌-◌, ◌<◌, ◌≤◌, ℕ, if◌then◌else◌, None, Some, IfOk, IsOk, OnErr, OnOk, length, slice_index};
+ghost use Rattle.nbd_export.specs.RangeKinds.{IsOfKind, byte_by_kind, kind_of};
 ghost use Rattle.nbd_export.specs.Ranges.{AreSameBelow, DiffersIn, IsLeast, bytes_from, unknown, zeroes};
-ghost use Rattle.nbd_export.specs.Starts.{FitsSize, start_byte};
 ghost use Rattle.nbd_export.specs.internal.Parts.{AreOneKind, DiffersFrom};
 ghost use Rattle.nbd_export.specs.internal.Seen.{HasZeroesAlone};
 
 use crate::kind::Kind;
 use crate::kinds::Kinds;
-use crate::pages::Pages;
-use crate::slices::first_nonzero;
-use crate::{Contents, Start};
+use crate::pages::{PAGE, Pages};
+use crate::slices::{first_nonzero, overwrite, part, zero_bytes};
+use crate::{Contents, HeldPart, Start};
 use std::alloc::{AllocError, Global};
 use std::rc::Rc;
 
@@ -34,25 +33,94 @@ pub struct Extents {
 
 impl Extents {
     ghost use Rattle.nbd_export.specs.Extents.{byte_of, range_count, ranges_met_by, size_of};
+    ghost use Rattle.nbd_export.specs.Starts.{FitsSize, HasBytes, IsOneRange, part_byte, start_byte};
 
     /// The contents of an export of `size` bytes that holds `start`. An image is taken over as it is; only
-    /// the pages that are written later are copied from it.
+    /// the pages that are written later are copied from it. Contents are taken over where nobody shares them, and copied
+    /// where somebody does.
     pub fn new(alloc: Global, size: u64, start: Start) -> Result<Extents, AllocError>
         requires { FitsSize size start }
         ensures size { IfOk result (λ extents. size_of extents ≡ size) }
         ensures bytes { IfOk result (λ extents. AreSameBelow size (byte_of extents) (start_byte start)) }
-        ensures ranges { IfOk result (λ extents. range_count extents ≡ (if size == 0 then 0 else 1)) }
+        ensures ranges { IfOk result (λ extents. IsOneRange start → range_count extents ≡ (if size == 0 then 0 else 1)) }
     {
         let none = Rc::new(alloc, Vec::new(alloc))?;
-        let (kind, image) = match start {
-            Start::Unknown => (Kind::Unknown, none),
-            Start::Zeroes => (Kind::Zeroes, none),
-            Start::Image(image) => (Kind::Bytes, image),
-        };
+        match start {
+            Start::Unknown => Extents::of_kind(alloc, size, Kind::Unknown, none),
+            Start::Zeroes => Extents::of_kind(alloc, size, Kind::Zeroes, none),
+            Start::Image(image) => Extents::of_kind(alloc, size, Kind::Bytes, image),
+            Start::Contents(contents) => Extents::unshared(alloc, contents),
+        }
+    }
+
+    // The contents of an export of one range, of this kind; bytes are those of the image.
+    fn of_kind(
+        alloc: Global,
+        size: u64,
+        kind: Kind,
+        image: Rc<Vec<u8>>,
+    ) -> Result<Extents, AllocError>
+        ensures size { IfOk result (λ extents. size_of extents ≡ size) }
+        ensures bytes { IfOk result (λ extents. (x : ℕ) → x < size
+            → byte_of extents x ≡ byte_by_kind (Some kind) (slice_index image.value.items x)) }
+        ensures ranges { IfOk result (λ extents. range_count extents ≡ (if size == 0 then 0 else 1)) }
+    {
         let kinds = Kinds::new(alloc, size, kind)?;
         let seen = Kinds::new(alloc, size, Kind::Unknown)?;
         let pages = Pages::new(alloc, image);
         Ok(Extents { kinds, pages, seen })
+    }
+
+    // Contents that nobody shares: these, or where somebody does a copy.
+    fn unshared(alloc: Global, contents: Rc<Extents>) -> Result<Extents, AllocError>
+        ensures size { IfOk result (λ extents. size_of extents ≡ size_of contents.value) }
+        ensures bytes { IfOk result (λ extents.
+            AreSameBelow (size_of contents.value) (byte_of extents) (byte_of contents.value)) }
+    {
+        match Rc::try_unwrap(contents) {
+            Ok(contents) => Ok(contents),
+            Err(shared) => {
+                let none = Rc::new(alloc, Vec::new(alloc))?;
+                let mut copy = Extents::of_kind(alloc, shared.size(), Kind::Unknown, none)?;
+                copy.lay(&shared)?;
+                Ok(copy)
+            }
+        }
+    }
+
+    // Lays what other contents of the same size hold over these, of which no byte is known.
+    fn lay(&mut self, others: &Extents) -> Result<(), AllocError>
+        requires size { size_of others.now ≡ size_of self.old }
+        requires unknown { AreSameBelow (size_of self.old) (byte_of self.old) unknown }
+        ensures size { size_of self.new ≡ size_of self.old }
+        ensures bytes { OnOk result (AreSameBelow (size_of self.old) (byte_of self.new) (byte_of others.now)) }
+    {
+        let mut at = 0;
+        while at < others.kinds.size() {
+            at = self.lay_from(others, at)?;
+        }
+        Ok(())
+    }
+
+    // Lays some of what others hold from an offset on over these, of which no byte is known there, and answers where that
+    // ends.
+    fn lay_from(&mut self, others: &Extents, at: u64) -> Result<u64, AllocError>
+        requires size { size_of others.now ≡ size_of self.old }
+        requires within { at < size_of self.old }
+        requires unknown { (x : ℕ) → at ≤ x → x < size_of self.old → byte_of self.old x ≡ None }
+        ensures size { size_of self.new ≡ size_of self.old }
+        ensures behind { IfOk result (λ end. (at < end) × (end ≤ size_of self.old)) }
+        ensures before { OnOk result ((x : ℕ) → x < at → byte_of self.new x ≡ byte_of self.old x) }
+        ensures laid { IfOk result (λ end. (x : ℕ) → at ≤ x → x < end → byte_of self.new x ≡ byte_of others.now x) }
+        ensures rest { IfOk result (λ end. (x : ℕ) → end ≤ x → x < size_of self.old → byte_of self.new x ≡ None) }
+    {
+        let (part, end) = others.part_at(at);
+        match part {
+            HeldPart::Unknown => {}
+            HeldPart::Zeroes => self.zero(at, end - at)?,
+            HeldPart::Bytes(bytes) => self.put(at, bytes)?,
+        }
+        Ok(end)
     }
 
     /// How many ranges there are: the longest ones of which each is unknown, or zeroes, or bytes. It takes no
@@ -69,6 +137,79 @@ impl Extents {
         ensures { result ≡ ranges_met_by self.now offset len }
     {
         self.kinds.count_in(offset, offset + len)
+    }
+
+    /// The kind of the range at an offset, and where that range ends.
+    pub fn range_at(&self, offset: u64) -> (Kind, u64)
+        requires { offset < size_of self.now }
+        ensures behind { offset < result.1 }
+        ensures within { result.1 ≤ size_of self.now }
+        ensures kind { (x : ℕ) → offset ≤ x → x < result.1 → kind_of self.now.kinds x ≡ Some result.0 }
+        ensures bytes { (x : ℕ) → offset ≤ x → x < result.1 → IsOfKind result.0 (byte_of self.now x) }
+        ensures whole { result.1 < size_of self.now → kind_of self.now.kinds result.1 ≡ Some result.0 → ⊥ }
+    {
+        (self.kinds.kind_at(offset), self.kinds.end_of(offset))
+    }
+
+    /// Puts the bytes from an offset on into `into`, up to the first one that is unknown, and answers how many these
+    /// are. It costs the bytes, and the logarithm of the number of ranges for each range and each page.
+    pub fn read_known(&self, offset: u64, into: &mut [u8]) -> usize
+        requires { offset + length into.old ≤ size_of self.now }
+        ensures len { length into.new ≡ length into.old }
+        ensures few { result ≤ length into.old }
+        ensures known { (i : ℕ) → i < result → byte_of self.now (offset + i) ≡ Some (slice_index into.new i) }
+        ensures bytes { (i : ℕ) → i < result → slice_index into.new i < 256 }
+        ensures unknown { result < length into.old → byte_of self.now (offset + result) ≡ None }
+    {
+        let mut done = 0;
+        while done < into.len() {
+            let known = self.known_at(offset + done as u64, into.len() - done);
+            if known.is_empty() {
+                break;
+            }
+            overwrite(into, done, known);
+            done += known.len();
+        }
+        done
+    }
+
+    /// What is held from an offset on, as far as it is of one kind, and bytes lie in one page; and where that ends.
+    pub fn part_at(&self, offset: u64) -> (HeldPart<'_>, u64)
+        requires { offset < size_of self.now }
+        ensures behind { offset < result.1 }
+        ensures within { result.1 ≤ size_of self.now }
+        ensures held { (x : ℕ) → offset ≤ x → x < result.1 → byte_of self.now x ≡ part_byte result.0 offset x }
+        ensures whole { HasBytes result.0 (result.1 - offset) }
+    {
+        let (kind, end) = self.range_at(offset);
+        match kind {
+            Kind::Unknown => (HeldPart::Unknown, end),
+            Kind::Zeroes => (HeldPart::Zeroes, end),
+            Kind::Bytes => {
+                let known = self.known_at(offset, (end - offset) as usize);
+                (HeldPart::Bytes(known), offset + known.len() as u64)
+            }
+        }
+    }
+
+    // Some of the bytes from an offset on that are known, no more than these: none only where the first is unknown.
+    fn known_at(&self, offset: u64, most: usize) -> &[u8]
+        requires some { 0 < most }
+        requires fits { offset + most ≤ size_of self.now }
+        ensures few { length result.now ≤ most }
+        ensures known { (i : ℕ) → i < length result.now → byte_of self.now (offset + i) ≡ Some (slice_index result.now i) }
+        ensures none { length result.now ≡ 0 → byte_of self.now offset ≡ None }
+    {
+        let (kind, end) = self.range_at(offset);
+        let most = most.min((end - offset) as usize);
+        match kind {
+            Kind::Unknown => &[],
+            Kind::Zeroes => zero_bytes(most.min(PAGE)),
+            Kind::Bytes => {
+                let stored = self.pages.rest_of_page(offset);
+                part(stored, 0, most.min(stored.len()))
+            }
+        }
     }
 
     // The least offset in one range whose byte is known and is not its byte of `bytes`.

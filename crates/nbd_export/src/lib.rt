@@ -6,7 +6,7 @@
 
 pub mod contents;
 pub mod extents;
-mod kind;
+pub mod kind;
 mod kinds;
 mod pages;
 mod slices;
@@ -15,4 +15,5 @@ mod starts;
 
 pub use contents::Contents;
 pub use extents::Extents;
-pub use start::Start;
+pub use kind::Kind;
+pub use start::{HeldPart, Start};

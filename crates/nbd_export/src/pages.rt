@@ -144,9 +144,9 @@ impl Pages {
         self.image.as_slice()
     }
 
-    // The bytes from an offset on, at least one, to the end of its page, or to the end of the image where
-    // that comes first and the page is not written.
-    fn rest_of_page(&self, offset: u64) -> &[u8]
+    /// The bytes from an offset on, at least one, to the end of its page, or to the end of the image where
+    /// that comes first and the page is not written.
+    pub fn rest_of_page(&self, offset: u64) -> &[u8]
         ensures some { 0 < length result.now }
         ensures one { offset % PAGE + length result.now ≤ PAGE }
         ensures bytes { (i : ℕ) → i < length result.now → slice_index result.now i ≡ stored_byte self.now (offset + i) }

@@ -1,12 +1,12 @@
 -- The names that the proofs of this crate cite from elsewhere, passed on from one place. Declares nothing.
-pub use Rattle.nbd_files.specs.Opening.{AsksFor, HasPath, IsOpeningCause, Path, image_path}
+pub use Rattle.nbd_files.specs.Opening.{AsksFor, IsOpeningCause, IsOpeningFault, Path, start_path}
 pub use Rattle.nbd_files.specs.RunFaults.{words}
 pub use Rattle.nbd_files.specs.Starts.{IsWithinLimit}
 pub use Rattle.nbd_files.specs.Texts.{IsText}
 pub use Rattle.nbd_files.specs.declared.command_line.StartWord.{StartWord}
-pub use Rattle.nbd_files.specs.declared.command_line.StartWord.TheVariants.{Image, Unknown, Zero}
+pub use Rattle.nbd_files.specs.declared.command_line.StartWord.TheVariants.{Contents, Image}
 pub use Rattle.nbd_files.specs.declared.fault.RunFault.{RunFault}
-pub use Rattle.nbd_files.specs.declared.fault.RunFault.TheVariants.{CaptureLine, CaptureRead, ImageRead, Memory, OrderLine, OrderRead, ScriptLine, ScriptRead, Write}
+pub use Rattle.nbd_files.specs.declared.fault.RunFault.TheVariants.{AgainstRead, CaptureLine, CaptureRead, ContentsLine, ContentsRead, ImageRead, Memory, OrderLine, OrderRead, ScriptLine, ScriptRead, Write}
 pub use Rattle.nbd_files.specs.declared.input.Text.{Text}
 pub use Rattle.nbd_files.specs.declared.input.Text.TheVariants.{Longer, Whole}
 pub use Rattle.nbd_files.specs.declared.input.TheConstants.{PORTION, READ_LIMIT}

@@ -1,5 +1,5 @@
 -- What is printed of a fault, by its parts.
-use Rattle.nbd_files.proofs.Common.{◌≡◌, ℕ, List, ◌++◌, refl, sym, subst, Some, None, codes, decimal, RunFault, CaptureLine, CaptureRead, OrderLine, OrderRead, ImageRead, ScriptLine, ScriptRead, Write, Memory, words, line_of, name_of}
+use Rattle.nbd_files.proofs.Common.{◌≡◌, ℕ, List, ◌++◌, refl, sym, subst, Some, None, codes, decimal, RunFault, CaptureLine, CaptureRead, OrderLine, OrderRead, ImageRead, ContentsLine, ContentsRead, AgainstRead, ScriptLine, ScriptRead, Write, Memory, words, line_of, name_of}
 use Rattle.std.proofs.Common.{Option}
 
 -- the words behind the first one
@@ -13,6 +13,9 @@ by_parts CaptureRead = refl
 by_parts (OrderLine n) = refl
 by_parts OrderRead = refl
 by_parts ImageRead = refl
+by_parts (ContentsLine n) = refl
+by_parts ContentsRead = refl
+by_parts AgainstRead = refl
 by_parts (ScriptLine n) = refl
 by_parts ScriptRead = refl
 by_parts Write = refl

@@ -3,13 +3,15 @@ use Rattle.std.specs.Prelude.{◌≡◌, ◌++◌, ℕ, List, Bool, true, false,
 use Rattle.nbd_files.specs.declared.fault.RunFault.{RunFault}
 use Rattle.nbd_files.specs.RunFaults.{status}
 use Rattle.nbd_files.specs.declared.command_line.StartWord.{StartWord}
-use Rattle.nbd_files.specs.declared.command_line.StartWord.TheVariants.{Unknown, Zero, Image}
+use Rattle.nbd_files.specs.declared.command_line.StartWord.TheVariants.{Unknown, Zero, Image, Contents}
 
--- the word behind `--start` names this start: bytes that are not known, zeroes, or those of the file behind `image:`
+-- the word behind `--start` names this start: bytes that are not known, zeroes, those of the file behind `image:`, or what
+-- the text in the file behind `contents:` says
 abbrev pub Names : List ℕ → StartWord → Type 0
 Names word Unknown = word ≡ codes "unknown"
 Names word Zero = word ≡ codes "zero"
 Names word (Image path) = word ≡ codes "image:" ++ path.now
+Names word (Contents path) = word ≡ codes "contents:" ++ path.now
 
 -- what the word names, or nothing where it names no start
 abbrev pub IsNamed : List ℕ → Option StartWord → Type 0

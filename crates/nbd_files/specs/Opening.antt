@@ -1,11 +1,11 @@
 -- Which files were opened, and in which order, where an opener and its inputs tell it.
 use Rattle.std.specs.Prelude.{◌≡◌, ◌++◌, ◌∷◌, [], ℕ, List, Option, Some, None, ⊤, IfSome}
 use Rattle.nbd_files.specs.declared.command_line.StartWord.{StartWord}
-use Rattle.nbd_files.specs.declared.command_line.StartWord.TheVariants.{Unknown, Zero, Image}
+use Rattle.nbd_files.specs.declared.command_line.StartWord.TheVariants.{Unknown, Zero, Image, Contents}
 use Rattle.nbd_files.specs.declared.start.StartFrom.{StartFrom}
 use Rattle.nbd_files.specs.declared.start.StartFrom.TheVariants as starts
 use Rattle.nbd_files.specs.declared.fault.RunFault.{RunFault}
-use Rattle.nbd_files.specs.declared.fault.RunFault.TheVariants.{CaptureRead, OrderRead, ImageRead}
+use Rattle.nbd_files.specs.declared.fault.RunFault.TheVariants.{CaptureRead, OrderRead, ImageRead, ContentsRead}
 
 -- a path, as its bytes
 abbrev pub Path : Type 0
@@ -17,17 +17,24 @@ AsksFor None new paths = ⊤
 AsksFor (Some old) None paths = ⊥
 AsksFor (Some old) (Some new) paths = new ≡ old ++ paths
 
--- the path of the image, where the start is one
-abbrev pub image_path : StartWord → List Path
-image_path (Image path) = path.now ∷ []
-image_path start = []
+-- the path of the image or of the contents text, where the start is one
+abbrev pub start_path : StartWord → List Path
+start_path (Image path) = path.now ∷ []
+start_path (Contents path) = path.now ∷ []
+start_path start = []
+
+-- the fault names the kind of the file that the start is
+abbrev pub IsOpeningFault : StartWord → RunFault → Type 0
+IsOpeningFault (Image path) ImageRead = ⊤
+IsOpeningFault (Contents path) ContentsRead = ⊤
+IsOpeningFault start fault = ⊥
 
 -- a fault names the kind of the file that was asked for last
 abbrev pub IsOpeningCause : (old new : Option (List Path)) → Path → Path → StartWord → RunFault → Type 0
 IsOpeningCause old new capture order start CaptureRead = AsksFor old new (capture ∷ [])
 IsOpeningCause old new capture order start OrderRead = AsksFor old new (capture ∷ order ∷ [])
-IsOpeningCause old new capture order (Image path) ImageRead = AsksFor old new (capture ∷ order ∷ path.now ∷ [])
-IsOpeningCause old new capture order start _ = ⊥
+IsOpeningCause old new capture order start fault =
+    IsOpeningFault start fault × AsksFor old new (capture ∷ order ∷ start_path start)
 
 -- an input is that of the file with this path, where that is told
 abbrev pub IsAt : {I : Type 0} → (I → Option Path) → I → Path → Type 0
@@ -38,9 +45,5 @@ abbrev pub StartsAt : {I : Type 0} → (I → Option Path) → StartWord → Sta
 StartsAt path_of Unknown starts.Unknown = ⊤
 StartsAt path_of Zero starts.Zeroes = ⊤
 StartsAt path_of (Image path) (starts.Image input) = IsAt path_of input path.now
+StartsAt path_of (Contents path) (starts.Contents input) = IsAt path_of input path.now
 StartsAt path_of word start = ⊥
-
--- the start is an image
-abbrev pub HasPath : StartWord → Type 0
-HasPath (Image path) = ⊤
-HasPath start = ⊥

@@ -2,9 +2,11 @@
 use Rattle.std.specs.Prelude.{ℕ, List, ◌++◌, codes}
 use Rattle.std.specs.Fmt.{decimal}
 use Rattle.nbd_files.specs.declared.fault.RunFault.{RunFault}
-use Rattle.nbd_files.specs.declared.fault.RunFault.TheVariants.{CaptureLine, CaptureRead, OrderLine, OrderRead, ImageRead, ScriptLine, ScriptRead, Write, Memory}
+use Rattle.nbd_files.specs.declared.fault.RunFault.TheVariants.{CaptureLine, CaptureRead, OrderLine, OrderRead, ImageRead, ContentsLine, ContentsRead, AgainstRead, ScriptLine, ScriptRead, Write, Memory}
 use Rattle.nbd_capture.specs.declared.capture.CaptureFault.{CaptureFault}
 use Rattle.nbd_capture.specs.declared.capture.CaptureFault.TheVariants as capture_faults
+use Rattle.nbd_capture.specs.declared.contents.ContentsFault.{ContentsFault}
+use Rattle.nbd_capture.specs.declared.contents.ContentsFault.TheVariants as contents_faults
 use Rattle.nbd_capture.specs.declared.order.OrderTextFault.{OrderTextFault}
 use Rattle.nbd_capture.specs.declared.order.OrderTextFault.TheVariants as order_faults
 
@@ -20,6 +22,9 @@ words CaptureRead = codes "fault capture read"
 words (OrderLine n) = codes "fault order line " ++ decimal n
 words OrderRead = codes "fault order read"
 words ImageRead = codes "fault image read"
+words (ContentsLine n) = codes "fault contents line " ++ decimal n
+words ContentsRead = codes "fault contents read"
+words AgainstRead = codes "fault against read"
 words (ScriptLine n) = codes "fault script line " ++ decimal n
 words ScriptRead = codes "fault script read"
 words Write = codes "fault write"
@@ -35,3 +40,8 @@ of_capture capture_faults.Memory = Memory
 abbrev pub of_order : OrderTextFault → RunFault
 of_order (order_faults.Line n) = OrderLine n
 of_order order_faults.Memory = Memory
+
+-- the same of a contents text
+abbrev pub of_contents : ContentsFault → RunFault
+of_contents (contents_faults.Line n) = ContentsLine n
+of_contents contents_faults.Memory = Memory

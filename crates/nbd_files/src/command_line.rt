@@ -11,16 +11,22 @@ pub enum StartWord<'a> {
     Zero,
     /// The path of an image.
     Image(&'a str),
+    /// The path of a contents text.
+    Contents(&'a str),
 }
 
-/// The start that this word names, if it names one: `unknown`, `zero`, or `image:` and a path, which may be empty.
+/// The start that this word names, if it names one: `unknown`, `zero`, or `image:` or `contents:` and a path, which may be
+/// empty.
 pub fn start_of(word: &str) -> Option<StartWord<'_>>
     ensures { IsNamed word.now result }
 {
     match word {
         "unknown" => Some(StartWord::Unknown),
         "zero" => Some(StartWord::Zero),
-        _ => word.strip_prefix("image:").map(StartWord::Image),
+        _ => match word.strip_prefix("image:") {
+            Some(path) => Some(StartWord::Image(path)),
+            None => word.strip_prefix("contents:").map(StartWord::Contents),
+        },
     }
 }
 

@@ -1,9 +1,9 @@
 //! Why a run of the program has no answer.
 ghost use Rattle.std.specs.Prelude.{◌≡◌};
-ghost use Rattle.nbd_files.specs.RunFaults.{of_capture, of_order, status};
+ghost use Rattle.nbd_files.specs.RunFaults.{of_capture, of_contents, of_order, status};
 ghost use Rattle.nbd_files.specs.internal.FaultWords.{line_of, name_of};
 
-use nbd_capture::{CaptureFault, OrderTextFault, WriteFault};
+use nbd_capture::{CaptureFault, ContentsFault, OrderTextFault, WriteFault};
 use std::alloc::AllocError;
 use std::fmt;
 use thiserror::Error;
@@ -23,6 +23,13 @@ pub enum RunFault {
     OrderRead,
     /// The image could not be opened or read, or has more bytes than `READ_LIMIT`.
     ImageRead,
+    /// The contents text's line with this number, counted from 1, is malformed or does not begin where the one before ended,
+    /// or no line feed ends it; or it is missing, since the text ends before its size is reached.
+    ContentsLine(u64),
+    /// The contents text could not be opened or read, or has more bytes than `READ_LIMIT`.
+    ContentsRead,
+    /// The file that contents are compared with could not be opened or read.
+    AgainstRead,
     /// The script's line with this number, counted from 1, is malformed, or no line feed ends it, or its
     /// message has no encoding.
     ScriptLine(u64),
@@ -63,6 +70,9 @@ impl RunFault {
             RunFault::OrderLine(_) => "order",
             RunFault::OrderRead => "order read",
             RunFault::ImageRead => "image read",
+            RunFault::ContentsLine(_) => "contents",
+            RunFault::ContentsRead => "contents read",
+            RunFault::AgainstRead => "against read",
             RunFault::ScriptLine(_) => "script",
             RunFault::ScriptRead => "script read",
             RunFault::Write => "write",
@@ -77,6 +87,7 @@ impl RunFault {
         match self {
             RunFault::CaptureLine(number) => Some(*number),
             RunFault::OrderLine(number) => Some(*number),
+            RunFault::ContentsLine(number) => Some(*number),
             RunFault::ScriptLine(number) => Some(*number),
             _ => None,
         }
@@ -127,6 +138,17 @@ impl From<OrderTextFault> for RunFault {
         match fault {
             OrderTextFault::Line(number) => RunFault::OrderLine(number),
             OrderTextFault::Memory => RunFault::Memory,
+        }
+    }
+}
+
+impl From<ContentsFault> for RunFault {
+    ghost from_gives = { λ fault run. run ≡ of_contents fault };
+
+    fn from(fault: ContentsFault) -> RunFault {
+        match fault {
+            ContentsFault::Line(number) => RunFault::ContentsLine(number),
+            ContentsFault::Memory => RunFault::Memory,
         }
     }
 }

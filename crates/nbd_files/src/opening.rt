@@ -1,7 +1,6 @@
 //! Which files `check` opens, and in which order.
 ghost use Rattle.std.specs.Prelude.{◌≡◌, ◌++◌, ◌∷◌, [], ℕ, List, Option, None, OnOk, IfOk, IfErr};
-ghost use Rattle.nbd_files.specs.declared.fault.RunFault.TheVariants.{ImageRead};
-ghost use Rattle.nbd_files.specs.Opening.{AsksFor, HasPath, IsAt, IsOpeningCause, StartsAt, image_path};
+ghost use Rattle.nbd_files.specs.Opening.{AsksFor, IsAt, IsOpeningCause, IsOpeningFault, StartsAt, start_path};
 
 use crate::command_line::StartWord;
 use crate::fault::RunFault;
@@ -33,7 +32,7 @@ pub struct Inputs<I> {
     pub start: StartFrom<I>,
 }
 
-/// Opens the capture, then the order, then the image, if there is one. The first that cannot be opened gives the fault of a reader of
+/// Opens the capture, then the order, then the image or the contents text, if there is one. The first that cannot be opened gives the fault of a reader of
 /// its kind, and none is opened after it.
 pub fn open_inputs<O: Opener>(
     opener: &mut O,
@@ -42,7 +41,7 @@ pub fn open_inputs<O: Opener>(
     start: StartWord<'_>,
 ) -> Result<Inputs<O::Input>, RunFault>
     ensures asked { OnOk result (AsksFor (O.asked opener.old) (O.asked opener.new)
-        (capture.now ∷ order.now ∷ image_path start.entry)) }
+        (capture.now ∷ order.now ∷ start_path start.entry)) }
     ensures paths { IfOk result (λ inputs. IsAt O.path_of inputs.capture capture.now
         × IsAt O.path_of inputs.order order.now × StartsAt O.path_of start.entry inputs.start) }
     ensures cause { IfErr result
@@ -62,14 +61,14 @@ pub fn open_inputs<O: Opener>(
     })
 }
 
-/// Opens the image, if the start is one.
+/// Opens the image or the contents text, if the start is one.
 pub fn open_start<O: Opener>(
     opener: &mut O,
     start: StartWord<'_>,
 ) -> Result<StartFrom<O::Input>, RunFault>
-    ensures asked { AsksFor (O.asked opener.old) (O.asked opener.new) (image_path start.entry) }
+    ensures asked { AsksFor (O.asked opener.old) (O.asked opener.new) (start_path start.entry) }
     ensures paths { IfOk result (λ opened. StartsAt O.path_of start.entry opened) }
-    ensures cause { IfErr result (λ fault. (fault ≡ ImageRead) × HasPath start.entry) }
+    ensures cause { IfErr result (IsOpeningFault start.entry) }
 {
     match start {
         StartWord::Unknown => Ok(StartFrom::Unknown),
@@ -77,6 +76,10 @@ pub fn open_start<O: Opener>(
         StartWord::Image(path) => match opener.open(path) {
             Ok(image) => Ok(StartFrom::Image(image)),
             Err(_) => Err(RunFault::ImageRead),
+        },
+        StartWord::Contents(path) => match opener.open(path) {
+            Ok(text) => Ok(StartFrom::Contents(text)),
+            Err(_) => Err(RunFault::ContentsRead),
         },
     }
 }

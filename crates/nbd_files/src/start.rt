@@ -29,7 +29,7 @@ impl Measured for &[u8] {
     }
 }
 
-/// What the export held when the session began, an image as the reader of its bytes.
+/// What the export held when the session began, an image and a contents text as the readers of their bytes.
 #[derive(Drop)]
 pub enum StartFrom<I> {
     /// Nothing is known: a byte that was not written may be anything.
@@ -38,4 +38,6 @@ pub enum StartFrom<I> {
     Zeroes,
     /// The bytes that this reader has.
     Image(I),
+    /// What the contents text says that this reader has.
+    Contents(I),
 }

@@ -17,7 +17,7 @@ pub use Rattle.nbd_judge.specs.declared.verdict.OrderFault.{OrderFault}
 pub use Rattle.nbd_judge.specs.declared.verdict.OrderFault.TheVariants.{BadPart, Late, Missing, NoSuchRequest, NotCovered, Twice}
 pub use Rattle.nbd_judge.specs.declared.verdict.Verdict.{Verdict}
 pub use Rattle.nbd_judge.specs.declared.verdict.Verdict.TheVariants.{Content, Image, Order, Status, Wire, Yes}
-pub use Rattle.nbd_judge.specs.internal.Beginnings.{image_length}
+pub use Rattle.nbd_judge.specs.internal.Beginnings.{given_length}
 pub use Rattle.nbd_judge.specs.internal.Captures.{HasReport}
 pub use Rattle.nbd_judge.specs.internal.Dues.{IsFair, IsLeastDue, ServesDue, ShowsIn}
 pub use Rattle.nbd_judge.specs.internal.Lesser.{is_above}

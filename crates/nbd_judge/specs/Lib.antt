@@ -3,6 +3,7 @@ pub mod Captures
 pub mod Conclusions
 pub mod Folding
 pub mod Images
+pub mod Left
 pub mod Orders
 pub mod Profiles
 pub mod Servable

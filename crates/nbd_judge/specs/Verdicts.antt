@@ -56,7 +56,7 @@ IsJudged profile r order initial (Status request offset) =
 IsJudged profile r order initial (Wire at fault) = ⊥
 IsJudged profile r order initial (Image image size) = ⊥
 
--- the verdict from a start: Image where it is an image of another size than the export
+-- the verdict from a start: Image where its bytes are given, and the export has another size
 abbrev pub IsVerdict : Profile → Report → List Entry → Start → Verdict → Type 0
 IsVerdict profile r order initial (Image image size) = IsOtherSize r.export initial image size
 IsVerdict profile r order initial (Yes of_requests of_answered of_improper) =

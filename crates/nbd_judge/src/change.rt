@@ -76,8 +76,8 @@ fn bytes_of(one: &Asked, span: Span) -> &[u8]
     &one.payload.as_slice()[first..first + span.size as usize]
 }
 
-// Makes the bytes of the span that lie in the export unknown.
-fn erase<C: Contents>(span: Span, contents: &mut C) -> Result<(), AllocError>
+/// Makes the bytes of the span that lie in the export unknown.
+pub fn erase<C: Contents>(span: Span, contents: &mut C) -> Result<(), AllocError>
     ensures size { C.size contents.new ≡ C.size contents.old }
     ensures done { OnOk result (AreSameBelow (C.size contents.old) (C.byte contents.new)
         (overlay span.offset span.size unknown (C.byte contents.old))) }

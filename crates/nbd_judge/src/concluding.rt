@@ -7,13 +7,14 @@ ghost use Rattle.nbd_wire.specs.protocol.Rules.{IsRunOf};
 ghost use Rattle.nbd_wire.specs.declared.fault.WireFault.{WireFault};
 ghost use Rattle.nbd_session.specs.declared.fault.SessionFault.TheVariants as session;
 ghost use Rattle.nbd_judge.specs.declared.verdict.Verdict.TheVariants as verdict;
-ghost use Rattle.nbd_judge.specs.internal.Beginnings.{image_length};
+ghost use Rattle.nbd_judge.specs.Images.{IsBegun};
+ghost use Rattle.nbd_judge.specs.internal.Beginnings.{given_length};
 ghost use Rattle.nbd_judge.specs.Beginnings.{initial_of};
 ghost use Rattle.nbd_judge.specs.Conclusions.{Answers, IsConclusion, IsReportOf};
 ghost use Rattle.nbd_judge.specs.Verdicts.{IsVerdict};
 
 use crate::{Verdict, judge, laws};
-use nbd_export::{Extents, Start};
+use nbd_export::{Contents, Extents, Start};
 use nbd_session::{SessionFault, Transcript};
 use nbd_wire::{Entry, Profile};
 use std::alloc::{AllocError, Global};
@@ -42,7 +43,7 @@ pub fn conclude(
     }
 }
 
-/// The verdict on what a finished session says: Image if the start is an image of another size than the export,
+/// The verdict on what a finished session says: Image if the start is an image, or contents, of another size than the export,
 /// otherwise the judgement from this start. An `Err` says that memory ran out.
 pub fn verdict_on(
     alloc: Global,
@@ -57,21 +58,32 @@ pub fn verdict_on(
         let mut contents = Extents::new(alloc, 0, Start::Zeroes)?;
         return judge(alloc, profile, transcript, order, &mut contents);
     };
-    if let Some(image) = image_len(&start) {
-        if image != size {
-            return Ok(Verdict::Image { image, size });
-        }
+    match begin(alloc, size, start)? {
+        Ok(mut contents) => judge(alloc, profile, transcript, order, &mut contents),
+        Err(verdict) => Ok(verdict),
     }
-    let mut contents = Extents::new(alloc, size, start)?;
-    judge(alloc, profile, transcript, order, &mut contents)
 }
 
-// The length of an image in bytes, where the start is one.
-fn image_len(start: &Start) -> Option<u64>
-    ensures { result ≡ image_length (initial_of start.now) }
+/// What an export of this size holds at first; or Image if the start is an image, or contents, of another size. An `Err`
+/// says that memory ran out.
+pub fn begin(alloc: Global, size: u64, start: Start) -> Result<Result<Extents, Verdict>, AllocError>
+    ensures { IfOk result (IsBegun size (initial_of start)) }
+{
+    if let Some(image) = given_len(&start) {
+        if image != size {
+            return Ok(Err(Verdict::Image { image, size }));
+        }
+    }
+    Ok(Ok(Extents::new(alloc, size, start)?))
+}
+
+// How many bytes the start has, where they are given.
+fn given_len(start: &Start) -> Option<u64>
+    ensures { result ≡ given_length (initial_of start.now) }
 {
     match start {
         Start::Image(image) => Some(image.len() as u64),
+        Start::Contents(contents) => Some(contents.size()),
         Start::Unknown | Start::Zeroes => None,
     }
 }

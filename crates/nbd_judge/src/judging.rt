@@ -7,6 +7,8 @@ ghost use Rattle.nbd_wire.specs.protocol.Marks.{Item, pairs};
 ghost use Rattle.nbd_wire.specs.protocol.Reports.{report};
 ghost use Rattle.nbd_wire.specs.protocol.Rules.{IsRunOf};
 ghost use Rattle.nbd_judge.specs.Conclusions.{LeavesUnserved};
+ghost use Rattle.nbd_judge.specs.Captures.{SaysYes};
+ghost use Rattle.nbd_judge.specs.Left.{HoldsLeft};
 ghost use Rattle.nbd_judge.specs.Servable.{size_of};
 ghost use Rattle.nbd_wire.specs.declared.entry.Entry.{Entry};
 ghost use Rattle.nbd_wire.specs.protocol.Verdicts.{IsFaultless};
@@ -22,8 +24,8 @@ use nbd_wire::{Entry, Profile, commands};
 use std::alloc::{AllocError, Global};
 
 /// Judges a session of the profile by an order of service and the contents that the export had at first: Yes, Order,
-/// Content or Status. It changes the contents as it goes; what they hold afterwards is not stated. An `Err` says that
-/// memory ran out.
+/// Content or Status. It changes the contents as it goes: after a yes they hold what the order leaves, behind another
+/// answer the effect of some entries. An `Err` says that memory ran out.
 pub fn judge<C: Contents>(
     alloc: Global,
     profile: Profile,
@@ -34,6 +36,8 @@ pub fn judge<C: Contents>(
     // The contents have the export's size, or size 0 if transmission was not reached.
     requires { C.size contents.old ≡ size_of transcript.now.export }
     ensures judged { IfOk result (IsJudged profile transcript.now order.now (C.byte contents.old)) }
+    ensures left { IfOk result (λ v. SaysYes v → HoldsLeft transcript.now order.now (C.size contents.old)
+        (C.size contents.new) (C.byte contents.old) (C.byte contents.new)) }
     // The verdict is Order only if no run of the profile with the bytes of this session is served in this order.
     ensures unserved { IfOk result (λ v. (items : List Item) → IsRunOf profile items →
         report items ≡ transcript.now → LeavesUnserved profile (pairs items) order.now v) }

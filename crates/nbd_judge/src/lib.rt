@@ -17,8 +17,9 @@ mod sorting;
 mod tally;
 pub mod verdict;
 
+pub use change::erase;
 pub use checking::{check, check_of};
-pub use concluding::{conclude, verdict_on};
+pub use concluding::{begin, conclude, verdict_on};
 pub use judging::{judge, wrong_of};
 pub use least::lesser;
 pub use verdict::{OrderFault, Verdict};

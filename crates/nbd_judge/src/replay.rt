@@ -1,10 +1,11 @@
 //! The pass over the order that compares and changes contents.
 
-ghost use Rattle.std.specs.Prelude.{◌≡◌, ℕ, IfOk, MatchOption, Some};
+ghost use Rattle.std.specs.Prelude.{◌≡◌, ℕ, IfOk, MatchOption, None, Some};
 ghost use Rattle.nbd_laws.specs.Soundness.{IsSoundReport};
 ghost use Rattle.nbd_wire.specs.protocol.Orders.{IsBadPart};
 ghost use Rattle.nbd_wire.specs.protocol.Reports.{Asked, asked_at, inside_in};
 ghost use Rattle.nbd_judge.specs.internal.Pieces.{IsSortedAt};
+ghost use Rattle.nbd_judge.specs.Left.{HoldsLeft};
 ghost use Rattle.nbd_judge.specs.Servable.{size_of};
 ghost use Rattle.nbd_judge.specs.Verdicts.{FirstWrongFrom, HasWrongFrom};
 
@@ -19,7 +20,8 @@ use std::collections::BTreeMap;
 
 /// The request of the first entry that serves a wrong byte, and the least offset of a wrong byte there; None if no
 /// entry serves one. Each entry is compared with what the entries before it left, given the outcomes at the end of the
-/// session. After the first wrong byte and after out of memory the contents hold the effect of some entries.
+/// session. Where none serves one the contents hold afterwards what the order leaves; after the first wrong byte and after
+/// out of memory the effect of some entries.
 pub fn replay<C: Contents>(
     alloc: Global,
     transcript: &Transcript,
@@ -29,9 +31,11 @@ pub fn replay<C: Contents>(
     requires well { (i : ℕ) → IsBadPart (inside_in transcript.now) order.now i → ⊥ }
     requires sound { IsSoundReport transcript.now }
     requires sized { C.size contents.old ≡ size_of transcript.now.export }
-    ensures { IfOk result (λ found. MatchOption found ((i : ℕ) →
+    ensures wrong { IfOk result (λ found. MatchOption found ((i : ℕ) →
         HasWrongFrom transcript.now order.now (C.byte contents.old) i → ⊥)
         (λ p. FirstWrongFrom transcript.now order.now (C.byte contents.old) p.0 p.1)) }
+    ensures left { IfOk result (λ found. found ≡ None → HoldsLeft transcript.now order.now (C.size contents.old)
+        (C.size contents.new) (C.byte contents.old) (C.byte contents.new)) }
 {
     let mut reads = BTreeMap::new(alloc);
     first_wrong(alloc, transcript, order, &mut reads, contents)
@@ -49,9 +53,11 @@ fn first_wrong<'a, C: Contents>(
     requires sound { IsSoundReport transcript.now }
     requires sized { C.size contents.old ≡ size_of transcript.now.export }
     requires sorted { (k : ℕ) (a : Asked) → asked_at k transcript.now.asked ≡ Some a → IsSortedAt reads.old k a.pieces }
-    ensures { IfOk result (λ found. MatchOption found ((i : ℕ) →
+    ensures wrong { IfOk result (λ found. MatchOption found ((i : ℕ) →
         HasWrongFrom transcript.now order.now (C.byte contents.old) i → ⊥)
         (λ p. FirstWrongFrom transcript.now order.now (C.byte contents.old) p.0 p.1)) }
+    ensures left { IfOk result (λ found. found ≡ None → HoldsLeft transcript.now order.now (C.size contents.old)
+        (C.size contents.new) (C.byte contents.old) (C.byte contents.new)) }
 {
     for i in 0..order.len() {
         let entry = order[i];

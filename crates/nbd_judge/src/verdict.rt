@@ -42,9 +42,9 @@ pub enum Verdict {
         /// Which rule.
         fault: WireFault,
     },
-    /// The image that is to be the export's start has another size than the export.
+    /// The image, or the contents, that are to be the export's start have another size than the export.
     Image {
-        /// The image's size in bytes.
+        /// The start's size in bytes.
         image: u64,
         /// The export's size in bytes.
         size: u64,

@@ -51,7 +51,7 @@ pub use Rattle.nbd_wire.specs.protocol.Decisions.{Decision, abort_answer, answer
 pub use Rattle.nbd_wire.specs.protocol.Encoding.{AreBytes}
 unfoldable pub use Rattle.nbd_wire.specs.protocol.Encoding.{enc, head, tail}
 pub use Rattle.nbd_wire.specs.protocol.Entries.{IsServedAt, MayServe, Names, NamesWhole, in_part, inside, inside_of, is_served, part, whole}
-pub use Rattle.nbd_wire.specs.protocol.Explains.{FitsImage, HasNoWrongByte, Image, IsExplainedOf, Start, Unknown, Zeroes, start_byte}
+pub use Rattle.nbd_wire.specs.protocol.Explains.{FitsImage, HasNoWrongByte, Held, IsExplainedOf, Start, Unknown, Zeroes, image, start_byte}
 pub use Rattle.nbd_wire.specs.protocol.ExportBytes.{Differs, Effect, GivesByte, IsWrong, IsWrongIn, IsWrongOf, byte_before, byte_or_start, effects, last_touch, serves}
 unfoldable pub use Rattle.nbd_wire.specs.protocol.Flags.{has, has_only}
 pub use Rattle.nbd_wire.specs.protocol.Forms.{HasGoForm}

@@ -4,7 +4,7 @@
 ghost use Rattle.std.specs.Prelude.{◌≡◌, ℕ, List, [], ◌∷◌, length};
 ghost use Rattle.nbd_wire.specs.declared.entry.Entry.{Entry};
 ghost use Rattle.nbd_wire.specs.protocol.Entries.{part, whole};
-ghost use Rattle.nbd_wire.specs.protocol.Explains.{Image, Start, Unknown, Zeroes};
+ghost use Rattle.nbd_wire.specs.protocol.Explains.{Start, Unknown, Zeroes, image};
 ghost use Rattle.nbd_wire.specs.protocol.Captures.{Pair, flat};
 ghost use Rattle.nbd_laws.specs.captures.Openings as captures;
 ghost use Rattle.nbd_laws.specs.captures.Reads as reads;
@@ -39,7 +39,7 @@ pub fn reads()
     // Such a byte is wrong from zeroes, and right from an image that has it or from unknown bytes.
     ensures odd_byte_zeroes { IsNo (flat reads.odd_byte) (whole 1 ∷ []) Zeroes }
     ensures odd_byte_unknown { IsYes (flat reads.odd_byte) (whole 1 ∷ []) Unknown 1 1 0 }
-    ensures odd_byte_image { IsYes (flat reads.odd_byte) (whole 1 ∷ []) (Image (255 ∷ 0 ∷ 0 ∷ 0 ∷ 0 ∷ 0 ∷ 0 ∷ 0 ∷ [])) 1 1 0 }
+    ensures odd_byte_image { IsYes (flat reads.odd_byte) (whole 1 ∷ []) (image (255 ∷ 0 ∷ 0 ∷ 0 ∷ 0 ∷ 0 ∷ 0 ∷ 0 ∷ [])) 1 1 0 }
     // A pending WRITE that is served makes its range unknown; one that is not served has no effect.
     ensures pending_write { IsYes (flat reads.pending_write) (whole 1 ∷ whole 2 ∷ []) Zeroes 2 1 0 }
     ensures pending_write_unserved { IsNo (flat reads.pending_write) (whole 2 ∷ []) Zeroes }
@@ -124,7 +124,7 @@ pub fn options()
 /// What no order explains.
 pub fn unexplained()
     // An image of another size than the export explains nothing.
-    ensures wrong_image { (bytes : List ℕ) → length bytes ≡ 9 → IsNo (flat captures.opening) [] (Image bytes) }
+    ensures wrong_image { (bytes : List ℕ) → length bytes ≡ 9 → IsNo (flat captures.opening) [] (image bytes) }
     // An order that serves a request twice atomically explains no capture.
     ensures named_twice { (capture : List Pair) (initial : Start) → IsNo capture (whole 1 ∷ whole 1 ∷ []) initial }
     // A capture of one byte of the client is explained by no order.

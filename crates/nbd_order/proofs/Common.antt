@@ -28,7 +28,7 @@ pub use Rattle.nbd_wire.specs.declared.payloads.Piece.{Piece}
 pub use Rattle.nbd_wire.specs.declared.profile.Profile.{Profile}
 pub use Rattle.nbd_wire.specs.declared.profile.Profile.TheVariants.{Base, Wide}
 pub use Rattle.nbd_wire.specs.protocol.Entries.{IsAgain, IsMisplaced, Names, in_part, is_served, whole}
-pub use Rattle.nbd_wire.specs.protocol.Explains.{FitsImage, Image, Start, Unknown, Zeroes, start_byte}
+pub use Rattle.nbd_wire.specs.protocol.Explains.{FitsImage, Held, Start, Unknown, Zeroes, start_byte}
 pub use Rattle.nbd_wire.specs.protocol.ExportBytes.{Differs, Effect, GivesByte, IsWrong, IsWrongIn, byte_before, byte_or_start, effect, effect_byte, effect_if, effects, is_success, last_touch, later, serves, touch_of, touches}
 pub use Rattle.nbd_wire.specs.protocol.Marks.{Item}
 pub use Rattle.nbd_wire.specs.protocol.Operations.{Exporting, has_range, is_change}

@@ -1,9 +1,9 @@
 -- What is found of a report, and of the runs with that report.
-use Rattle.nbd_order.proofs.Common.{◌≡◌, ℕ, zero, suc, List, [], ◌∷◌, refl, sym, subst, Option, Some, None, All-append, All-cons, All-nil, Profile, Entry, whole, FitsImage, Image, Start, Unknown, Zeroes, Item, Exporting, Report, report, IsRunOf, Passes, answered_count, improper_count, request_count, ExplainedPasses, PassingIsExplained, IsOtherSize, OneVerdict, IsVerdict, Verdict, Yes, Found, GaveUp, NoneWhole, Order, Unexplained, Wanted, Any, Whole, AreWhole, FailsArrival, FoundIsSo, IsFound, IsWanted, IsWantedOrder, Says, arrival, RefutedIsUnexplained, IsOpen}
+use Rattle.nbd_order.proofs.Common.{◌≡◌, ℕ, zero, suc, List, [], ◌∷◌, refl, sym, subst, Option, Some, None, All-append, All-cons, All-nil, Profile, Entry, whole, FitsImage, Held, Start, Unknown, Zeroes, Item, Exporting, Report, report, IsRunOf, Passes, answered_count, improper_count, request_count, ExplainedPasses, PassingIsExplained, IsOtherSize, OneVerdict, IsVerdict, Verdict, Yes, Found, GaveUp, NoneWhole, Order, Unexplained, Wanted, Any, Whole, AreWhole, FailsArrival, FoundIsSo, IsFound, IsWanted, IsWantedOrder, Says, arrival, RefutedIsUnexplained, IsOpen}
 use Rattle.nbd_order.specs.declared.finding.Found.TheVariants.{Image as FoundImage}
 
 other_size_fits : (export : Option Exporting) (initial : Start) (image size : ℕ) → IsOtherSize export initial image size → FitsImage export initial → ⊥
-other_size_fits (Some export) (Image bytes) image size o f = o.2 f
+other_size_fits (Some export) (Held bytes) image size o f = o.2 f
 other_size_fits (Some export) Unknown image size o f = o
 other_size_fits (Some export) Zeroes image size o f = o
 other_size_fits None initial image size o f = o

@@ -1,6 +1,7 @@
 pub mod Common
 pub mod DueLemmas
 pub mod FoundLemmas
+pub mod LeavingLemmas
 pub mod NumberLemmas
 pub mod OffsetLemmas
 pub mod RefutationLemmas

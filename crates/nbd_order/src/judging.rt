@@ -62,7 +62,7 @@ pub fn place_of(verdict: &Verdict) -> Place {
     Place { request, offset }
 }
 
-// The same start, which shares its image.
+// The same start, which shares its image or its contents.
 fn copy_of(start: &Start) -> Result<Start, AllocError>
     ensures { IfOk result (λ copy. initial_of copy ≡ initial_of start.now) }
 {
@@ -70,6 +70,7 @@ fn copy_of(start: &Start) -> Result<Start, AllocError>
         Start::Unknown => Ok(Start::Unknown),
         Start::Zeroes => Ok(Start::Zeroes),
         Start::Image(image) => Ok(Start::Image(image.clone()?)),
+        Start::Contents(contents) => Ok(Start::Contents(contents.clone()?)),
     }
 }
 

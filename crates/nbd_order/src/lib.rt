@@ -5,11 +5,14 @@ mod due;
 pub mod finding;
 mod judging;
 pub mod laws;
+pub mod leaving;
 mod offsets;
 pub mod refutation;
 pub mod refuting;
 mod states;
+mod sweep;
 
 pub use finding::{Found, Scope, Wanted, find, usual_limits};
+pub use leaving::{Left, forget_open, left_by, left_by_each};
 pub use refutation::{Refutation, State};
 pub use refuting::is_refuted;

@@ -1,6 +1,7 @@
 //! What a request does at one offset.
 
-ghost use Rattle.std.specs.Prelude.{◌≡◌, IsTrue, MatchBool, MatchOption, true, false};
+ghost use Rattle.std.specs.Prelude.{◌≡◌, IsTrue, MatchBool, MatchOption, true, false, slice_get};
+ghost use Rattle.nbd_export.specs.Held.{held};
 ghost use Rattle.nbd_judge.specs.Beginnings.{initial_of};
 ghost use Rattle.nbd_state.specs.Transcripts.{report_of_request};
 ghost use Rattle.nbd_wire.specs.protocol.Explains as explains;
@@ -11,7 +12,7 @@ ghost use Rattle.nbd_order.specs.internal.Offsets.{differs, gives_byte, reads_at
 ghost use Rattle.nbd_order.specs.internal.Refutations.{IsBefore, IsChangeAt, IsOther, IsReadAt};
 
 use crate::due::{due_at, is_below};
-use nbd_export::Start;
+use nbd_export::{Contents, Extents, Start};
 use nbd_session::{Asked, Transcript};
 use nbd_state::byte_read;
 use nbd_wire::{Profile, commands};
@@ -95,6 +96,18 @@ pub fn start_byte(start: &Start, offset: u64) -> Option<u8>
         Start::Unknown => None,
         Start::Zeroes => Some(0),
         Start::Image(image) => image.get(offset as usize).copied(),
+        Start::Contents(contents) => given_byte(contents, offset),
+    }
+}
+
+// The byte that contents have at an offset, if they have one there and it is known.
+fn given_byte(contents: &Extents, offset: u64) -> Option<u8>
+    ensures { result ≡ explains.known (slice_get (held contents.now) offset) }
+{
+    if offset < contents.size() {
+        contents.byte_at(offset)
+    } else {
+        None
     }
 }
 

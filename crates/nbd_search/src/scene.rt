@@ -2,7 +2,7 @@
 
 use crate::order::Moment;
 use crate::work::Work;
-use nbd_export::Start;
+use nbd_export::{Contents, Extents, HeldPart, Start};
 use nbd_session::{Asked, Transcript};
 use nbd_state::Span;
 use nbd_wire::{Piece, Profile, commands};
@@ -69,21 +69,45 @@ impl<'a> Scene<'a> {
             patches: Vec::new(work.alloc),
             bytes: Vec::new(work.alloc),
         };
-        let bytes: Option<(u64, &[u8])> = match start {
-            Start::Image(image) => Some((0, image.as_slice())),
-            Start::Zeroes => Some((0, &[])),
-            Start::Unknown => None,
-        };
+        match start {
+            Start::Image(image) => scene.add_first((0, size), Some(image.as_slice()), work),
+            Start::Zeroes => scene.add_first((0, size), Some(&[]), work),
+            Start::Unknown => scene.add_first((0, size), None, work),
+            Start::Contents(contents) => scene.add_contents(contents, work),
+        }
         let whole = scene.patch(0, false, (0, size));
-        work.keep(&mut scene.bytes, bytes);
         work.keep(&mut scene.requests, whole);
-        work.keep(&mut scene.patches, whole);
         for number in 1..=transcript.count() {
             if let Some(one) = transcript.asked(number) {
                 scene.add(profile, one, work);
             }
         }
         scene
+    }
+
+    // Adds what the export holds at first: these bytes in this range.
+    fn add_first(&mut self, range: (u64, u64), bytes: Option<&'a [u8]>, work: &mut Work) {
+        let patch = self.patch(0, false, range);
+        work.keep(&mut self.bytes, bytes.map(|bytes| (range.0, bytes)));
+        work.keep(&mut self.patches, patch);
+    }
+
+    // Adds what the export holds at first, part by part.
+    fn add_contents(&mut self, contents: &'a Extents, work: &mut Work) {
+        let mut at = 0;
+        for _ in 0..contents.size() {
+            if at >= contents.size() || work.is_over() {
+                break;
+            }
+            let (part, end) = contents.part_at(at);
+            let bytes: Option<&[u8]> = match part {
+                HeldPart::Unknown => None,
+                HeldPart::Zeroes => Some(&[]),
+                HeldPart::Bytes(bytes) => Some(bytes),
+            };
+            self.add_first((at, end - at), bytes, work);
+            at = end;
+        }
     }
 
     fn add(&mut self, profile: Profile, one: &'a Asked, work: &mut Work) {

@@ -25,7 +25,7 @@ pub use asking::{Asking, Telling};
 pub use index::SpanIndex;
 pub use offsets::byte_read;
 pub use outstanding::Outstanding;
-pub use proper::{ends_by, has_range, is_outside, is_proper};
+pub use proper::{ends_by, has_range, is_change, is_outside, is_proper};
 pub use selection::Selection;
 pub use span::Span;
 pub use state::{Chosen, Export, Phase, State};

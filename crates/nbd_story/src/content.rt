@@ -2,7 +2,7 @@
 
 use crate::differing::Compared;
 use crate::explanation::{NO_PLACE, Sources};
-use crate::layers::{Origin, Stretch};
+use crate::layers::Stretch;
 use crate::parts::{end_of, has_offset, meet};
 use crate::requests::Request;
 use crate::rules::{CONTENT_RULE, Rule, STATUS_RULE};
@@ -10,6 +10,7 @@ use crate::story::Story;
 use crate::text::Text;
 use crate::told::{NO_MESSAGE, Told};
 use crate::zeroes::{Descriptor, NO_DESCRIPTOR, count_of, zero_at};
+use nbd_export::Start;
 use nbd_wire::{Entry, Part, Side};
 use std::alloc::Global;
 
@@ -159,11 +160,17 @@ impl Text {
         let text = self.byte("expected: {value:02x}", byte);
         match (sources.order.get(held.place), held.origin) {
             (Some(entry), _) => text.served(", by ", held.place, entry, sources.story),
-            (None, Origin::Zeroes) => text
-                .say(", since the export began with zeroes\n")
-                .doubted_start(),
-            (None, _) => text.say(", of the image\n").doubted_start(),
+            (None, _) => text.say(first_words(sources.start)).doubted_start(),
         }
+    }
+}
+
+// Where a byte is known from that no entry left.
+fn first_words(start: Option<&Start>) -> &'static str {
+    match start {
+        Some(Start::Zeroes) => ", since the export began with zeroes\n",
+        Some(Start::Contents(_)) => ", of the contents that were given\n",
+        _ => ", of the image\n",
     }
 }
 

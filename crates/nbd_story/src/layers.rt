@@ -7,7 +7,7 @@ use crate::requests::{Request, is_change, range};
 use crate::story::Story;
 use crate::told::{EMPTY, Told};
 use crate::zeroes::{called_zero, count_of, descriptor_in};
-use nbd_export::Start;
+use nbd_export::{Contents, Extents, HeldPart, Start};
 use nbd_wire::{Entry, Part, Side, commands};
 use std::alloc::Global;
 use std::collections::BTreeMap;
@@ -17,8 +17,8 @@ use std::collections::BTreeMap;
 pub enum Origin {
     /// From messages of this side.
     Wire(Side),
-    /// From the image.
-    Image,
+    /// From the image, or the contents text.
+    Given,
     /// They are zeroes.
     Zeroes,
     /// They are those that an entry serves, and what they are does not count.
@@ -49,14 +49,22 @@ impl Stretch {
         }
     }
 
-    /// What the export held of a part at first.
+    /// What the export held at first of a part, as far as it is of one origin from its beginning on.
     pub fn at_first(part: Part, start: Option<&Start>) -> Stretch {
-        let origin = match start {
-            Some(Start::Zeroes) => Origin::Zeroes,
-            Some(Start::Image(_)) => Origin::Image,
-            _ => Origin::Unknown,
-        };
-        Stretch::of(part, origin, 0)
+        match start {
+            Some(Start::Zeroes) => Stretch::of(part, Origin::Zeroes, 0),
+            Some(Start::Image(_)) => Stretch::of(part, Origin::Given, 0),
+            Some(Start::Contents(contents)) if part.offset < contents.size() => {
+                let (held, end) = contents.part_at(part.offset);
+                let origin = match held {
+                    HeldPart::Unknown => Origin::Unknown,
+                    HeldPart::Zeroes => Origin::Zeroes,
+                    HeldPart::Bytes(_) => Origin::Given,
+                };
+                Stretch::of(common(part, between(part.offset, end)), origin, 0)
+            }
+            _ => Stretch::of(part, Origin::Unknown, 0),
+        }
     }
 
     /// What a request leaves in its range; no byte where it does not change the export.
@@ -111,7 +119,8 @@ impl Stretch {
                 .story
                 .recording
                 .bytes_at(side, self.before, self.part.length),
-            (Origin::Image, Some(Start::Image(image))) => front(image, self.part),
+            (Origin::Given, Some(Start::Image(image))) => front(image, self.part),
+            (Origin::Given, Some(Start::Contents(contents))) => given(contents, self.part),
             _ => &[],
         }
     }
@@ -133,6 +142,17 @@ impl Stretch {
 fn front(image: &[u8], part: Part) -> &[u8] {
     let bytes = image.get(part.offset as usize..).unwrap_or(&[]);
     bytes.get(..part.length as usize).unwrap_or(bytes)
+}
+
+// The bytes of contents that lie in a part, as far as they are of one kind and lie in one page.
+fn given(contents: &Extents, part: Part) -> &[u8] {
+    if part.offset >= contents.size() {
+        return &[];
+    }
+    match contents.part_at(part.offset) {
+        (HeldPart::Bytes(bytes), _) => bytes.get(..part.length as usize).unwrap_or(bytes),
+        _ => &[],
+    }
 }
 
 /// Stretches that share no offset. Once memory was refused they are not known.
@@ -160,9 +180,24 @@ impl Stretches {
         served
     }
 
+    // What a part held at first.
+    fn at_first(alloc: Global, part: Part, start: Option<&Start>) -> Stretches {
+        let mut held = Stretches::new(alloc);
+        let mut rest = part;
+        for _ in 0..part.length {
+            let stretch = Stretch::at_first(rest, start);
+            held = held.with(stretch);
+            rest = common(part, between(end_of(stretch.part), u64::MAX));
+            if rest.length == 0 {
+                break;
+            }
+        }
+        held
+    }
+
     /// What a part held before the entry at a place of the order.
     pub fn held(alloc: Global, place: usize, part: Part, sources: &Sources<'_>) -> Stretches {
-        let mut held = Stretches::new(alloc).with(Stretch::at_first(part, sources.start));
+        let mut held = Stretches::at_first(alloc, part, sources.start);
         for at in 0..place.min(sources.order.len()) {
             let entry = &sources.order[at];
             let mut left = Stretch::left_by(sources.story.request(entry.request));

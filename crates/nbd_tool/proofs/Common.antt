@@ -12,7 +12,7 @@ pub use Rattle.nbd_capture.specs.Writing.{AppendsPrefix}
 pub use Rattle.nbd_capture.specs.declared.capture.CaptureFault.{CaptureFault}
 pub use Rattle.nbd_capture.specs.declared.reader.State.TheVariants.{Open}
 pub use Rattle.nbd_files.specs.RunFaults.{of_capture}
-pub use Rattle.nbd_files.specs.Starts.{IsWithinLimit, image_of, initial_from}
+pub use Rattle.nbd_files.specs.Starts.{IsWithinLimit, image_of}
 pub use Rattle.nbd_files.specs.Texts.{IsText}
 pub use Rattle.nbd_files.specs.declared.fault.RunFault.{RunFault}
 pub use Rattle.nbd_files.specs.declared.fault.RunFault.TheVariants.{Memory, Write}
@@ -41,7 +41,7 @@ pub use Rattle.nbd_wire.specs.declared.fault.WireFault.{WireFault}
 pub use Rattle.nbd_wire.specs.declared.message.Side.{Side}
 pub use Rattle.nbd_wire.specs.declared.profile.Profile.{Profile}
 pub use Rattle.nbd_wire.specs.protocol.Captures.{Pair, side_pairs}
-pub use Rattle.nbd_wire.specs.protocol.Explains.{Image, IsExplainedOf, Start}
+pub use Rattle.nbd_wire.specs.protocol.Explains.{IsExplainedOf, Start, image}
 pub use Rattle.nbd_wire.specs.protocol.Marks.{Item, pairs}
 pub use Rattle.nbd_wire.specs.protocol.Reports.{Report}
 pub use Rattle.nbd_wire.specs.protocol.Rules.{IsRunOf}

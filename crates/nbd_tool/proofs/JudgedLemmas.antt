@@ -10,12 +10,21 @@ verdict_on profile None order known chunks entries initial v c o s checked = tt
 verdict_on profile (Some text) None known chunks entries initial v c o s checked = tt
 verdict_on profile (Some text) (Some order) None chunks entries initial v c o s checked = tt
 
+-- what follows for each one follows for all
+pub each_ok : {A B E : Type 0} (P : B → Type 0) (Q : B → A → Type 0) (o : Result A E) → ((b : B) → P b → IfOk o (Q b)) → IfOk o (λ a. (b : B) → P b → Q b a)
+each_ok P Q (Ok a) f = f
+each_ok P Q (Err e) f = tt
+
+pub each_err : {A B E : Type 0} (P : B → Type 0) (Q : B → E → Type 0) (o : Result A E) → ((b : B) → P b → IfErr o (Q b)) → IfErr o (λ e. (b : B) → P b → Q b e)
+each_err P Q (Ok a) f = tt
+each_err P Q (Err e) f = f
+
 -- the order's entries are those of its text
-pub with_entries : (profile : Profile) (order : Option (List ℕ)) (known : Option Start) (finished : Result Report SessionFault) (entries slice : List Entry) (o : Result Verdict RunFault) → slice ≡ entries →
-    IfSome order (λ text. IsOrderText text entries) → IfOk o (IsConcluded profile known finished slice) →
-    IfOk o (λ v. (entries : List Entry) × IfSome order (λ text. IsOrderText text entries) × IsConcluded profile known finished entries v)
-with_entries profile order known finished entries slice (Ok v) same is_text concluded = (entries, is_text, subst (λ e. IsConcluded profile known finished e v) same concluded)
-with_entries profile order known finished entries slice (Err fault) same is_text concluded = tt
+pub with_entries : (P : Option Start → Type 0) (profile : Profile) (order : Option (List ℕ)) (finished : Result Report SessionFault) (entries slice : List Entry) (o : Result Verdict RunFault) → slice ≡ entries →
+    IfSome order (λ text. IsOrderText text entries) → IfOk o (λ v. (known : Option Start) → P known → IsConcluded profile known finished slice v) →
+    IfOk o (λ v. (entries : List Entry) × IfSome order (λ text. IsOrderText text entries) × ((known : Option Start) → P known → IsConcluded profile known finished entries v))
+with_entries P profile order finished entries slice (Ok v) same is_text concluded = (entries, is_text, subst (λ e. (known : Option Start) → P known → IsConcluded profile known finished e v) same concluded)
+with_entries P profile order finished entries slice (Err fault) same is_text concluded = tt
 
 -- the conclusion from a session over a capture text is the verdict on its texts
 pub concluded : {profile : Profile} (capture order : Option (List ℕ)) (known : Option Start) (r : SessionView) (finished : Result Report SessionFault) (entries : List Entry) (v : Verdict) → IsOverText profile capture r →

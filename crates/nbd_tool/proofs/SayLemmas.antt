@@ -86,6 +86,7 @@ answered profile (Some text) None initial says v is same = tt
 answered profile (Some text) (Some order_text) None says v is same = tt
 
 -- what was answered with a line is so exactly
-pub answers_so : (profile : Profile) (capture order : Option (List ℕ)) (initial : Option Start) (old new : Option (List ℕ)) (o : Result Bool RunFault) → IfOk o (λ yes. Tells profile capture order initial yes old new) → IfOk o (AnswersExactly profile capture order initial)
-answers_so profile capture order initial old new (Ok says) told = answered profile capture order initial says told.verdict told.is_verdict told.answer
-answers_so profile capture order initial old new (Err fault) told = tt
+pub answers_so : (P : Option Start → Type 0) (profile : Profile) (capture order : Option (List ℕ)) (old new : Option (List ℕ)) (o : Result Bool RunFault) → IfOk o (λ yes. (initial : Option Start) → P initial → Tells profile capture order initial yes old new)
+    → IfOk o (λ yes. (initial : Option Start) → P initial → AnswersExactly profile capture order initial yes)
+answers_so P profile capture order old new (Ok says) tells = λ initial is. (let told : Tells profile capture order initial says old new = tells initial is in answered profile capture order initial says told.verdict told.is_verdict told.answer)
+answers_so P profile capture order old new (Err fault) tells = tt

@@ -1,6 +1,6 @@
 -- What of an image is kept.
 use Rattle.std.specs.Prelude.{ℕ, List, ◌≡◌, ◌<◌, Option, IfSome, Result, Ok, Err, length}
-use Rattle.nbd_wire.specs.protocol.Explains.{Image, Start}
+use Rattle.nbd_wire.specs.protocol.Explains.{Start, image}
 use Rattle.nbd_wire.specs.protocol.Reports.{Report}
 use Rattle.nbd_session.specs.declared.fault.SessionFault.{SessionFault}
 use Rattle.nbd_judge.specs.Beginnings.{initial_of}
@@ -16,7 +16,7 @@ room_in (Err fault) = 0
 -- this start was read, with room for so many bytes: it was kept, or it is an image of more bytes, which were counted
 abbrev pub IsReadAs : (room : ℕ) → Start → Beginning → Type 0
 IsReadAs room initial (Whole start) = initial_of start ≡ initial
-IsReadAs room initial (Longer n) = (bytes : List ℕ) × (initial ≡ Image bytes) × (n ≡ length bytes) × (room < n)
+IsReadAs room initial (Longer n) = (bytes : List ℕ) × (initial ≡ image bytes) × (n ≡ length bytes) × (room < n)
 
 -- some start was read, and it is the one that is known
 pub record IsBeginningOf (known : Option Start) (room : ℕ) (read : Beginning) : Type 0 where

@@ -6,14 +6,15 @@ use Rattle.nbd_wire.specs.protocol.Explains.{IsExplainedOf, Start}
 use Rattle.nbd_wire.specs.protocol.Captures.{Pair, flat}
 use Rattle.std.specs.Io.KnownBytes.{Appends, Keeps}
 use Rattle.nbd_capture.specs.Capture.{Chunk, IsCaptureText, IsFirstBadCaptureLine}
+use Rattle.nbd_capture.specs.Contents.{IsFirstBadContentsLine}
 use Rattle.nbd_capture.specs.Order.{IsOrderText, IsFirstBadOrderLine}
 use Rattle.nbd_files.specs.declared.fault.RunFault.{RunFault}
-use Rattle.nbd_files.specs.declared.fault.RunFault.TheVariants.{CaptureLine, CaptureRead, OrderLine, OrderRead, ImageRead, Write, Memory}
+use Rattle.nbd_files.specs.declared.fault.RunFault.TheVariants.{CaptureLine, CaptureRead, ContentsLine, ContentsRead, OrderLine, OrderRead, Write, Memory}
 use Rattle.nbd_judge.specs.declared.verdict.Verdict.{Verdict}
 use Rattle.nbd_judge.specs.Captures.{IsChecked}
 use Rattle.nbd_capture.specs.Writing.{AppendsPrefix}
 use Rattle.nbd_files.specs.declared.start.StartFrom.{StartFrom}
-use Rattle.nbd_files.specs.Starts.{HasImage}
+use Rattle.nbd_files.specs.Starts.{IsStartCause}
 use Rattle.nbd_tool.specs.Verdicts.{IsYes, line}
 
 -- known bytes are a capture text
@@ -37,6 +38,13 @@ IsOrderCause order (OrderLine n) = IfSome order (λ text. IsFirstBadOrderLine te
 IsOrderCause order OrderRead = Unit {0}
 IsOrderCause order Memory = Unit {0}
 IsOrderCause order _ = ⊥
+
+-- what a fault that came of reading a contents text says of its known bytes
+abbrev pub IsContentsCause : Option (List ℕ) → RunFault → Type 0
+IsContentsCause contents (ContentsLine n) = IfSome contents (λ text. IsFirstBadContentsLine text n)
+IsContentsCause contents ContentsRead = Unit {0}
+IsContentsCause contents Memory = Unit {0}
+IsContentsCause contents _ = ⊥
 
 -- the chunks' bytes with their senders
 abbrev pub flat_of : List Chunk → List Pair
@@ -66,16 +74,15 @@ AnswersExactly profile (Some text) (Some order_text) (Some initial) says =
 AnswersExactly profile capture order initial says = Unit {0}
 
 -- what a fault says of the known bytes of the capture and of the order, and of the start: the capture is judged first,
--- then the order
-abbrev pub IsCause : {I : Type 0} → (capture order : Option (List ℕ)) → StartFrom I → RunFault → Type 0
-IsCause capture order start (CaptureLine n) = IfSome capture (λ text. IsFirstBadCaptureLine text n)
-IsCause capture order start CaptureRead = Unit {0}
-IsCause capture order start (OrderLine n) = IsCapture capture × IfSome order (λ text. IsFirstBadOrderLine text n)
-IsCause capture order start OrderRead = IsCapture capture
-IsCause capture order start Write = IsCapture capture × IsOrder order
-IsCause capture order start Memory = Unit {0}
-IsCause capture order start ImageRead = IsCapture capture × IsOrder order × HasImage start
-IsCause capture order start _ = ⊥
+-- then the order, then the start
+abbrev pub IsCause : {I : Type 0} → (I → Option (List ℕ)) → (capture order : Option (List ℕ)) → StartFrom I → RunFault → Type 0
+IsCause remaining capture order start (CaptureLine n) = IfSome capture (λ text. IsFirstBadCaptureLine text n)
+IsCause remaining capture order start CaptureRead = Unit {0}
+IsCause remaining capture order start (OrderLine n) = IsCapture capture × IfSome order (λ text. IsFirstBadOrderLine text n)
+IsCause remaining capture order start OrderRead = IsCapture capture
+IsCause remaining capture order start Write = IsCapture capture × IsOrder order
+IsCause remaining capture order start Memory = Unit {0}
+IsCause remaining capture order start fault = IsCapture capture × IsOrder order × IsStartCause remaining start fault
 
 -- a prefix of the line of a verdict of the profile was written
 pub record TellsPrefix (profile : Profile) (capture order : Option (List ℕ)) (initial : Option Start)

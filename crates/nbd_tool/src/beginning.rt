@@ -1,16 +1,24 @@
 //! What is kept of what the export held when the session began.
 
-ghost use Rattle.std.specs.Prelude.{◌≡◌, ◌⊎◌, ◌<◌, ℕ, IfErr, IfOk, IfSome, Ok, OnOk, length};
+ghost use Rattle.std.specs.Prelude.{◌≡◌, ◌⊎◌, ◌<◌, ℕ, Option, IfErr, IfOk, IfSome, Ok, OnOk, length};
 ghost use Rattle.nbd_files.specs.declared.fault.RunFault.TheVariants.{ImageRead, Memory};
 ghost use Rattle.nbd_files.specs.declared.input.Text.TheVariants.{Longer};
+ghost use Rattle.nbd_wire.specs.protocol.Explains as definitions;
 ghost use Rattle.nbd_tool.specs.Beginnings.{IsBeginningOf, room_in};
-ghost use Rattle.nbd_files.specs.Starts.{HasImage, IsStartWithinLimit, IsWithinLimit, initial_from};
+ghost use Rattle.nbd_files.specs.Starts.{IsStartCause, IsStartWithinLimit, IsStartText, IsWithinLimit, OfStart, image_of};
 ghost use Rattle.nbd_files.specs.Texts.{IsText};
+ghost use Rattle.nbd_capture.specs.Contents.{IsContentsText};
+ghost use Rattle.nbd_export.specs.Held.{Held, held};
+ghost use Rattle.nbd_tool.specs.Runs.{IsContentsCause};
 
-use nbd_export::Start;
-use nbd_files::{Measured, READ_LIMIT, ReadFault, RunFault, StartFrom, Text, read_within};
+use nbd_capture::parse_contents;
+use nbd_export::{Extents, Start};
+use nbd_files::{
+    Measured, READ_LIMIT, ReadFault, RunFault, StartFrom, Text, read_whole, read_within,
+};
 use nbd_session::{SessionFault, Transcript};
 use std::alloc::{AllocError, Global};
+use std::io::Read;
 use std::rc::Rc;
 
 /// What the export held at first, as far as a verdict needs it.
@@ -37,23 +45,65 @@ pub fn room_of(finished: &Result<Transcript, SessionFault>) -> u64
 }
 
 /// Reads an image to its end, if there is one, and keeps it where it has no more than `room` bytes. One that is known to have more
-/// is not read.
+/// is not read. A contents text is read to its end, whatever its size says.
 pub fn read_start<I: Measured + Drop>(
     alloc: Global,
     start: StartFrom<I>,
     room: u64,
 ) -> Result<Beginning, RunFault>
-    ensures read { IfOk result (IsBeginningOf (initial_from I.remaining start) room) }
+    ensures read { IfOk result (λ beginning. OfStart I.remaining start (λ initial. IsBeginningOf initial room beginning)) }
     ensures limited { OnOk result (IsStartWithinLimit I.remaining start) }
-    ensures cause { IfErr result (λ fault. (fault ≡ ImageRead) × HasImage start ⊎ (fault ≡ Memory)) }
+    ensures cause { IfErr result (IsStartCause I.remaining start) }
 {
     match start {
         StartFrom::Unknown => Ok(Beginning::Whole(Start::Unknown)),
         StartFrom::Zeroes => Ok(Beginning::Whole(Start::Zeroes)),
-        StartFrom::Image(mut image) => match read_image(alloc, &mut image, room)? {
-            Text::Whole(bytes) => Ok(Beginning::Whole(Start::Image(shared(alloc, bytes)?))),
-            Text::Longer(count) => Ok(Beginning::Longer(count)),
-        },
+        StartFrom::Image(mut image) => begin_image(alloc, &mut image, room),
+        StartFrom::Contents(mut text) => begin_contents(alloc, &mut text),
+    }
+}
+
+// What is kept of an image.
+fn begin_image<I: Measured>(alloc: Global, image: &mut I, room: u64) -> Result<Beginning, RunFault>
+    ensures read { IfOk result (IsBeginningOf (image_of (I.remaining image.old)) room) }
+    ensures limited { OnOk result (IsWithinLimit (I.remaining image.old)) }
+    ensures cause { IfErr result (λ fault. (fault ≡ ImageRead) ⊎ (fault ≡ Memory)) }
+{
+    match read_image(alloc, image, room)? {
+        Text::Whole(bytes) => Ok(Beginning::Whole(Start::Image(shared(alloc, bytes)?))),
+        Text::Longer(count) => Ok(Beginning::Longer(count)),
+    }
+}
+
+// What is kept of a contents text.
+fn begin_contents<I: Read>(alloc: Global, text: &mut I) -> Result<Beginning, RunFault>
+    ensures read { IfOk result (λ beginning. (initial : Option definitions.Start) → IsStartText (I.remaining text.old) initial →
+        (room : ℕ) → IsBeginningOf initial room beginning) }
+    ensures limited { OnOk result (IsWithinLimit (I.remaining text.old)) }
+    ensures cause { IfErr result (IsContentsCause (I.remaining text.old)) }
+{
+    let contents = read_contents(alloc, text)?;
+    Ok(Beginning::Whole(Start::Contents(shared_contents(alloc, contents)?)))
+}
+
+// Contents, which others may share.
+fn shared_contents(alloc: Global, contents: Extents) -> Result<Rc<Extents>, AllocError>
+    ensures { IfOk result (λ rc. rc.value ≡ contents) }
+{
+    Ok(Rc::new(alloc, contents)?)
+}
+
+// What a contents text says.
+fn read_contents<I: Read>(alloc: Global, text: &mut I) -> Result<Extents, RunFault>
+    ensures text { IfOk result (λ contents. IfSome (I.remaining text.old)
+        (λ bytes. (read : Held) → IsContentsText bytes read → held contents ≡ read)) }
+    ensures limited { OnOk result (IsWithinLimit (I.remaining text.old)) }
+    ensures cause { IfErr result (IsContentsCause (I.remaining text.old)) }
+{
+    match read_whole(alloc, text) {
+        Ok(text) => Ok(parse_contents(alloc, text.as_slice())?),
+        Err(ReadFault::Read) => Err(RunFault::ContentsRead),
+        Err(ReadFault::Memory) => Err(RunFault::Memory),
     }
 }
 

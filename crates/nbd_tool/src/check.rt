@@ -4,9 +4,9 @@ ghost use Rattle.nbd_capture.specs.Order.{IsOrderText};
 ghost use Rattle.nbd_wire.specs.declared.entry.Entry.{Entry};
 ghost use Rattle.nbd_wire.specs.declared.profile.Profile.TheVariants.{Base};
 ghost use Rattle.nbd_tool.specs.Runs.{AnswersExactly, IsCapture, IsOrder, IsCause, IsOrderCause, LeavesWritten, SaysYes, Tells};
-ghost use Rattle.nbd_files.specs.declared.fault.RunFault.TheVariants.{ImageRead, Memory, Write};
+ghost use Rattle.nbd_files.specs.declared.fault.RunFault.TheVariants.{Write};
 ghost use Rattle.nbd_tool.specs.internal.Outcomes.{IsConcluded};
-ghost use Rattle.nbd_files.specs.Starts.{HasImage, IsStartWithinLimit, IsWithinLimit, initial_from};
+ghost use Rattle.nbd_files.specs.Starts.{IsStartCause, IsStartWithinLimit, IsWithinLimit, OfStart};
 
 use crate::beginning::{read_start, room_of};
 use crate::capture::{Unseen, session_over};
@@ -36,18 +36,19 @@ pub fn run_check<C: BufRead + Drop, O: Read + Drop, I: Measured + Drop, W: Write
     out: &mut W,
 ) -> Result<bool, RunFault>
     ensures written { IfOk result
-        (λ yes. Tells Base (C.remaining capture) (O.remaining order) (initial_from I.remaining start) yes
-        (W.contents out.old) (W.contents out.new)) }
+        (λ yes. OfStart I.remaining start (λ initial. Tells Base (C.remaining capture) (O.remaining order) initial yes
+        (W.contents out.old) (W.contents out.new))) }
     // Exactly where the order explains the capture the answer is yes.
-    ensures exactly { IfOk result (AnswersExactly Base (C.remaining capture) (O.remaining order) (initial_from I.remaining start)) }
-    ensures yes { SaysYes Base (C.remaining capture) (O.remaining order) (initial_from I.remaining start)
-        (W.contents out.old) (W.contents out.new) }
+    ensures exactly { IfOk result (λ yes. OfStart I.remaining start (λ initial.
+        AnswersExactly Base (C.remaining capture) (O.remaining order) initial yes)) }
+    ensures yes { OfStart I.remaining start (λ initial. SaysYes Base (C.remaining capture) (O.remaining order) initial
+        (W.contents out.old) (W.contents out.new)) }
     ensures well_formed { OnOk result (IsCapture (C.remaining capture) × IsOrder (O.remaining order)) }
     ensures limited { OnOk result (IsWithinLimit (C.remaining capture) × IsWithinLimit (O.remaining order)
         × IsStartWithinLimit I.remaining start) }
-    ensures cause { IfErr result (IsCause (C.remaining capture) (O.remaining order) start) }
-    ensures left { IfErr result (LeavesWritten Base (C.remaining capture) (O.remaining order)
-        (initial_from I.remaining start) (W.contents out.old) (W.contents out.new)) }
+    ensures cause { IfErr result (IsCause I.remaining (C.remaining capture) (O.remaining order) start) }
+    ensures left { IfErr result (λ fault. OfStart I.remaining start (λ initial. LeavesWritten Base (C.remaining capture)
+        (O.remaining order) initial (W.contents out.old) (W.contents out.new) fault)) }
 {
     run_check_of(alloc, Profile::Base, capture, order, start, out)
 }
@@ -67,18 +68,19 @@ pub fn run_check_of<C: BufRead + Drop, O: Read + Drop, I: Measured + Drop, W: Wr
     out: &mut W,
 ) -> Result<bool, RunFault>
     ensures written { IfOk result
-        (λ yes. Tells profile (C.remaining capture) (O.remaining order) (initial_from I.remaining start) yes
-        (W.contents out.old) (W.contents out.new)) }
+        (λ yes. OfStart I.remaining start (λ initial. Tells profile (C.remaining capture) (O.remaining order) initial yes
+        (W.contents out.old) (W.contents out.new))) }
     // Exactly where the order explains the capture in this profile the answer is yes.
-    ensures exactly { IfOk result (AnswersExactly profile (C.remaining capture) (O.remaining order) (initial_from I.remaining start)) }
-    ensures yes { SaysYes profile (C.remaining capture) (O.remaining order) (initial_from I.remaining start)
-        (W.contents out.old) (W.contents out.new) }
+    ensures exactly { IfOk result (λ yes. OfStart I.remaining start (λ initial.
+        AnswersExactly profile (C.remaining capture) (O.remaining order) initial yes)) }
+    ensures yes { OfStart I.remaining start (λ initial. SaysYes profile (C.remaining capture) (O.remaining order) initial
+        (W.contents out.old) (W.contents out.new)) }
     ensures well_formed { OnOk result (IsCapture (C.remaining capture) × IsOrder (O.remaining order)) }
     ensures limited { OnOk result (IsWithinLimit (C.remaining capture) × IsWithinLimit (O.remaining order)
         × IsStartWithinLimit I.remaining start) }
-    ensures cause { IfErr result (IsCause (C.remaining capture) (O.remaining order) start) }
-    ensures left { IfErr result (LeavesWritten profile (C.remaining capture) (O.remaining order)
-        (initial_from I.remaining start) (W.contents out.old) (W.contents out.new)) }
+    ensures cause { IfErr result (IsCause I.remaining (C.remaining capture) (O.remaining order) start) }
+    ensures left { IfErr result (λ fault. OfStart I.remaining start (λ initial. LeavesWritten profile (C.remaining capture)
+        (O.remaining order) initial (W.contents out.old) (W.contents out.new) fault)) }
 {
     let session = session_over(alloc, profile, capture, &mut Unseen)?;
     let verdict = verdict_over(alloc, profile, session.finish(), &mut order, start)?;
@@ -94,11 +96,12 @@ fn verdict_over<O: Read, I: Measured + Drop>(
     start: StartFrom<I>,
 ) -> Result<Verdict, RunFault>
     ensures verdict { IfOk result (λ v. (entries : List Entry) × IfSome (O.remaining order.old)
-        (λ text. IsOrderText text entries) × IsConcluded profile (initial_from I.remaining start) finished entries v) }
+        (λ text. IsOrderText text entries)
+        × OfStart I.remaining start (λ initial. IsConcluded profile initial finished entries v)) }
     ensures well_formed { OnOk result (IsOrder (O.remaining order.old)) }
     ensures limited { OnOk result (IsWithinLimit (O.remaining order.old) × IsStartWithinLimit I.remaining start) }
     ensures cause { IfErr result (λ fault. (known : Option (List ℕ)) → IsCapture known →
-        IsCause known (O.remaining order.old) start fault) }
+        IsCause I.remaining known (O.remaining order.old) start fault) }
     ensures reading { IfErr result (λ fault. fault ≢ Write) }
 {
     let order = read_order(alloc, order)?;
@@ -113,9 +116,9 @@ fn verdict_from<I: Measured + Drop>(
     order: &[Entry],
     start: StartFrom<I>,
 ) -> Result<Verdict, RunFault>
-    ensures verdict { IfOk result (IsConcluded profile (initial_from I.remaining start) finished order.now) }
+    ensures verdict { IfOk result (λ v. OfStart I.remaining start (λ initial. IsConcluded profile initial finished order.now v)) }
     ensures limited { OnOk result (IsStartWithinLimit I.remaining start) }
-    ensures cause { IfErr result (λ fault. (fault ≡ ImageRead) × HasImage start ⊎ (fault ≡ Memory)) }
+    ensures cause { IfErr result (IsStartCause I.remaining start) }
 {
     let start = read_start(alloc, start, room_of(&finished))?;
     Ok(conclude_from(alloc, profile, finished, order, start)?)

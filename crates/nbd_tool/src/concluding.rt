@@ -46,7 +46,7 @@ fn conclude_longer(
     image: u64,
 ) -> Result<Verdict, AllocError>
     ensures { IfOk result (λ v. (bytes : List ℕ) → image ≡ length bytes → room_in finished < image →
-        IsConclusion profile finished order.now (definitions.Image bytes) v) }
+        IsConclusion profile finished order.now (definitions.image bytes) v) }
 {
     match finished {
         Ok(transcript) => match transcript.export() {

@@ -20,7 +20,7 @@ pub struct BadWord {
 
 const BAD_START: BadWord = BadWord {
     fault: "fault start",
-    reason: "a start is unknown, zero, or image: and the path of a file",
+    reason: "a start is unknown, zero, or image: or contents: and the path of a file",
 };
 
 const BAD_PROFILE: BadWord = BadWord {
@@ -50,6 +50,8 @@ pub struct Asked<'a> {
     pub is_named: bool,
     /// Objects of JSON are wanted.
     pub is_json: bool,
+    /// The file that contents are compared with.
+    pub against: Option<&'a str>,
 }
 
 impl<'a> Asked<'a> {
@@ -73,6 +75,7 @@ impl<'a> Asked<'a> {
             is_arrival: words.get_flag("arrival"),
             is_named: words.get_flag("names"),
             is_json: words.get_flag("json"),
+            against: words.get_str("against"),
         })
     }
 }

@@ -6,7 +6,7 @@ ghost use Rattle.nbd_explain.specs.Answering as answering;
 ghost use Rattle.nbd_explain.specs.Ordering as ordering;
 
 use crate::asked::{Asked, BadWord};
-use crate::files::{Output, check_inputs, explain_files, order_files, write_of};
+use crate::files::{Output, check_inputs, contents_files, explain_files, order_files, write_of};
 use crate::hints::{tell_of_capture, tell_of_fault};
 use crate::linting::{Linting, lint_files};
 use crate::words::command;
@@ -103,6 +103,7 @@ fn run_asked(files: &mut Files<'_>, command: &str, asked: &Asked<'_>) -> u8 {
         "explain" => explain(files, asked),
         "order" if asked.is_arrival => arrival(files, asked),
         "order" => order(files, asked),
+        "contents" => contents(files, asked),
         "show" => show(files, asked),
         "make" => make(files, asked),
         _ => USAGE,
@@ -191,6 +192,12 @@ fn arrival(files: &mut Files<'_>, asked: &Asked<'_>) -> u8 {
     if let Ok(false) = answer {
         tell(files.rt, "no order: the session was refused");
     }
+    reported(files, &answer, asked)
+}
+
+/// `nbdcheck contents CAPTURE [ORDER] --start START [--against IMAGE]`.
+fn contents(files: &mut Files<'_>, asked: &Asked<'_>) -> u8 {
+    let answer = contents_files(files, asked);
     reported(files, &answer, asked)
 }
 

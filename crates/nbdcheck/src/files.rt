@@ -3,7 +3,7 @@
 use crate::asked::Asked;
 use nbd_capture::write_whole;
 use nbd_explain::{
-    Answer, Ordered, objects_of, run_arrival_of, run_explain_of, run_names_as_objects,
+    Answer, Ordered, objects_of, run_arrival_of, run_contents, run_explain_of, run_names_as_objects,
     run_names_of, run_order_of, run_show_as_objects, run_show_of,
 };
 use nbd_files::{
@@ -149,6 +149,54 @@ fn order_into<W: Write>(
         out,
         &mut Progress::new(terminal(rt)),
     )
+}
+
+/// Opens the files in the order capture, order, start, image, where there are such, and then writes what the session leaves.
+pub fn contents_files(files: &mut Files<'_>, asked: &Asked<'_>) -> Result<bool, RunFault> {
+    let rt = files.rt;
+    if asked.is_json {
+        let mut text = Vec::new(rt.alloc());
+        let is_yes = contents_into(files, asked, &mut text)?;
+        write_objects(rt, &text)?;
+        return Ok(is_yes);
+    }
+    let out = FinalWriter::new(io::writer(rt));
+    let Ok(mut out) = BufWriter::new(rt.alloc(), out) else {
+        return Err(RunFault::Memory);
+    };
+    let is_yes = contents_into(files, asked, &mut out)?;
+    match out.flush() {
+        Ok(()) => Ok(is_yes),
+        Err(_) => Err(RunFault::Write),
+    }
+}
+
+fn contents_into<W: Write>(
+    files: &mut Files<'_>,
+    asked: &Asked<'_>,
+    out: &mut W,
+) -> Result<bool, RunFault> {
+    let alloc = files.rt.alloc();
+    let capture = files.open_buffered(asked.input, RunFault::CaptureRead)?;
+    let order = opened(files, asked.order, RunFault::OrderRead)?;
+    let start = open_start(files, asked.start)?;
+    let against = opened(files, asked.against, RunFault::AgainstRead)?;
+    run_contents(alloc, asked.profile, capture, order, start, against, out)
+}
+
+// Opens the file with this path, if there is one.
+fn opened(
+    files: &mut Files<'_>,
+    path: Option<&str>,
+    fault: RunFault,
+) -> Result<Option<File>, RunFault> {
+    match path {
+        None => Ok(None),
+        Some(path) => match files.open(path) {
+            Ok(file) => Ok(Some(file)),
+            Err(_) => Err(fault),
+        },
+    }
 }
 
 /// What is written of a file.

@@ -23,7 +23,8 @@ pub fn tell_of_fault(files: &Files<'_>, fault: &RunFault, asked: &Asked<'_>) {
     match fault {
         RunFault::CaptureRead | RunFault::ScriptRead => hint_of_file(files, asked.input),
         RunFault::OrderRead => hint_of_file(files, order),
-        RunFault::ImageRead => hint_of_file(files, image_in(asked.start)),
+        RunFault::ImageRead | RunFault::ContentsRead => hint_of_file(files, path_in(asked.start)),
+        RunFault::AgainstRead => hint_of_file(files, asked.against.unwrap_or("")),
         RunFault::CaptureLine(number) => {
             if let Some(line) = shown_line(files, asked.input, *number) {
                 hint_at(files, capture_mistake(&line));
@@ -35,7 +36,7 @@ pub fn tell_of_fault(files: &Files<'_>, fault: &RunFault, asked: &Asked<'_>) {
                 hint_at(files, script_mistake(&line));
             }
         }
-        RunFault::Write | RunFault::Memory => {}
+        RunFault::ContentsLine(_) | RunFault::Write | RunFault::Memory => {}
     }
 }
 
@@ -48,10 +49,11 @@ fn hint_of_file(files: &Files<'_>, path: &str) {
     }
 }
 
-fn image_in<'a>(start: StartWord<'a>) -> &'a str {
+// The path of the image or of the contents text, where the start is one.
+fn path_in<'a>(start: StartWord<'a>) -> &'a str {
     match start {
-        StartWord::Image(path) => path,
-        _ => "",
+        StartWord::Image(path) | StartWord::Contents(path) => path,
+        StartWord::Unknown | StartWord::Zero => "",
     }
 }
 

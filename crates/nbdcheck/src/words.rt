@@ -38,6 +38,10 @@ enum Form {
         value: &'static str,
         usual: &'static str,
     },
+    // An option and what is named so in help.
+    Named {
+        value: &'static str,
+    },
     // An option and what is named so in help, which may stand more than once.
     Many {
         value: &'static str,
@@ -80,7 +84,14 @@ const START: Word = Word {
         value: "START",
         usual: USUAL_START,
     },
-    help: "What the export held at first: unknown, zero or image:PATH",
+    help: "What the export held at first: unknown, zero, image:PATH or contents:PATH",
+    excludes: &[],
+};
+
+const AGAINST: Word = Word {
+    name: "against",
+    form: Form::Named { value: "IMAGE" },
+    help: "Compares with this file in place of printing",
     excludes: &[],
 };
 
@@ -222,6 +233,12 @@ const COMMANDS: &[Told] = &[
         ],
     },
     Told {
+        name: "contents",
+        about: "What does a session leave on the export?",
+        help: CONTENTS_HELP,
+        words: &[CAPTURE, ORDER_IF_ANY, START, PROFILE, AGAINST, JSON, HINTS],
+    },
+    Told {
         name: "show",
         about: "Which messages does a capture hold?",
         help: SHOW_HELP,
@@ -256,7 +273,8 @@ Example:
 CAPTURE has a line for each recorded piece, 'C' or 'S' for its sender, a space and hexadecimal
 digits. ORDER has a line for each service, in their order: 'k' where request k was served atomically,
 'k offset length' where a part of it was, which has so many bytes from this offset of the export on.
-START is what the export held at first: unknown bytes, zeroes, or the bytes of a file.
+START is what the export held at first: unknown bytes, zeroes, the bytes of a file, or what a text says that
+'nbdcheck contents' printed.
 
 Exit status:
   0  yes
@@ -308,6 +326,27 @@ Exit status:
   3  an input could not be read or is not well formed, or the output could not be written
   4  out of memory
   5  the search gave up: the line says where; or none was found of whole requests. Nothing is proved";
+
+const CONTENTS_HELP: &str = "\
+Example:
+  nbdcheck contents session.cap --start zero > session.con
+
+Prints what the export holds behind the session, as a start of the next one takes it:
+  nbdcheck explain next.cap --start contents:session.con
+It has a line 'size n', and from offset o on 'zero o n', 'unknown o n' or 'data o' with hexadecimal digits.
+With ORDER it is what that order leaves, where it explains the session; where it does not the line of
+'nbdcheck check' is printed. Without ORDER it is what every order leaves that explains the session, as
+far as arrivals, replies and later READs show it; whether one does is what 'nbdcheck explain' says. Do
+not give an order that 'nbdcheck order' found: it may not be the one that the server took.
+With --against the contents are compared with a file: 'agrees known n unknown n', or 'no against' with
+the sizes, or with the least offset of a byte that is another one. 'no export': there was no transmission.
+
+Exit status:
+  0  the contents were printed, or the file agrees
+  1  no: the line says why
+  2  the command line has no form
+  3  an input could not be read or is not well formed, or the output could not be written
+  4  out of memory";
 
 const SHOW_HELP: &str = "\
 Example:
@@ -414,6 +453,7 @@ fn formed<'a>(argument: Arg<'a>, word: Word) -> Arg<'a> {
             .long(word.name)
             .value_name(value)
             .default_value(usual),
+        Form::Named { value } => argument.long(word.name).value_name(value),
         Form::Many { value } => argument
             .long(word.name)
             .value_name(value)

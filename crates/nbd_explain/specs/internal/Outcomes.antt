@@ -33,8 +33,10 @@ pub data IsToldOf (profile : Profile) (beginning : Beginning) (wanted : Wanted)
   of_refusal : (at : ℕ) (fault : WireFault) → IsToldOf profile beginning wanted (Err (Wire at fault)) Refuted
       (line (verdict.Wire at fault))
 
--- the same from a beginning that was read of this start
-abbrev pub IsToldFrom : Profile → Option Start → Wanted → Result Report SessionFault → Ordered → List ℕ → Type 0
-IsToldFrom profile start wanted finished ordered text =
-    (beginning : Beginning) × IsBeginningOf start (room_in finished) beginning
+-- the same from a beginning that was read of a start, which is so
+abbrev pub IsToldFrom : Profile → (Option Start → Type 0) → Wanted → Result Report SessionFault → Ordered → List ℕ
+    → Type 0
+IsToldFrom profile IsStart wanted finished ordered text =
+    (beginning : Beginning)
+    × ((initial : Option Start) → IsStart initial → IsBeginningOf initial (room_in finished) beginning)
     × IsToldOf profile beginning wanted finished ordered text

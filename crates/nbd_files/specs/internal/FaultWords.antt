@@ -1,7 +1,7 @@
 -- The parts of what is printed of a fault.
 use Rattle.std.specs.Prelude.{ℕ, List, Option, Some, None, codes}
 use Rattle.nbd_files.specs.declared.fault.RunFault.{RunFault}
-use Rattle.nbd_files.specs.declared.fault.RunFault.TheVariants.{CaptureLine, CaptureRead, OrderLine, OrderRead, ImageRead, ScriptLine, ScriptRead, Write, Memory}
+use Rattle.nbd_files.specs.declared.fault.RunFault.TheVariants.{CaptureLine, CaptureRead, OrderLine, OrderRead, ImageRead, ContentsLine, ContentsRead, AgainstRead, ScriptLine, ScriptRead, Write, Memory}
 
 -- what the fault was met in
 abbrev pub name_of : RunFault → List ℕ
@@ -10,6 +10,9 @@ name_of CaptureRead = codes "capture read"
 name_of (OrderLine n) = codes "order"
 name_of OrderRead = codes "order read"
 name_of ImageRead = codes "image read"
+name_of (ContentsLine n) = codes "contents"
+name_of ContentsRead = codes "contents read"
+name_of AgainstRead = codes "against read"
 name_of (ScriptLine n) = codes "script"
 name_of ScriptRead = codes "script read"
 name_of Write = codes "write"
@@ -19,5 +22,6 @@ name_of Memory = codes "memory"
 abbrev pub line_of : RunFault → Option ℕ
 line_of (CaptureLine n) = Some n
 line_of (OrderLine n) = Some n
+line_of (ContentsLine n) = Some n
 line_of (ScriptLine n) = Some n
 line_of fault = None

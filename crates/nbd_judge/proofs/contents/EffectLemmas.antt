@@ -1,5 +1,5 @@
 -- What an entry that is served compares and changes.
-use Rattle.nbd_judge.proofs.Common.{◌≡◌, ℕ, ◌+◌, ◌<◌, ◌≤◌, inl, inr, List, [], ◌∷◌, ◌++◌, sym, ◌∙◌, ap, subst, Option, Some, arith, true, slice_get, take, ◌⊎◌, Entry, in_part, Effect, IsWrong, IsWrongIn, IsWrongOf, byte_before, effect, effects, is_success, is_in, Asked, Report, AreSameBelow, IsLeast, contents_with_effect, contents_after, IsServable, HasWrongFrom, take_more, get_or_from_slice_get, slice_get_within, and_parts, cases_eq}
+use Rattle.nbd_judge.proofs.Common.{◌≡◌, ℕ, ◌+◌, ◌<◌, ◌≤◌, inl, inr, List, [], ◌∷◌, ◌++◌, sym, ◌∙◌, ap, subst, Option, Some, arith, true, slice_get, take_all, le_refl, length, take, ◌⊎◌, Entry, in_part, Effect, IsWrong, IsWrongIn, IsWrongOf, byte_before, effect, effects, is_success, is_in, Asked, Report, AreSameBelow, IsLeast, contents_with_effect, contents_after, IsServable, HasWrongFrom, take_more, get_or_from_slice_get, slice_get_within, and_parts, cases_eq}
 use Rattle.nbd_wire.specs.declared.commands.TheConstants as commands
 use Rattle.nbd_judge.proofs.contents.CompareLemmas.{from_in, least_as, wrong_of, wrong_there}
 use Rattle.nbd_judge.proofs.contents.ForwardLemmas.{after_push, applied_same, folding}
@@ -7,6 +7,13 @@ use Rattle.nbd_judge.proofs.contents.ForwardLemmas.{after_push, applied_same, fo
 -- the entries up to entry i
 pub taken_one : (order : List Entry) (i : ℕ) (e : Entry) → slice_get order i ≡ Some e → take (i + 1) order ≡ take i order ++ e ∷ []
 taken_one order i e at = take_more order i e (slice_get_within order i e at) ∙ ap (λ d. take i order ++ d ∷ []) (get_or_from_slice_get order i e e at)
+
+-- the contents behind the last entry
+pub behind : (requests : ℕ → Option Effect) (order : List Entry) (initial : ℕ → Option ℕ) (i x : ℕ) → length order ≤ i
+    → contents_after requests (take i order) initial x ≡ byte_before requests order initial (length order) x
+behind requests order initial i x le =
+    ap (λ es. contents_after requests es initial x) (take_all i order le ∙ sym (take_all (length order) order (le_refl (length order))))
+    ∙ folding requests order initial (length order) x
 
 module _ (size : ℕ) (requests : ℕ → Option Effect) (order : List Entry) (initial now : ℕ → Option ℕ) (i : ℕ) (entry : Entry) (here : slice_get order i ≡ Some entry)
     (same : AreSameBelow size now (contents_after requests (take i order) initial)) where

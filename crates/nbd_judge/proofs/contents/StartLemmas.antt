@@ -1,11 +1,15 @@
 -- A verdict depends on the bytes at first only below the export's size.
-use Rattle.nbd_judge.proofs.Common.{◌≡◌, ℕ, ◌+◌, ◌<◌, ◌≤◌, List, refl, sym, ◌∙◌, ap, arith, Option, Some, None, Result, Ok, Err, IfOk, take, inl, inr, ◌⊎◌, and_parts, Profile, Entry, in_part, is_in, Effect, IsWrong, effect, effect_if, effects, last_touch, byte_or_start, byte_before, FitsImage, Start, start_byte, Asked, Report, asked_at, Exporting, AreSameBelow, IsSoundReport, size_and_flags, Verdict, image_length, initial_of, size_of, HasWrongFrom, IsJudged, IsVerdict, FirstWrongFrom}
+use Rattle.nbd_judge.proofs.Common.{◌≡◌, ℕ, ◌+◌, ◌<◌, ◌≤◌, List, refl, sym, ◌∙◌, ap, arith, Option, Some, None, Result, Ok, Err, IfOk, take, subst, inl, inr, ◌⊎◌, and_parts, Profile, Entry, in_part, is_in, Effect, IsWrong, effect, effect_if, effects, last_touch, byte_or_start, byte_before, FitsImage, Start, start_byte, Asked, Report, asked_at, Exporting, AreSameBelow, IsSoundReport, size_and_flags, Verdict, given_length, initial_of, size_of, HasWrongFrom, IsJudged, IsVerdict, FirstWrongFrom}
 use Rattle.nbd_wire.specs.declared.commands.TheConstants as commands
-use Rattle.nbd_wire.specs.protocol.Explains.{Image}
+use Rattle.nbd_wire.specs.protocol.Explains.{Held, known}
 use Rattle.nbd_export.specs.Starts as contents
 use Rattle.nbd_export.specs.declared.start.Start as contents_start
 use Rattle.nbd_export.specs.declared.start.Start.TheVariants as contents_starts
 use Rattle.nbd_judge.specs.declared.verdict.Verdict.TheVariants as verdict
+use Rattle.std.specs.Prelude.{[], ◌∷◌, zero, suc, map, length, slice_get}
+use Rattle.std.proofs.lemmas.List.{length-map}
+use Rattle.nbd_export.specs.Extents.{byte_of, size_of as extent_size}
+use Rattle.nbd_export.proofs.HeldLemmas.{length-held_from, slice_get-held_from}
 use Rattle.nbd_judge.proofs.contents.CompareLemmas.{from_in, wrong_of, wrong_there}
 use Rattle.nbd_judge.proofs.orders.FirstLemmas.{first_of}
 use Rattle.nbd_judge.proofs.verdicts.SoundLemmas.{servable}
@@ -14,7 +18,7 @@ request_of : (o : Option Asked) (e : Effect) → effect_if o ≡ Some e → (a :
 request_of None e h = absurd (let q : None ≡ Some e = h in (cc))
 request_of (Some a) e h = (a, refl, (let q : Some (effect a) ≡ Some e = h in cc))
 
-left_same : (l : Option Effect) (f g : ℕ → Option ℕ) (x : ℕ) → f x ≡ g x → byte_or_start l f x ≡ byte_or_start l g x
+pub left_same : (l : Option Effect) (f g : ℕ → Option ℕ) (x : ℕ) → f x ≡ g x → byte_or_start l f x ≡ byte_or_start l g x
 left_same None f g x e = e
 left_same (Some l) f g x e = refl
 
@@ -76,12 +80,28 @@ pub no_export : (o : Option Exporting) → None ≡ size_and_flags o → o ≡ N
 no_export None h = refl
 no_export (Some e) h = absurd (let q : None ≡ Some (e.size, e.flags) = h in (cc))
 
-pub image_fits : (o : Option Exporting) (size : ℕ) (start : Start) → size_of o ≡ size → ((n : ℕ) → image_length start ≡ Some n → n ≡ size) → FitsImage o start
-image_fits (Some export) size (Image bytes) e h = h _ refl ∙ sym e
+pub image_fits : (o : Option Exporting) (size : ℕ) (start : Start) → size_of o ≡ size → ((n : ℕ) → given_length start ≡ Some n → n ≡ size) → FitsImage o start
+image_fits (Some export) size (Held bytes) e h = h _ refl ∙ sym e
 image_fits o size start e h = tt
 
+-- a start whose size is that of the export, where it has one, fits it
+pub start_fits : (size : ℕ) (start : contents_start.Start) → ((n : ℕ) → given_length (initial_of start) ≡ Some n → n ≡ size) → contents.FitsSize size start
+start_fits size contents_starts.Unknown h = tt
+start_fits size contents_starts.Zeroes h = tt
+start_fits size (contents_starts.Image image) h = sym (length-map image.value.items Some) ∙ h _ refl
+start_fits size (contents_starts.Contents given) h = sym (length-held_from (byte_of given.value) 0 (extent_size given.value)) ∙ h _ refl
+
+-- a byte of an image is known
+pub known_byte : (bytes : List ℕ) (x : ℕ) → slice_get bytes x ≡ known (slice_get (map Some bytes) x)
+known_byte [] x = refl
+known_byte (b ∷ bytes) zero = refl
+known_byte (b ∷ bytes) (suc x) = known_byte bytes x
+
 -- the byte at first of the program's start is that of the definitions'
-pub same_start : (start : contents_start.Start) (x : ℕ) → contents.start_byte start x ≡ start_byte (initial_of start) x
-same_start contents_starts.Unknown x = refl
-same_start contents_starts.Zeroes x = refl
-same_start (contents_starts.Image image) x = refl
+pub same_start : (size : ℕ) (start : contents_start.Start) → contents.FitsSize size start → AreSameBelow size (contents.start_byte start) (start_byte (initial_of start))
+same_start size contents_starts.Unknown fits x l = refl
+same_start size contents_starts.Zeroes fits x l = refl
+same_start size (contents_starts.Image image) fits x l = known_byte image.value.items x
+same_start size (contents_starts.Contents given) fits x l =
+    let at : x ≡ 0 + x = omega arith in
+    ap (byte_of given.value) at ∙ ap known (sym (slice_get-held_from (byte_of given.value) 0 (extent_size given.value) x (subst (λ n. x < n) (sym fits) l)))

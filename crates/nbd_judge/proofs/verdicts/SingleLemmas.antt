@@ -139,11 +139,11 @@ one_judgement profile r order initial (Status j x) (Status k y) v w = let one = 
 one_judgement profile r order initial t u v w = absurd w
 
 one_image : (o : Option Exporting) (start : Start) (i j s t : ℕ) → IsOtherSize o start i s → IsOtherSize o start j t → Image i s ≡ Image j t
-one_image (Some export) (starts.Image bytes) i j s t v w = (let p : i ≡ j = v.0 ∙ sym w.0 in let q : s ≡ t = v.1 ∙ sym w.1 in cc)
+one_image (Some export) (starts.Held bytes) i j s t v w = (let p : i ≡ j = v.0 ∙ sym w.0 in let q : s ≡ t = v.1 ∙ sym w.1 in cc)
 one_image o start i j s t v w = absurd v
 
 pub fits_not : (o : Option Exporting) (start : Start) (i s : ℕ) → FitsImage o start → IsOtherSize o start i s → ⊥
-fits_not (Some export) (starts.Image bytes) i s fits other = other.2 fits
+fits_not (Some export) (starts.Held bytes) i s fits other = other.2 fits
 fits_not o start i s fits other = other
 
 -- a verdict is on the image, or a judgement where the image fits

@@ -1,5 +1,5 @@
 -- What it means that an order of service explains a capture.
-use Rattle.std.specs.Prelude.{ℕ, List, ◌≡◌, Option, Some, None, length, slice_get}
+use Rattle.std.specs.Prelude.{ℕ, List, ◌≡◌, Option, Some, None, length, map, slice_get}
 use Rattle.nbd_wire.specs.declared.entry.Entry.{Entry}
 use Rattle.nbd_wire.specs.declared.profile.Profile.{Profile}
 use Rattle.nbd_wire.specs.declared.profile.Profile.TheVariants.{Base}
@@ -10,28 +10,37 @@ use Rattle.nbd_wire.specs.protocol.Reports.{Report, report}
 use Rattle.nbd_wire.specs.protocol.Operations.{Exporting}
 use Rattle.nbd_wire.specs.protocol.Rules.{IsRunOf}
 
--- what the export held at first: unknown bytes, zeroes, or these
+-- what the export held at first: unknown bytes, zeroes, or each of its bytes in order, None where it is unknown
 pub data Start : Type 0 where
   Unknown : Start
   Zeroes : Start
-  Image : (bytes : List ℕ) → Start
+  Held : (bytes : List (Option ℕ)) → Start
+
+-- the bytes of an image, which are all known
+abbrev pub image : List ℕ → Start
+image bytes = Held (map Some bytes)
+
+-- what is known of a byte, where there is one
+abbrev pub known : Option (Option ℕ) → Option ℕ
+known (Some byte) = byte
+known None = None
 
 -- the byte at x of the start, if it is known
 abbrev pub start_byte : Start → ℕ → Option ℕ
 start_byte Unknown x = None
 start_byte Zeroes x = Some 0
-start_byte (Image bytes) x = slice_get bytes x
+start_byte (Held bytes) x = known (slice_get bytes x)
 
--- an image has the size of the export; nothing is asked where there is no export or no image
+-- bytes that are given have the size of the export; nothing is asked where there is no export or no bytes are given
 abbrev pub FitsImage : Option Exporting → Start → Type 0
-FitsImage (Some export) (Image bytes) = length bytes ≡ export.size
+FitsImage (Some export) (Held bytes) = length bytes ≡ export.size
 FitsImage _ _ = Unit {0}
 
 -- no entry of the order serves a wrong byte
 abbrev pub HasNoWrongByte : Report → List Entry → Start → Type 0
 HasNoWrongByte r order initial = (i x : ℕ) → IsWrong (effects r) order (start_byte initial) i x → ⊥
 
--- some run of the profile has these bytes and is served in this order, an image has the export's size, and no byte
+-- some run of the profile has these bytes and is served in this order, a start of given bytes has the export's size, and no byte
 -- of a READ and no zero of a status that is served is wrong (this project's choice)
 pub record IsExplainedOf (profile : Profile) (capture : List Pair) (order : List Entry)
     (initial : Start) : Type 0 where

@@ -1,5 +1,5 @@
 use Rattle.nbd_judge.proofs.Common.{◌≡◌, ◌<◌, ℕ, Option, length, Some, None, slice_get, slice_index_or, refl, sym, ◌∙◌, ap, subst, arith, slice_get-get_or, slice_get_within, Entry, Effect, IsWrong, effect, effect_if, effects, Asked, AreSameBelow, report_of_request, contents_with_effect, IsServable}
-use Rattle.nbd_judge.proofs.contents.EffectLemmas.{next, none_through, served}
+use Rattle.nbd_judge.proofs.contents.EffectLemmas.{behind, next, none_through, served}
 use Rattle.nbd_judge.proofs.contents.PartLemmas.{well_placed}
 use Rattle.nbd_judge.proofs.contents.SortLemmas.{kept_sorted}
 use Rattle.nbd_judge.proofs.verdicts.SoundLemmas.{servable}
@@ -29,8 +29,8 @@ change-requires-clause-inside g c =
     well_placed c.args.transcript.now c.args.order.now c.loop-i.i e (slice_get-get_or c.args.order.now c.loop-i.i (record { request = 0; part = None }) c.loop-i-test.true)
     (report_of_request c.in-Some.one.now) (sym c.in-Some.ensures) (c.requires.well c.loop-i.i)
 
-pub returns-in-Some-found : goal.returns-in-Some-found
-returns-in-Some-found g c =
+pub returns-in-Some-found-clause-wrong : goal.returns-in-Some-found-clause-wrong
+returns-in-Some-found-clause-wrong g c =
     let size : ℕ = g.C.Contents.size c.args.contents.now in
     let requests : ℕ → Option Effect = effects c.args.transcript.now in
     let initial : ℕ → Option ℕ = g.C.Contents.byte c.args.contents.now in
@@ -85,5 +85,12 @@ loop-i-preserved g c =
           })
     ]
 
-pub returns : goal.returns
-returns g c = λ i h. c.loop-i.invariant.none i (let l : i < length c.args.order.now = slice_get_within c.args.order.now i h.1.0 h.1.1 in omega arith) h
+pub returns-clause-wrong : goal.returns-clause-wrong
+returns-clause-wrong g c = λ i h. c.loop-i.invariant.none i (let l : i < length c.args.order.now = slice_get_within c.args.order.now i h.1.0 h.1.1 in omega arith) h
+
+pub returns-clause-left : goal.returns-clause-left
+returns-clause-left g c = λ e. (
+  c.loop-i.invariant.size,
+  λ x l. c.loop-i.invariant.bytes x l
+      ∙ behind (effects c.args.transcript.now) c.args.order.now (g.C.Contents.byte c.args.contents.now) c.loop-i.i x c.loop-i-test.false,
+)

@@ -1,5 +1,6 @@
 -- Refusals that need no search over runs.
-use Rattle.nbd_laws.proofs.Common.{◌≡◌, ℕ, List, [], ◌∷◌, ◌++◌, length, refl, subst, inl, inr, arith, Entry, whole, Image, Start, Item, Pair, flat, Base, report, IsRunOf, MayStartIn, IsFaultless, IsNo}
+use Rattle.nbd_laws.proofs.Common.{◌≡◌, ℕ, List, [], ◌∷◌, ◌++◌, length, map, refl, subst, inl, inr, arith, Entry, whole, image, Some, Start, Item, Pair, flat, Base, report, IsRunOf, MayStartIn, IsFaultless, IsNo}
+use Rattle.std.proofs.lemmas.List.{length-map}
 use Rattle.nbd_laws.specs.captures.Openings as captures
 use Rattle.nbd_laws.proofs.worked.DecidingRunLemmas.{is_run}
 use Rattle.nbd_laws.proofs.service.ExplainingLemmas.{failing_is_no}
@@ -20,7 +21,7 @@ opening_run = is_run opening_items refl refl refl refl
 
 pub returns-clause-wrong_image : goal.returns-clause-wrong_image
 unfolding opening_items computing
-returns-clause-wrong_image c bytes e = failing_is_no opening_items (flat captures.opening) [] (Image bytes) opening_run refl (λ p. (let q : length bytes ≡ 8 = p.fits_image in absurd (omega arith)))
+returns-clause-wrong_image c bytes e = failing_is_no opening_items (flat captures.opening) [] (image bytes) opening_run refl (λ p. (let q : length (map Some bytes) ≡ 8 = p.fits_image in let l = length-map bytes Some in absurd (omega (arith, q, l))))
 
 -- whatever the capture, no run serves a request twice
 pub returns-clause-named_twice : goal.returns-clause-named_twice

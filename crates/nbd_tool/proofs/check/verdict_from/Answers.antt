@@ -2,8 +2,8 @@ use Rattle.nbd_tool.proofs.Common.{subst, IsReadAs, room_in}
 use Rattle.nbd_tool.proofs.check.verdict_from.Goals as goal
 
 pub returns-clause-verdict : goal.returns-clause-verdict
-returns-clause-verdict g c =
-    let begun = c.in_ok-start.ensures.read in
+returns-clause-verdict g c = λ initial is_initial.
+    let begun = c.in_ok-start.ensures.read initial is_initial in
     let is_read : IsReadAs (room_in c.args.finished) begun.initial c.in_ok-start.start = subst (λ n. IsReadAs n begun.initial c.in_ok-start.start) c.room_of.ensures begun.is_read in
     record {
       initial = begun.initial;

@@ -1,0 +1,5 @@
+use Rattle.nbd_capture.proofs.ContentsTextLemmas.{no_reading}
+use Rattle.nbd_capture.proofs.laws.no_contents_with_a_bad_line.Goals as goal
+
+pub returns : goal.returns
+returns c = no_reading

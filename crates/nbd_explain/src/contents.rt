@@ -1,0 +1,247 @@
+//! The command `contents`, over any readers and writer.
+
+ghost use Rattle.std.specs.Prelude.{OnOk};
+ghost use Rattle.nbd_tool.specs.Runs.{IsCapture};
+ghost use Rattle.nbd_files.specs.Starts.{IsStartWithinLimit, IsWithinLimit};
+ghost use Rattle.nbd_explain.specs.Explained.{IsOrderWithinLimit};
+
+use nbd_capture::{write_contents, write_whole};
+use nbd_export::{Contents, Extents, Kind, Start};
+use nbd_files::{Measured, PORTION, READ_LIMIT, RunFault, StartFrom};
+use nbd_judge::Verdict;
+use nbd_order::{Left, left_by, left_by_each};
+use nbd_session::{SessionFault, Transcript};
+use nbd_tool::{Beginning, Unseen, read_order, read_start, room_of, session_over, write_verdict};
+use nbd_wire::{Entry, Profile};
+use std::alloc::{AllocError, Global};
+use std::io::{BufRead, Read, Write};
+
+/// What a session without an export leaves.
+const NO_EXPORT: &str = "no export\n";
+
+/// Reads a capture text to its end, then an order text and a start, if there are such, and writes what the order leaves of
+/// the session, or without an order what every order leaves that explains it, as a contents text; or, with an image,
+/// whether that agrees with it. Answers true where a text was written, and where the image agrees.
+///
+/// Where the answer of `check` is no yes its line is written, and `no export` where transmission was not reached; without an
+/// order that line is one of a refused session, or of a start of another size. The image is read last, and only where there
+/// are contents; where it is known to have another size it is not read. An `Err` is a fault of a text, of a reader or of the
+/// writer, or out of memory. After `Write` a prefix of the lines stands written, after another fault nothing.
+pub fn run_contents<
+    C: BufRead + Drop,
+    O: Read + Drop,
+    I: Measured + Drop,
+    A: Measured + Drop,
+    W: Write,
+>(
+    alloc: Global,
+    profile: Profile,
+    capture: C,
+    order: Option<O>,
+    start: StartFrom<I>,
+    against: Option<A>,
+    out: &mut W,
+) -> Result<bool, RunFault>
+    ensures well_formed { OnOk result (IsCapture (C.remaining capture)) }
+    ensures limited { OnOk result (IsWithinLimit (C.remaining capture)) }
+    ensures order_limited { OnOk result (IsOrderWithinLimit O.remaining order) }
+    ensures start_limited { OnOk result (IsStartWithinLimit I.remaining start) }
+{
+    let session = session_over(alloc, profile, capture, &mut Unseen)?;
+    let left = left_over(alloc, profile, session.finish(), order, start)?;
+    write_left(alloc, left, against, out)
+}
+
+// What is left of a finished session, from the order and the start that are read.
+fn left_over<O: Read + Drop, I: Measured + Drop>(
+    alloc: Global,
+    profile: Profile,
+    finished: Result<Transcript, SessionFault>,
+    order: Option<O>,
+    start: StartFrom<I>,
+) -> Result<Left, RunFault>
+    ensures order_limited { OnOk result (IsOrderWithinLimit O.remaining order) }
+    ensures start_limited { OnOk result (IsStartWithinLimit I.remaining start) }
+{
+    match order {
+        Some(mut order) => {
+            let entries = read_order(alloc, &mut order)?;
+            let start = read_start(alloc, start, room_of(&finished))?;
+            left_of(alloc, profile, finished, Some(&entries), start)
+        }
+        None => {
+            let start = read_start(alloc, start, room_of(&finished))?;
+            left_of(alloc, profile, finished, None, start)
+        }
+    }
+}
+
+// The same of what was read.
+fn left_of(
+    alloc: Global,
+    profile: Profile,
+    finished: Result<Transcript, SessionFault>,
+    order: Option<&[Entry]>,
+    start: Beginning,
+) -> Result<Left, RunFault> {
+    match finished {
+        Ok(transcript) => Ok(left_from(alloc, profile, &transcript, order, start)?),
+        Err(SessionFault::Wire { at, fault }) => Ok(Left::Refused(Verdict::Wire { at, fault })),
+        Err(SessionFault::Memory) => Err(RunFault::Memory),
+    }
+}
+
+// The same of a session that was accepted.
+fn left_from(
+    alloc: Global,
+    profile: Profile,
+    transcript: &Transcript,
+    order: Option<&[Entry]>,
+    start: Beginning,
+) -> Result<Left, AllocError> {
+    let start = match (start, transcript.export()) {
+        (Beginning::Whole(start), _) => start,
+        (Beginning::Longer(image), Some((size, _))) => {
+            return Ok(Left::Refused(Verdict::Image { image, size }));
+        }
+        (Beginning::Longer(_), None) => Start::Unknown,
+    };
+    match order {
+        Some(order) => left_by(alloc, profile, transcript, order, start),
+        None => left_by_each(alloc, transcript, start),
+    }
+}
+
+// Writes what is left, or whether it agrees with an image.
+fn write_left<A: Measured + Drop, W: Write>(
+    alloc: Global,
+    left: Left,
+    against: Option<A>,
+    out: &mut W,
+) -> Result<bool, RunFault> {
+    match (left, against) {
+        (Left::Refused(verdict), _) => write_verdict(alloc, verdict, out),
+        (Left::NoExport, _) => {
+            write_whole(out, NO_EXPORT.as_bytes())?;
+            Ok(false)
+        }
+        (Left::Contents(contents), None) => {
+            write_contents(out, &contents)?;
+            Ok(true)
+        }
+        (Left::Contents(contents), Some(mut image)) => {
+            let compared = comparison(alloc, &contents, &mut image)?;
+            write_compared(alloc, &compared, out)
+        }
+    }
+}
+
+/// How contents and an image compare.
+#[derive(Clone, Copy)]
+enum Compared {
+    /// They agree: how many bytes are known, and how many are not.
+    Agree { known: u64, unknown: u64 },
+    /// The image has so many bytes, and the export has this size.
+    Sizes { image: u64, size: u64 },
+    /// The least offset of a known byte that is another one in the image.
+    Differ { offset: u64 },
+}
+
+// Writes how they compare; true where they agree.
+fn write_compared<W: Write>(
+    alloc: Global,
+    compared: &Compared,
+    out: &mut W,
+) -> Result<bool, RunFault> {
+    let text = line_of(alloc, compared)?;
+    write_whole(out, text.as_bytes())?;
+    Ok(matches!(compared, Compared::Agree { .. }))
+}
+
+fn line_of(alloc: Global, compared: &Compared) -> Result<String, AllocError> {
+    match compared {
+        Compared::Agree { known, unknown } => {
+            format!(in alloc; "agrees known {known} unknown {unknown}\n")
+        }
+        Compared::Sizes { image, size } => format!(in alloc; "no against {image} size {size}\n"),
+        Compared::Differ { offset } => format!(in alloc; "no against offset {offset}\n"),
+    }
+}
+
+// Reads an image to its end and compares it with contents, unless it is known to have another size.
+fn comparison<A: Measured>(
+    alloc: Global,
+    contents: &Extents,
+    image: &mut A,
+) -> Result<Compared, RunFault> {
+    let size = contents.size();
+    if let Some(image) = image.bytes_left() {
+        if image != size {
+            return Ok(Compared::Sizes { image, size });
+        }
+    }
+    let mut portion = vec![in alloc; 0u8; PORTION]?;
+    let (image, first) = read_against(contents, image, portion.as_mut_slice())?;
+    Ok(match first {
+        _ if image != size => Compared::Sizes { image, size },
+        Some(offset) => Compared::Differ { offset },
+        None => {
+            let known = known_count(contents);
+            let unknown = size.saturating_sub(known);
+            Compared::Agree { known, unknown }
+        }
+    })
+}
+
+// How many bytes an image has, and the least offset of a known byte that is another one there.
+fn read_against<A: Read>(
+    contents: &Extents,
+    image: &mut A,
+    portion: &mut [u8],
+) -> Result<(u64, Option<u64>), RunFault> {
+    let mut count = 0u64;
+    let mut first = None;
+    for _ in 0..READ_LIMIT {
+        let Ok(more) = image.read(portion) else {
+            return Err(RunFault::AgainstRead);
+        };
+        if more == 0 {
+            return Ok((count, first));
+        }
+        if first.is_none() {
+            first = first_other(contents, count, &portion[..more]);
+        }
+        count = count.saturating_add(more as u64);
+    }
+    Err(RunFault::AgainstRead)
+}
+
+// The least offset from this one on of a known byte that is another one than in `bytes`, as far as the export goes.
+fn first_other(contents: &Extents, offset: u64, bytes: &[u8]) -> Option<u64> {
+    let size = contents.size();
+    if offset >= size {
+        return None;
+    }
+    let rest = size - offset;
+    if bytes.len() as u64 <= rest {
+        contents.differs(offset, bytes)
+    } else {
+        contents.differs(offset, &bytes[..rest as usize])
+    }
+}
+
+// How many bytes are known.
+fn known_count(contents: &Extents) -> u64 {
+    let (mut at, mut count) = (0u64, 0u64);
+    for _ in 0..contents.ranges() {
+        if at >= contents.size() {
+            break;
+        }
+        let (kind, end) = contents.range_at(at);
+        if kind != Kind::Unknown {
+            count = count.saturating_add(end - at);
+        }
+        at = end;
+    }
+    count
+}

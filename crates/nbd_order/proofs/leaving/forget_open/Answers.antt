@@ -1,0 +1,42 @@
+use Rattle.nbd_order.proofs.Common.{◌≡◌, ℕ, Option, Some, None, refl, sym, ◌∙◌, ap, subst, arith, take}
+use Rattle.std.specs.Prelude.{◌<◌, ◌≤◌, true, false, slice_get, length}
+use Rattle.std.proofs.lemmas.List.{take_all}
+use Rattle.nbd_state.specs.Transcripts.{report_of_request}
+use Rattle.nbd_order.specs.Leaving.{forgotten}
+use Rattle.nbd_order.proofs.LeavingLemmas.{at_next, step_closed, step_none, step_open}
+use Rattle.nbd_order.proofs.leaving.forget_open.Goals as goal
+use Rattle.nbd_order.proofs.leaving.forget_open.Goals.{in-Some+then-is_open+in_ok-erase, in-Some+else-is_open, in_default}
+
+pub loop-i-init : goal.loop-i-init
+loop-i-init g c = record { size = refl; done = λ x l. refl }
+
+pub returns-in_err-erase-clause-size : goal.returns-in_err-erase-clause-size
+returns-in_err-erase-clause-size g c = c.erase.ensures.size ∙ c.loop-i.invariant.size
+
+pub loop-i-preserved : goal.loop-i-preserved
+loop-i-preserved g c =
+    let asked = c.args.transcript.now.asked in
+    let old : ℕ → Option ℕ = g.C.Contents.byte c.args.contents.now in
+    elim c.match-asked.branch [
+      | in-Some+then-is_open+in_ok-erase w ↦ record {
+        size = ap g.C.Contents.size w.contents-is ∙ w.erase.ensures.size ∙ c.loop-i.invariant.size;
+        done = λ x l. ap (λ s. g.C.Contents.byte s x) w.contents-is
+            ∙ (rw w.range_of.ensures at w.in_ok-erase.ensures.done) x (subst (λ (n : ℕ). x < n) (sym c.loop-i.invariant.size) l)
+            ∙ step_open asked c.loop-i.i (report_of_request w.in-Some.one.now) (sym (at_next asked c.loop-i.i) ∙ sym w.in-Some.ensures) old x (sym w.is_open.ensures ∙ w.if-is_open.true) (g.C.Contents.byte c.loop-i.contents) (c.loop-i.invariant.done x l);
+      }
+      | in-Some+else-is_open w ↦ record {
+        size = ap g.C.Contents.size w.contents-is ∙ c.loop-i.invariant.size;
+        done = λ x l. ap (λ s. g.C.Contents.byte s x) w.contents-is ∙ c.loop-i.invariant.done x l ∙ step_closed asked c.loop-i.i (report_of_request w.in-Some.one.now) (sym (at_next asked c.loop-i.i) ∙ sym w.in-Some.ensures) old x (sym w.is_open.ensures ∙ w.if-is_open.false);
+      }
+      | in_default w ↦ record {
+        size = ap g.C.Contents.size w.contents-is ∙ c.loop-i.invariant.size;
+        done = λ x l. ap (λ s. g.C.Contents.byte s x) w.contents-is ∙ c.loop-i.invariant.done x l ∙ ap (λ l. forgotten l old x) (sym (step_none asked c.loop-i.i (sym (at_next asked c.loop-i.i) ∙ sym w.in_default.ensures)));
+      }
+    ]
+
+pub returns-clause-size : goal.returns-clause-size
+returns-clause-size g c = c.loop-i.invariant.size
+
+pub returns-clause-done : goal.returns-clause-done
+returns-clause-done g c = λ x l. c.loop-i.invariant.done x l
+    ∙ ap (λ asked. forgotten asked (g.C.Contents.byte c.args.contents.now) x) (take_all c.loop-i.i c.args.transcript.now.asked (subst (λ (n : ℕ). n ≤ c.loop-i.i) c.count-i-end.ensures.count c.loop-i-test.false))
