@@ -5,7 +5,8 @@ scripts round it: the build, the installation, the conversions of recordings and
     test_program.py [PART ..]
 
 The last line is `N passed, M failed`. A part is one of the files test_PART.py; without a word all of them are run. PART.FUNCTION runs a
-function of a part that asks for more, or for less: cuts.at_each_byte, heads.by_model, search.by_hand, search.by_model.
+function of a part that asks for more, or for less: contents.many, contents.by_model, cuts.at_each_byte, heads.by_model,
+search.by_hand, search.by_model.
 """
 
 import os

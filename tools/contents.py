@@ -42,9 +42,6 @@ class Contents:
         self.size, self.ranges = size, [each for each in ranges if each[0] < each[1]]
         self.ends = [end for _, end, _ in self.ranges]
 
-    def __eq__(self, other):
-        return printed(self) == printed(other)
-
     def between(self, begin, end):
         """The parts of a range, and what stands in them."""
         for first, last, held in islice(self.ranges, bisect(self.ends, begin), None):
