@@ -135,6 +135,8 @@ def try_rows(tally, room):
 
 def printed_again(tally):
     """What was printed is read again as the same, and two texts of one contents are printed alike."""
+    example = (TOP / "docs/CHAINS.md").read_text().split("## The text")[1].split("```\n")[1].encode()
+    tally.want("the text of docs/CHAINS.md", printed(parsed(example)), example)
     for seed in range(300):
         dice, size = random.Random(f"text {seed}"), random.Random(seed).choice((1, 31, 32, 33, 70, 200))
         held = [dice.choice((None, None, 0, 0, 0, dice.randrange(256))) for _ in range(size)]
