@@ -21,8 +21,8 @@ from built import TOP, Tally, build
 PARTS = {path.stem.removeprefix("test_"): f"{path.parent.name}.{path.stem}"
          for path in sorted((TOP / "tests").glob("*/test_*.py"), key=lambda path: path.name)}
 # Parts that measure seconds, or in which programs wait for one another: each of them has the machine for itself, behind the others.
-ALONE = ("build", "picture_pages", "record", "record_answers", "record_apart", "record_endings", "record_programs", "record_refusals", "record_reports",
-         "record_suites", "record_tls", "sizes")
+ALONE = ("build", "picture_pages", "record", "record_answers", "record_apart", "record_chains", "record_endings", "record_programs",
+         "record_refusals", "record_reports", "record_suites", "record_tls", "sizes")
 
 
 def run_part(name):
