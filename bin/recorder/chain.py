@@ -7,7 +7,7 @@ from .answers import GAVE_UP, NO, YES
 from .apart import Connections
 from .room import reason_of, remove
 
-CAPTURE, TEXT = ".cap", ".con"
+CAPTURE, TEXT, PART = ".cap", ".con", ".part"
 # What `nbdcheck contents` says of a session that came to no export, and of a start of another size.
 NO_EXPORT, NO_IMAGE = "no export", "no image "
 
@@ -45,6 +45,11 @@ def groups_of(connections):
         groups[-1].append(held)
         last = held.last if last is None else max(last, held.last)
     return groups
+
+
+def text_of(held):
+    """The path of the text beside a connection's capture."""
+    return held.path.removesuffix(CAPTURE) + TEXT
 
 
 def may_change(held):
@@ -103,6 +108,14 @@ class Chain:
         self.names = set()
         if self.links:
             self.links[0].begin(Start(self.words.start), self.names)
+        self._remove_old(recording.recorded())
+
+    def _remove_old(self, recorded):
+        """Removes texts of an earlier recording that stand beside the captures of this one, but for the start."""
+        start = os.path.realpath(self.words.start.partition(":")[2])
+        for path in map(text_of, recorded if self.words.asks else []):
+            if os.path.realpath(path) != start:
+                remove(path)
 
     def link(self, held):
         return self.by_number[held.number]
@@ -137,18 +150,22 @@ class Chain:
         return left if may_change(held) else link.start
 
     def _told(self, link, held, answer):
-        """What a connection left, in a text beside its capture."""
-        path = held.path.removesuffix(CAPTURE) + TEXT
+        """What a connection left, in a text beside its capture, which may be the start itself up to then."""
+        path, order = text_of(held), self._order(link, held, answer)
+        part = path + PART
         try:
-            status, line = self.nbdcheck.contents(held.path, self._order(link, held, answer), link.start.word, path)
+            status, line = self.nbdcheck.contents(held.path, order, link.start.word, part)
+            if status == YES:
+                os.replace(part, path)
+                return Start(f"contents:{path}", held.number)
         except OSError as error:
             self.tell(f"cannot write {path}: {reason_of(error)}")
             return LOST
-        if status == YES:
-            return Start(f"contents:{path}", held.number)
-        remove(path)
-        # (of an image of another size each session says so)
-        return link.start if status == NO and line.startswith((NO_EXPORT, NO_IMAGE)) else LOST
+        finally:
+            remove(part)
+        # (of a start that was given each session says that it has another size)
+        is_as_before = line == NO_EXPORT or link.start.left_by is None and line.startswith(NO_IMAGE)
+        return link.start if status == NO and is_as_before else LOST
 
     def _order(self, link, held, answer):
         """The order that explains a session, where it was given or is that of arrival: a found one is one of many."""
