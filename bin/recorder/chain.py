@@ -83,10 +83,10 @@ class Link:
         self.is_other = bool(names) and not self.names <= names
         self.start = LOST if self.is_other else start
 
-    def asking(self):
+    def last_word(self):
         """The connection whose contents are those of all: the one that may have changed anything, or one that asked."""
-        asking = [held for held in self.group if not held.requests.is_none()]
-        return next(filter(may_change, asking), asking[0] if asking else None)
+        there = [held for held in self.group if held.path is not None and not held.is_empty()]
+        return max(there, key=lambda held: (may_change(held), not held.requests.is_none()), default=None)
 
     def loses_all(self):
         is_one = len(self.names) <= 1 and sum(map(may_change, self.group)) <= 1
@@ -141,7 +141,7 @@ class Chain:
 
     def _left(self, link):
         """What the connections of a link left."""
-        held = link.asking()
+        held = link.last_word()
         if link.loses_all():
             return LOST
         if held is None or not (self.keeps_all or self.links and may_change(held)):

@@ -166,7 +166,7 @@ def texts(tally, folder):
     """With --keep the texts stay beside the captures; else one from which a capture was judged that is kept."""
     kept, zeroes = f"{folder}/kept", "00" * 14
     status, lines, _ = client_of(folder, [WRITES, READS, EXPORT], "zero", "--keep", kept)
-    captures, names = [f"session.{number}.cap" for number in (1, 2, 3)], ["session.1.con", "session.2.con"]
+    captures, names = ([f"session.{number}.{kind}" for number in (1, 2, 3)] for kind in ("cap", "con"))
     tally.want("--keep", (status, sorted(os.listdir(kept))), (0, sorted(captures + names)))
     for name in names:
         tally.want(f"--keep: {name}", Path(kept, name).read_text(), f"size 16\ndata 0 6162{zeroes}\n")
@@ -179,8 +179,8 @@ def texts(tally, folder):
     again, changes = ["--keep", kept], EXPORT + got(1, 0, b"ab") + written(2, 0, b"b")
     tally.want("the start is a text there", client_of(folder, [changes], start, *again)[1][0], yes(2))
     tally.want("the text is another one", Path(kept, "session.1.con").read_text(), f"size 16\ndata 0 6262{zeroes}\n")
-    tally.want("without a request", (client_of(folder, [EXPORT, EXPORT], start, *again)[0], sorted(os.listdir(kept))),
-               (0, sorted([*captures, "session.1.con"])))
+    tally.want("without an export", (client_of(folder, [EXPORT, LISTED], start, *again)[0], sorted(os.listdir(kept))),
+               (0, sorted([*captures, "session.1.con", "session.3.con"])))
     found = ended("--to", "1", "--start", "contents:/none", "--", "{uri}")
     reason = "nbdcheck-record: --start contents:/none: No such file or directory\n"
     tally.want("--start contents: of no file", found, (3, "", reason))
