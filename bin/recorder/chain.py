@@ -169,7 +169,7 @@ class Chain:
 
     def _order(self, link, held, answer):
         """The order that explains a session, where it was given or is that of arrival: a found one is one of many."""
-        if answer.status != YES or link.connections.apart(held).reason is not None:
+        if answer.status != YES or held.requests.is_none() or link.connections.apart(held).reason is not None:
             return None
         if self.words.arrival:
             return self.order if self.nbdcheck.arrival(held.path, self.order)[0] == YES else None
