@@ -20,7 +20,7 @@ _nbdcheck() {
         [explain]="--start --profile --states --steps --json --hints --help"
         [order]="--start --profile --whole --arrival --states --steps --json --hints --help"
         [show]="--names --profile --json --hints --help"
-        [contents]="--start --profile --against --hints --help"
+        [contents]="--start --profile --against --json --hints --help"
         [lint]="--profile --level --allow --json --list --hints --help"
         [make]="--hints --help"
         [help]=""

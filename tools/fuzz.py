@@ -177,7 +177,7 @@ class Fuzz:
             is_told = found.status == 3 and not found.out and self.is_bad_text(name, found.err, order)
         if not is_told:
             raise Wrong(f"{name}: {found.status} {found.out[-200:]!r} {found.err[-200:]!r}")
-        if name not in ("make", "contents") and not self.is_again:
+        if name != "make" and not self.is_again:
             self.in_objects(name, found, words)
         return found
 
