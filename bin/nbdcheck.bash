@@ -1,15 +1,15 @@
 # Completions of nbdcheck and of the programs round it for bash.
 
 _nbdcheck_words() {
-    # Those of the words $1 that begin as $2 does; they are no names of files. Behind `image:` a path goes on.
+    # Those of the words $1 that begin as $2 does; they are no names of files. Behind a colon a path goes on.
     mapfile -t COMPREPLY < <(compgen -W "$1" -- "$2")
     compopt +o filenames 2>/dev/null
-    [[ ${COMPREPLY[0]:-} = image: ]] && compopt -o nospace 2>/dev/null
+    [[ ${COMPREPLY[0]:-} = *: ]] && compopt -o nospace 2>/dev/null
     return 0
 }
 
 _nbdcheck_files() {
-    # A colon ends a word: the path behind `image:` is a word of its own.
+    # A colon ends a word: the path behind it is a word of its own.
     mapfile -t COMPREPLY < <(compgen -f -- "${1#:}")
 }
 
@@ -20,11 +20,12 @@ _nbdcheck() {
         [explain]="--start --profile --states --steps --json --hints --help"
         [order]="--start --profile --whole --arrival --states --steps --json --hints --help"
         [show]="--names --profile --json --hints --help"
+        [contents]="--start --profile --against --json --hints --help"
         [lint]="--profile --level --allow --json --list --hints --help"
         [make]="--hints --help"
         [help]=""
     )
-    local starts="unknown zero image:"
+    local starts="unknown zero image: contents:"
     local word=${COMP_WORDS[COMP_CWORD]} before=${COMP_WORDS[COMP_CWORD - 1]} name=${COMP_WORDS[1]:-}
 
     if [ "$COMP_CWORD" = 1 ]; then
@@ -78,7 +79,7 @@ complete -o filenames -F _pcap_to_capture pcap-to-capture
 
 _nbdcheck_picture() {
     # The names of a capture and of an order, or an option.
-    local starts="unknown zero image:"
+    local starts="unknown zero image: contents:"
     local word=${COMP_WORDS[COMP_CWORD]} before=${COMP_WORDS[COMP_CWORD - 1]}
 
     if [ "$before" = --start ]; then
@@ -95,9 +96,9 @@ _nbdcheck_picture() {
 complete -o filenames -F _nbdcheck_picture nbdcheck-picture
 
 _nbdcheck_record() {
-    local asked="--to --listen --start --arrival --order --profile --no-lint --refuse --strict --format --report --keep --out --help"
-    asked="$asked --tls-certificates --tls-psk"
-    local starts="unknown zero image:"
+    local asked="--to --listen --start --arrival --order --apart --profile --no-lint --refuse --strict --format --report"
+    asked="$asked --keep --out --help --tls-certificates --tls-psk"
+    local starts="unknown zero image: contents:"
     local options="list starttls info go structured-reply list-meta-context set-meta-context extended-headers"
     local word=${COMP_WORDS[COMP_CWORD]} before=${COMP_WORDS[COMP_CWORD - 1]} at
 

@@ -5,7 +5,8 @@ scripts round it: the build, the installation, the conversions of recordings and
     test_program.py [PART ..]
 
 The last line is `N passed, M failed`. A part is one of the files test_PART.py; without a word all of them are run. PART.FUNCTION runs a
-function of a part that asks for more, or for less: cuts.at_each_byte, heads.by_model, search.by_hand, search.by_model.
+function of a part that asks for more, or for less: contents.many, contents.by_model, cuts.at_each_byte, heads.by_model,
+search.by_hand, search.by_model.
 """
 
 import os
@@ -20,8 +21,8 @@ from built import TOP, Tally, build
 PARTS = {path.stem.removeprefix("test_"): f"{path.parent.name}.{path.stem}"
          for path in sorted((TOP / "tests").glob("*/test_*.py"), key=lambda path: path.name)}
 # Parts that measure seconds, or in which programs wait for one another: each of them has the machine for itself, behind the others.
-ALONE = ("build", "picture_pages", "record", "record_answers", "record_apart", "record_endings", "record_programs", "record_refusals", "record_reports",
-         "record_suites", "record_tls", "sizes")
+ALONE = ("build", "picture_pages", "record", "record_answers", "record_apart", "record_chains", "record_endings", "record_programs",
+         "record_refusals", "record_reports", "record_suites", "record_tls", "sizes")
 
 
 def run_part(name):

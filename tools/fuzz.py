@@ -16,6 +16,8 @@ status that the command has, with an output and a standard error of its form; an
   show     the same lines in these forms; what it accepts is, made and shown again, the same; `--names` has as many lines
   explain  the status and the line of `check`; without an order, those of `order`; the same words in other records
   order    what it finds is accepted by `check`; `--arrival` has the number of each request, or says that the session was refused
+  contents the text of the reader of tools/contents.py, with an order and without one; from such a text, mostly with a mistake, `check`
+           has the line of the readers, or names the first bad line
   --json   of all these an object a line, which has what the line says, with the same status and standard error
 
 An input that breaks one of these is kept in the folder of failures.
@@ -31,7 +33,8 @@ from collections import Counter
 from pathlib import Path
 
 sys.path.append(str(Path(__file__).resolve().parent.parent / "tests"))
-from built import PROGRAM, Room, build
+import contents
+from built import PROGRAM, Ended, Room, build
 from cases import errors, extended, makes, outside, shows, sizes, statuses, zeroes
 from cases.contexts import STATUS_TABLE
 from cases.selections import NEGOTIATION_TABLE
@@ -70,10 +73,12 @@ FORMS = {
     "order": {0: r"(\d+( \d+ \d+)?\n)*", 1: NONE, 5: GAVE_UP},
     "arrival": {0: r"(\d+\n)*", 1: ""},
     "make": {0: r"([CS] ([0-9a-f]{2})+\n)*"},
+    "contents": {0: r"size \d+\n((zero|unknown) \d+ \d+\n|data \d+ ([0-9a-f]{2})+\n)*", 1: rf"({NO}|no export\n)"},
 }
 # The standard error of a text that is malformed.
 BAD_TEXTS = {
     "check": r"fault (capture|order) line \d+\n",
+    "contents": r"fault (capture|order) line \d+\n",
     "explain": r"fault (capture|order) line \d+\n",
     "make": r"fault script line \d+\n",
 }
@@ -298,6 +303,36 @@ class Fuzz:
         self.want("order --arrival of a refused session", arrived.status == 1, is_wire)
         self.others(capture, lambda other: self.order(other, start), found)
 
+    def contents(self, capture, order, start):
+        words = [self.room.put("capture", capture), *([] if order is None else [self.room.put("order", order)])]
+        return self.run("contents", "contents", *words, "--start", start, *self.profile, capture=capture, order=order or b"")
+
+    def ask_contents(self, capture, order, start):
+        is_malformed, profile = False, "wide" if self.profile else "base"
+        for given in (order, None):
+            found = self.contents(capture, given, start)
+            is_malformed |= found.status == 3
+            if found.status == 3:
+                continue
+            self.others(capture, lambda other: self.contents(other, given, start), found)
+            image = Path(start[6:]).read_bytes() if start.startswith("image:") else start
+            wanted = contents.said(records_of(capture), None if given is None else given.decode(), image, profile)
+            self.want("contents.py", (found.status, found.out), wanted)
+        if not is_malformed and found.status == 0:
+            is_left = self.mutator.chance.random() < 0.3
+            self.from_text(found.out if is_left else self.mutator.bytes(found.out), records_of(capture), order.decode(), profile)
+
+    def from_text(self, told, records, order, profile):
+        """`check` from a text of contents that may be malformed."""
+        words = [self.room.path("capture"), self.room.put("order", order.encode())]
+        found = self.room.run("check", *words, "--start", f"contents:{self.room.put('text', told)}", *self.profile)
+        try:
+            line = served.line(records, order, contents.parsed(told), profile)
+        except contents.BadLine as bad:
+            self.want("a bad line", found, Ended(3, b"", f"fault contents line {bad}\n".encode()))
+        else:
+            self.want("check from a text", found[:2], (int(line.startswith("no ")), line.encode()))
+
     def session(self, capture, order, often):
         """A session with one to four mistakes, in its text or in its messages; and so often one with options on contexts, which
         are put in before the mistakes, if there are any, or behind them. Half as often one with block sizes, or with extended headers."""
@@ -332,20 +367,22 @@ class Fuzz:
 
     def one(self, command, capture, order, start):
         """One session with mistakes, and what is asked of it, in one of the profiles or in both."""
-        capture, order = self.session(capture, order, OFTEN[command])
+        # (with mistakes few sessions are accepted, and of others nothing is left)
+        if command != "contents" or self.mutator.chance.random() < 0.5:
+            capture, order = self.session(capture, order, OFTEN[command])
         self.profile, self.is_again = self.mutator.chance.choice([BASE, WIDE]), False
         getattr(self, f"ask_{command}")(capture, order, start)
 
 
-COMMANDS = ("check", "show", "explain", "order")
+COMMANDS = ("check", "show", "explain", "order", "contents")
 # Of how many sessions of a command metadata contexts are a part: `check` is asked in both profiles of each session.
-OFTEN = {"check": 0.4, "show": 0.3, "explain": 0.3, "order": 0.3}
+OFTEN = {"check": 0.4, "show": 0.3, "explain": 0.3, "order": 0.3, "contents": 0.3}
 
 
 def keep(failures, name, room):
     """Copies the inputs of a run that broke what is asked."""
     failures.mkdir(parents=True, exist_ok=True)
-    for file in ("capture", "order", "script", "image"):
+    for file in ("capture", "order", "script", "image", "text"):
         path = Path(room.path(file))
         if path.exists():
             (failures / f"{name}.{file}").write_bytes(path.read_bytes())

@@ -142,7 +142,7 @@ function fillHistory() {
 
 const partEnd = (at) => services.begin[at] + BigInt(services.length[at]);
 const covers = (at, offset) => services.begin[at] === null || (services.begin[at] <= offset && offset < partEnd(at));
-const startByte = () => ({ unknown: "unknown", zero: "00" })[data.start] || `that of ${data.start.slice(6)}`;
+const startByte = () => ({ unknown: "unknown", zero: "00" })[data.start] || `that of ${data.start.slice(data.start.indexOf(":") + 1)}`;
 
 function fillTable() {
   const found = [];

@@ -56,6 +56,8 @@ class Answer(namedtuple("Answer", "status verdict facts")):
 
 
 NO_ANSWER = Answer(YES, {}, [])
+# Of a connection that was not recorded as a whole.
+NOT_WHOLE = Answer(FILES, {}, [])
 
 
 def answer_of(status, text):
@@ -64,11 +66,10 @@ def answer_of(status, text):
 
 
 class Nbdcheck:
-    """Runs of nbdcheck with the same words behind the files."""
+    """Runs of nbdcheck with the same words behind the files and the start."""
 
-    def __init__(self, program, start, profile, tell):
+    def __init__(self, program, profile, tell):
         self.program, self.tell = program, tell
-        self.start = ["--start", start]
         self.profile_alone = [] if profile is None else ["--profile", profile]
         # With hints: the log of a suite has the reason behind a fault.
         self.profile = [*self.profile_alone, "--hints"]
@@ -100,25 +101,38 @@ class Nbdcheck:
             self.tell(f"{self.program}: its lines are no JSON")
             return answer_of(FILES, b"")
 
-    def explain(self, capture, order=None):
+    def explain(self, capture, start, order=None):
         """Whether an order explains the session: this one, or some."""
-        words = ["explain", capture, *([] if order is None else [order]), *self.start, *self.profile, "--json"]
+        words = ["explain", capture, *([] if order is None else [order]), "--start", start, *self.profile, "--json"]
         status, out, _ = ran([self.program, *words], stdout=subprocess.PIPE)
         return self._answer(status, out)
 
-    def explain_arrival(self, capture, order):
-        """The same of the order in which the requests came, which is written to the path `order`."""
+    def arrival(self, capture, order):
+        """Writes the order in which the requests came to the path `order`: the status, and standard error."""
         with open(order, "wb") as file:
             status, _, err = ran([self.program, "order", capture, "--arrival", *self.profile], stdout=file, stderr=subprocess.PIPE)
+        return status, err
+
+    def explain_arrival(self, capture, start, order):
+        """Whether that order explains the session."""
+        status, err = self.arrival(capture, order)
         if status == NO:
             # A session that is refused has no order; what is wrong with it needs none.
-            return self.explain(capture)
+            return self.explain(capture, start)
         sys.stderr.buffer.write(err)
         if status == YES:
-            return self.explain(capture, order)
+            return self.explain(capture, start, order)
         if status == FILES:
             self.tell(f"no order in {order}")
         return self._answer(status, b"")
+
+    def contents(self, capture, order, start, path):
+        """Writes to a path what an order leaves, or without one each order: the status, and the line that is no text."""
+        words = ["contents", capture, *([] if order is None else [order]), "--start", start, *self.profile_alone]
+        with open(path, "wb") as file:
+            status, _, _ = ran([self.program, *words], stdout=file)
+        with open(path, "rb") as file:
+            return self._status(status), file.read(LAST).decode(errors="replace").rstrip("\n") if status == NO else ""
 
     def protocol(self, capture):
         """The last line of `show`: whether both sides kept the protocol."""

@@ -66,13 +66,12 @@ def name_of(held):
 
 
 class Connections:
-    """The connections of a recording, and which of them can be compared."""
+    """Connections, and which of them can be compared; an order is that of one of `ordered`."""
 
-    def __init__(self, connections, has_order):
-        self.count = len(connections)
+    def __init__(self, connections, ordered):
         asking = [held for held in connections if not held.requests.is_none()]
         changing = [held for held in asking if not held.requests.is_sure or first_change(held) is not None]
-        self.ordered = Two(asking if has_order else (), number_of)
+        self.ordered = Two([held for held in ordered if not held.requests.is_none()], number_of)
         self.changing = Two(changing, number_of)
         self.strange = Two([held for held in changing if not held.requests.is_sure], number_of)
         self.renamed = Two(changing, name_of)
@@ -81,9 +80,6 @@ class Connections:
             named.setdefault(name_of(held), []).append(held)
         for same in named.values():
             self.meetings.update(meetings(each for held in same for each in ranges_of(held)))
-
-    def has_others(self):
-        return self.count > 1
 
     def apart(self, held):
         """What is to be said of a connection."""

@@ -34,8 +34,9 @@ def empty(path):
 
 def check_files(words):
     """Refuses a start or an order that cannot be read, and a report that cannot be written."""
-    if words.start.startswith("image:"):
-        check_readable("--start image:", words.start.removeprefix("image:"))
+    kind, colon, path = words.start.partition(":")
+    if colon:
+        check_readable(f"--start {kind}:", path)
     if words.order is not None:
         check_readable("--order ", words.order)
     if words.report is not None:

@@ -2,8 +2,9 @@
 
 from collections import namedtuple
 
-from .answers import FILES, GAVE_UP, NO, NO_ANSWER, NOT_JUDGED, STRICT, YES, gravest
-from .apart import BESIDE_NONE, Connections
+from .answers import FILES, GAVE_UP, NO, NO_ANSWER, NOT_JUDGED, NOT_WHOLE, STRICT, YES, gravest
+from .apart import BESIDE_NONE
+from .chain import LOST, Chain, is_wrong
 from .linting import MUST, UNASKED as NO_LINT, lint
 
 EMPTY_LINE = "empty: no byte passed"
@@ -13,9 +14,11 @@ COMPARED, UNCOMPARED, EMPTY, OUTSIDE, NONE, UNASKED = "compared", "not compared"
 COUNTED = (COMPARED, UNCOMPARED, EMPTY, OUTSIDE)
 
 
-class Judged(namedtuple("Judged", "held kind status line more doubts apart linted counts", defaults=(BESIDE_NONE, NO_LINT, None))):
-    """A connection, what became of it, its exit status, nbdcheck's line with the lines behind it, what --strict refuses, also unasked,
-    what is said of it beside the other connections, which rules it breaks, and what a yes counts."""
+class Judged(namedtuple("Judged", "held kind status line more doubts apart linted counts start",
+                        defaults=(BESIDE_NONE, NO_LINT, None, None))):
+    """A connection, what became of it, its exit status, nbdcheck's line with the lines behind it, what --strict refuses,
+    also unasked, what is said of it beside the other connections, which rules it breaks, what a yes counts, and what it was
+    judged from where contents were compared."""
 
     def is_alone(self):
         """Whether it was compared, though other connections changed what it does not touch."""
@@ -51,16 +54,26 @@ class Judge:
 
     def __init__(self, nbdcheck, recording):
         self.nbdcheck, self.recording, self.words = nbdcheck, recording, recording.words
-        self.connections = Connections(recording.recorded(), recording.words.order is not None)
+        self.chain = Chain(nbdcheck, recording)
 
-    def _ask(self, held, compares):
+    def _ask(self, held, compares, start):
         """Whether the order that is given, that of arrival or some order explains the session, or whether it kept the protocol."""
         if not compares:
             return self.nbdcheck.protocol(held.path)
-        order = None if self.connections.has_others() and held.requests.is_none() else self.words.order
+        has_others = len(self.recording.recorded()) > 1
+        order = None if has_others and held.requests.is_none() else self.words.order
         if order is None and self.words.arrival:
-            return self.nbdcheck.explain_arrival(held.path, self.recording.room.path("order"))
-        return self.nbdcheck.explain(held.path, order)
+            return self.nbdcheck.explain_arrival(held.path, start, self.recording.room.path("order"))
+        return self.nbdcheck.explain(held.path, start, order)
+
+    def _judged_from(self, held, compares):
+        """What is said of a connection, and what it was judged from: an export of another size than before is another."""
+        link = self.chain.link(held)
+        answer = self._ask(held, compares, link.start.word)
+        if link.start.left_by is None or answer.verdict.get("kind") != "image":
+            return answer, link.start
+        link.is_other = True
+        return self._ask(held, compares, LOST.word), LOST
 
     def _linted(self, held, answer):
         """The rules that a session breaks which is not refused."""
@@ -68,24 +81,29 @@ class Judge:
         return lint(self.nbdcheck, held) if self.words.lint and is_whole else NO_LINT
 
     def _answered(self, held):
-        apart = self.connections.apart(held)
-        answer = self._ask(held, apart.reason is None)
+        apart = self.chain.link(held).connections.apart(held)
+        answer, start = self._judged_from(held, apart.reason is None)
         kind = kind_of(answer, apart.reason is None)
         linted = self._linted(held, answer)
         doubts = doubts_of(held, answer, kind, apart, linted) if answer.status == YES else []
         status = gravest([STRICT if doubts and self.words.strict else answer.status, linted.status])
         more = answer.more() if apart.reason is None else [apart.line()]
+        more += start.assumed() if apart.reason is None and is_wrong(answer) else []
         line = answer.line() or f"no answer: status {answer.status}"
-        return Judged(held, kind, status, line, more, doubts, apart, linted, answer.counts())
+        self.chain.note(held, answer, status == YES)
+        start = start if apart.reason is None else None
+        return Judged(held, kind, status, line, more, doubts, apart, linted, answer.counts(), start)
 
     def one(self, held):
         """What is said of a connection."""
         if not self.words.asks:
             return Judged(held, UNASKED, YES if held.fault is None else FILES, "", [], [])
         if held.fault is not None:
+            self.chain.note(held, NOT_WHOLE if held.has_begun else NO_ANSWER, True)
             return Judged(held, NONE, FILES, f"no answer: {held.fault}", [], [])
         if not held.is_empty():
             return self._answered(held)
+        self.chain.note(held, NO_ANSWER, True)
         status = FILES if self.recording.is_empty() else STRICT if self.words.strict else YES
         return Judged(held, EMPTY, status, EMPTY_LINE, [], doubts_of(held, NO_ANSWER, EMPTY))
 

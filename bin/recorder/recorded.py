@@ -1,5 +1,7 @@
 """What is known of a connection that was recorded."""
 
+import time
+
 from .captures import CLIENT, SERVER
 from .endings import Ending
 from .refusals import Refusals
@@ -20,6 +22,8 @@ class Recorded:
         self.replies = Replies(self.requests)
         self.refusals = Refusals(refused)
         self.ending = Ending(self.requests, self.replies)
+        # When it was taken, and when the last byte came; but not what the client sent as its leave.
+        self.begun = self.last = time.monotonic()
         # How many seconds it took, the version of TLS to the server, or None, and why the recording is not whole.
         self.seconds, self.tls, self.fault = 0.0, None, None
 
@@ -27,6 +31,8 @@ class Recorded:
         """Counts a piece that was written down."""
         self.counts[side] += len(piece)
         (self.requests if side == CLIENT else self.replies).feed(piece)
+        if side == SERVER or not self.requests.has_left:
+            self.last = time.monotonic()
 
     def is_empty(self):
         """Whether not a byte passed."""

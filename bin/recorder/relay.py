@@ -109,7 +109,7 @@ class Relay:
         status = worker.wait()
         for number in worker.open:
             recorded, path = self.connections[number - 1], self.plan.path_of(number)
-            recorded.path = path if os.path.exists(path) else None
+            recorded.path, recorded.last = path if os.path.exists(path) else None, time.monotonic()
             recorded.fault = f"the process that recorded it ended with status {status}"
             self.tell(f"connection {number}: {recorded.fault}")
             self.ended(recorded)

@@ -59,7 +59,8 @@ def said_of(judged, is_one):
         line, more = f"{line}, {judged.apart.line()}", []
     elif judged.is_alone():
         line = f"{line}, compared alone"
-    first = line if is_one else f"connection {held.number}: {line}"
+    from_what = "" if judged.start is None else judged.start.line()
+    first = line if is_one else f"connection {held.number}{from_what}: {line}"
     return [first, *more, *judged.linted.lines(), *strict_lines(judged), *refused_lines(held), *tls_lines(held), *ending_lines(held)]
 
 
@@ -72,6 +73,7 @@ def as_json(judged, kept, name):
     return json.dumps({
         "name": name, "connection": held.number, "capture": held.path if is_kept else None, "verdict": judged.line or None,
         "result": judged.kind, "status": judged.status, "judged": judged.kind in (COMPARED, UNCOMPARED),
+        "from": None if judged.start is None else judged.start.left_by,
         "compared": judged.kind == COMPARED, "alone": judged.is_alone(), "meeting": judged.apart.meeting_as_json(),
         "requests": requests_of(held), "answered": answered, "improper": improper,
         "client_bytes": client, "server_bytes": server, "seconds": round(held.seconds, 3),

@@ -23,7 +23,8 @@ ADDRESS is a port of this machine, HOST:PORT, or the path of a unix socket, whic
 nbdcheck-record chooses a free port of 127.0.0.1, or where the server has a unix socket, one of its own.
 
 Of a connection nbdcheck looks for an order of service that explains it; with --arrival it is the order in which the
-requests came, with --order the one of a file. Contents are compared where no other connection of the recording changed
+requests came, with --order the one of a file. Connections that come one after another are judged each from what the
+ones before left, and the line says so. Of those that overlap in time contents are compared where no other one changed
 what this one touched; else only the protocol is judged, and the line says so, and which two requests meet. Captures
 without a yes are kept, and their paths told on standard error.
 
@@ -53,8 +54,8 @@ Exit status, of several the first in the order 1, 2, 4, 3, 5, 6, 7, 10:
   128 and the signal's number: interrupted; without CLIENT an interrupt is the end, and not told so"""
 
 # What the words name; `client` is None where there is none.
-Words = namedtuple("Words", "to listen client start arrival order profile lint strict format report refused certificates psk keep out "
-                   "asks")
+Words = namedtuple("Words", "to listen client start arrival order apart profile lint strict format report refused "
+                   "certificates psk keep out asks")
 
 
 def make_parser():
@@ -62,10 +63,13 @@ def make_parser():
                                      formatter_class=argparse.RawDescriptionHelpFormatter)
     parser.add_argument("--to", metavar="ADDRESS", required=True, help="the server")
     parser.add_argument("--listen", metavar="ADDRESS", help="where clients connect")
-    parser.add_argument("--start", metavar="START", help="what the export held at first: unknown, zero or image:PATH (unknown)")
+    parser.add_argument("--start", metavar="START",
+                        help="what the export held at first: unknown, zero, image:PATH or contents:PATH (unknown)")
     judged = parser.add_mutually_exclusive_group()
     judged.add_argument("--arrival", action="store_true", help="the server takes one request after the other")
     judged.add_argument("--order", metavar="FILE", help="the order of service, as the server logged it")
+    parser.add_argument("--apart", action="store_true",
+                        help="judges connections that come one after another as those that overlap, from START")
     parser.add_argument("--profile", metavar="NAME", default="wide", help="handed on to nbdcheck: base or wide (wide)")
     parser.add_argument("--no-lint", action="store_true", help="does not ask nbdcheck lint")
     parser.add_argument("--strict", action="store_true", help="refuses a yes with improper requests, requests without a reply, "
@@ -78,7 +82,8 @@ def make_parser():
     tls.add_argument("--tls-certificates", metavar="DIR", help="speaks TLS to the server, and none to the client: ca-cert.pem of this "
                      "folder verifies it, client-cert.pem and client-key.pem are sent where they are there")
     tls.add_argument("--tls-psk", metavar="FILE", help="speaks TLS to the server by the name and the key of this file (python 3.13)")
-    parser.add_argument("--keep", metavar="DIR", help="keeps each capture, as DIR/session.1.cap and so on")
+    parser.add_argument("--keep", metavar="DIR", help="keeps each capture, as DIR/session.1.cap and so on, and "
+                        "what its connection left as DIR/session.1.con")
     parser.add_argument("--out", metavar="OUT", help="without CLIENT: the captures' names (session)")
     return parser
 
@@ -118,8 +123,9 @@ def refused_of(found):
 def check_values(found):
     """Refuses values that are none of those that are wanted."""
     start = found.start
-    if start not in (None, "unknown", "zero") and not (start.startswith("image:") and start != "image:"):
-        raise Malformed(f"--start {start}: wanted is unknown, zero or image:PATH")
+    kind, _, path = (start or "unknown").partition(":")
+    if start not in (None, "unknown", "zero") and not (kind in ("image", "contents") and path):
+        raise Malformed(f"--start {start}: wanted is unknown, zero, image:PATH or contents:PATH")
     if found.profile not in PROFILES:
         raise Malformed(f"--profile {found.profile}: wanted is base or wide")
     for name in refused_of(found):
@@ -160,5 +166,6 @@ def read_words(words):
     except Malformed as reason:
         parser.error(str(reason))
     refused = {OPTIONS[name] for name in refused_of(found)}
-    return Words(to, listen, client, found.start or "unknown", found.arrival, found.order, found.profile, not found.no_lint, found.strict,
-                 found.format, found.report, refused, found.tls_certificates, found.tls_psk, found.keep, found.out or "session", asks)
+    return Words(to, listen, client, found.start or "unknown", found.arrival, found.order, found.apart, found.profile,
+                 not found.no_lint, found.strict, found.format, found.report, refused, found.tls_certificates, found.tls_psk,
+                 found.keep, found.out or "session", asks)

@@ -6,6 +6,7 @@ from built import PROGRAM, TOP, Ended, Room
 from commands.said import CAPTURE, EMPTY, FOUND, LF, MADE, SCRIPT, YES, fault, sides
 from messages import answer, begun, option, read, simple, text
 
+COMMANDS = "check", "explain", "order", "contents", "show", "lint", "make"
 NAMED_GREETING = b"S greeting, NBD_FLAG_FIXED_NEWSTYLE NBD_FLAG_NO_ZEROES (0x3)\n"
 
 
@@ -36,7 +37,7 @@ def examples(tally, room):
 
 def words(tally, room):
     """Help, the version, and words that have no form."""
-    for asked in (["--help"], ["--version"], *([name, "--help"] for name in ("check", "explain", "order", "show", "lint", "make"))):
+    for asked in (["--help"], ["--version"], *([name, "--help"] for name in COMMANDS)):
         found = room.run(*asked)
         tally.want(f"{asked}", (found.status, found.err), (0, b""))
         tally.holds(f"{asked}", b"nbdcheck" in found.out, found.out)
@@ -50,7 +51,9 @@ def words(tally, room):
                   ["make", "c", "d"], ["check", "c", "o", "--begin", "zero"], ["check", "c", "o", "--start"],
                   ["order", "c", "--arrival", "--start", "zero"], ["order", "c", "--arrival", "--whole"],
                   ["order", "c", "--arrival", "--steps", "9"], ["order", "c", "--states", "9", "--arrival"],
-                  ["explain", "c", "o", "--steps", "9"], ["explain", "c", "--states", "9", "o"]):
+                  ["explain", "c", "o", "--steps", "9"], ["explain", "c", "--states", "9", "o"],
+                  ["contents"], ["contents", "c", "o", "d"], ["contents", "c", "--against"], ["contents", "c", "--arrival"],
+                  ["check", "c", "o", "--against", "d"]):
         found = room.run(*asked)
         tally.want(f"{asked}", (found.status, found.out), (2, b""))
         tally.holds(f"{asked} says why", found.err.startswith(b"error: ") and found.err.endswith(b"\n"), found.err)
@@ -75,6 +78,10 @@ def paths(tally, room):
         ("explain, the capture, with an order", ["explain", odd, order]),
         ("explain, the order", ["explain", good, odd]),
         ("explain, the image", ["explain", good, "--start", f"image:{odd}"]),
+        ("check, the text of contents", ["check", good, order, "--start", f"contents:{odd}"]),
+        ("contents, the capture", ["contents", odd]),
+        ("contents, the order", ["contents", good, odd]),
+        ("contents, the file", ["contents", good, "--against", odd]),
         ("order", ["order", odd]),
         ("order, the image", ["order", good, "--start", f"image:{odd}"]),
         ("order --arrival", ["order", "--arrival", odd]),
@@ -87,20 +94,23 @@ def paths(tally, room):
 
 
 def starts(tally, room):
-    """The three forms of a start, the default, and words that are none of them."""
+    """The four forms of a start, the default, and words that are none of them."""
     capture, order = room.put("capture", FOUND), room.put("order", b"1\n")
     image = "image:" + room.put("image", b"\x07" + bytes(7))
+    held, zeroes = (f"contents:{room.put(name, line)}" for name, line in (
+        ("held", b"size 8\ndata 0 07\nunknown 1 7\n"), ("zeroes", b"size 8\nzero 0 8\n")))
     wrong = Ended(1, b"no content request 1 offset 0\n", b"")
     for start, wanted in ((None, Ended(0, YES, b"")), ("unknown", Ended(0, YES, b"")), ("zero", wrong),
-                          (image, Ended(0, YES, b"")), (f"image:{room.put('short', b'123456789')}",
+                          (image, Ended(0, YES, b"")), (held, Ended(0, YES, b"")), (zeroes, wrong), (f"image:{room.put('short', b'123456789')}",
                           Ended(1, b"no image 9 size 8\n", b""))):
         asked = [] if start is None else ["--start", start]
         tally.want(f"--start {start}", room.run("check", capture, order, *asked), wanted)
-    for start in ("", "zeros", "Zero", "unknown ", "image", "images:x", "IMAGE:x"):
+    for start in ("", "zeros", "Zero", "unknown ", "image", "images:x", "IMAGE:x", "contents", "content:x", "Contents:x"):
         # No file has these names: none is opened before the start is judged.
         found = room.run("check", room.path("none"), room.path("none"), "--start", start)
         tally.want(f"--start '{start}'", found, fault("start", 2))
-    tally.want("no path", room.run("check", capture, order, "--start", "image:"), fault("image read"))
+    for kind in ("image", "contents"):
+        tally.want(f"no path, {kind}", room.run("check", capture, order, "--start", f"{kind}:"), fault(f"{kind} read"))
 
 
 def profiles(tally, room):
@@ -113,6 +123,8 @@ def profiles(tally, room):
         (["check", capture, order], (1, stopped), (0, yes)),
         (["explain", capture, order], (1, stopped), (0, yes)),
         (["explain", capture], (1, stopped), (0, yes)),
+        (["contents", capture, order], (1, stopped), (1, b"no export\n")),
+        (["contents", capture], (1, stopped), (1, b"no export\n")),
         (["order", capture], (1, stopped), (0, b"")),
         (["order", capture, "--arrival"], (1, b""), (0, b"")),
         (["show", capture], (1, b"S greeting flags=3\n"), (0, b"S greeting flags=3\n")),

@@ -16,6 +16,10 @@ def terminals(tally, room):
         ("capture", ["check", none, order]),
         ("order", ["check", good, none]),
         ("image", ["check", good, order, "--start", f"image:{none}"]),
+        ("contents", ["check", good, order, "--start", f"contents:{none}"]),
+        ("capture", ["contents", none]),
+        ("order", ["contents", good, none]),
+        ("against", ["contents", good, "--against", none]),
         ("order", ["explain", good, none]),
         ("capture", ["explain", none]),
         ("capture", ["order", none, "--arrival"]),
@@ -41,6 +45,8 @@ def directories(tally, room):
     why = f"{folder}: it is a directory\n".encode()
     for what, words in (("capture", ["check", folder, order]), ("order", ["check", good, folder]),
                         ("image", ["check", good, order, "--start", f"image:{folder}"]), ("capture", ["show", folder]),
+                        ("contents", ["check", good, order, "--start", f"contents:{folder}"]),
+                        ("against", ["contents", good, "--against", folder]),
                         ("script", ["make", folder])):
         tally.want(f"{words} of a folder with hints", room.run(*words, "--hints"), Ended(3, b"", f"fault {what} read\n".encode() + why))
         tally.want(f"{words} of a folder", room.run(*words), fault(f"{what} read"))
@@ -50,7 +56,7 @@ def bad_words(tally, room):
     """A start, a profile and a limit that are malformed: what they have to be."""
     good = room.put("good", CAPTURE)
     for words, what, why in (
-        (["--start", "image"], "start", b"a start is unknown, zero, or image: and the path of a file\n"),
+        (["--start", "image"], "start", b"a start is unknown, zero, or image: or contents: and the path of a file\n"),
         (["--profile", "Wide"], "profile", b"a profile is base or wide\n"),
         (["--steps", "1x"], "limit", b"a limit is a number from 0 to 18446744073709551615\n"),
     ):
@@ -115,7 +121,7 @@ def bad_capture_lines(tally, room):
     ):
         bad = room.put("bad", CAPTURE + line)
         told = f"fault capture line {CAPTURE.count(LF) + 1}\n".encode()
-        for words in (["check", bad, order], ["explain", bad], ["order", bad], ["order", "--arrival", bad], ["show", bad],
+        for words in (["check", bad, order], ["explain", bad], ["order", bad], ["contents", bad], ["order", "--arrival", bad], ["show", bad],
                       ["show", "--names", bad]):
             name_of = f"{name}: {' '.join(words[:-1])}"
             tally.want(f"{name_of}, on a terminal", on_a_terminal(room, *words), Ended(3, b"", told + what + LF))
@@ -171,7 +177,7 @@ def looks_of_captures(tally, room):
         ("behind the other side", b"S %s\n" % server.hex().encode() + pieces, b"no at byte 18: BadMagic\n"),
     ):
         other = room.put("other", capture)
-        for words in (["check", other, order], ["order", other], ["explain", other], ["show", other]):
+        for words in (["check", other, order], ["order", other], ["explain", other], ["show", other], ["contents", other]):
             found = room.run(*words)
             told = found._replace(out=found.out[: len(line)])
             tally.want(f"exchanged sides, {name}: {words[0]}", told, Ended(1, line, exchanged))
@@ -182,10 +188,11 @@ def looks_of_captures(tally, room):
         tally.want(f"no exchanged sides, {name}", (found.status, found.err), (1, b""))
     yes = b"yes requests 0 answered 0 improper 0\n"
     for words, out in ((["check", none, none], yes), (["explain", none], yes), (["order", none], b""), (["order", "--arrival", none], b""),
-                       (["show", none], b"ok\n")):
+                       (["show", none], b"ok\n"), (["contents", none], b"no export\n")):
         name = f"an empty capture: {' '.join(words[:-1])}"
         found = room.run(*words)
-        tally.want(name, found._replace(out=found.out[: found.out.find(b"\n") + 1]), Ended(0, out, EMPTY))
+        wanted = Ended(int(out.startswith(b"no ")), out, EMPTY)
+        tally.want(name, found._replace(out=found.out[: found.out.find(b"\n") + 1]), wanted)
     pipe = room.path("pipe")
     os.mkfifo(pipe)
     other = room.put("other", swapped)

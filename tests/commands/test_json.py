@@ -1,4 +1,5 @@
-"""`--json` of `check`, `explain`, `order` and `show`: an object a line, which says what the line says (docs/json.md)."""
+"""`--json` of `check`, `explain`, `order`, `contents` and `show`: an object a line, which says what the line says
+(docs/json.md)."""
 
 import json
 import re
@@ -8,7 +9,7 @@ from explain.judged import JUDGED
 from explain.orderless import ORDERLESS
 from explain.refused import WIRE
 from explain.told import profile_of, start_of
-from messages import text
+from messages import begun, simple, text, write
 from sessions.test_cases import IN_PROFILES, TABLES
 
 OUTSIDE = ("OutOfProfile", "ExportTooLarge")
@@ -23,6 +24,10 @@ VERDICTS = [
     ("no", "content", re.compile(r"no content request (?P<request>\d+) offset (?P<offset>\d+)(?P<any> in any order)?")),
     ("no", "status", re.compile(r"no status request (?P<request>\d+) offset (?P<offset>\d+)(?P<any> in any order)?")),
     ("no", "requests", re.compile(r"no order explains requests (?P<wrong>[\d ]+) at offset (?P<offset>\d+)(?P<any>)")),
+    ("agrees", None, re.compile(r"agrees known (?P<known>\d+) unknown (?P<unknown>\d+)")),
+    ("no", "against", re.compile(r"no against offset (?P<offset>\d+)")),
+    ("no", "against", re.compile(r"no against (?P<image>\d+) size (?P<size>\d+)")),
+    ("no", "export", re.compile("no export")),
     ("open", "whole", re.compile("no order of whole requests found")),
     ("open", "search", re.compile(r"gave up: (?P<reason>[a-z ]+) at request (?P<request>\d+) offset (?P<offset>\d+)")),
 ]
@@ -70,6 +75,13 @@ def message_of(line):
 
 def entry_of(line):
     return dict(zip(("request", "offset", "length"), map(int, line.split(" "))))
+
+
+def held_of(line):
+    """The object of a line of a contents text."""
+    kind, *values = line.split(" ")
+    names = {"size": ("size",), "data": ("offset", "bytes")}.get(kind, ("offset", "length"))
+    return {"holds": kind, **{name: value if name == "bytes" else int(value) for name, value in zip(names, values)}}
 
 
 def objects_of(found):
@@ -154,7 +166,9 @@ def explained(tally, room):
             words = [capture, room.put(f"{name}.ord", session.order.encode()), *start]
             told(tally, room, name, words)
             plain(tally, room, name, "check", words, verdict_of)
+            plain(tally, room, name, "contents", words, held_of)
         told(tally, room, f"{name} without an order", [capture, *start])
+        plain(tally, room, f"{name} without an order", "contents", [capture, *start], held_of)
         plain(tally, room, name, "order", [capture, *start], entry_of)
         plain(tally, room, f"{name} by arrival", "order", [capture, "--arrival", *profile], entry_of)
         plain(tally, room, name, "show", [capture, *profile], message_of)
@@ -176,15 +190,24 @@ def cases(tally, room):
         named(tally, room, case.name, [capture, *profile])
 
 
+def against(tally, room):
+    """What `contents` says of a file."""
+    capture = room.put("written.cap", text([*begun(), write(1, 0, b"\xab\xcd"), simple(1)]))
+    for data in (b"\xab\xcd" + bytes(6), b"\xab\xce" + bytes(6), bytes(9)):
+        words = [capture, "--start", "zero", "--against", room.put("against", data)]
+        plain(tally, room, f"against {data}", "contents", words, held_of)
+    plain(tally, room, "of no export", "contents", [room.put("listed.cap", text(begun()[:2]))], held_of)
+
+
 def faults(tally, room):
     """A fault is told as ever, and no object is."""
     for words in (["check", room.put("bad", b"X 00\n"), room.put("o", b"")], ["show", room.path("nothing")], ["explain", room.path("nothing")],
-                  ["order", room.put("cut", b"S 0")]):
+                  ["order", room.put("cut", b"S 0")], ["contents", room.put("cut", b"S 0")]):
         one, other = both(room, *words)
         tally.want(f"{words[0]}: a fault", (other.status, other.out, other.err), (one.status, b"", one.err))
 
 
-PARTS = (explained, cases, faults)
+PARTS = (explained, cases, against, faults)
 
 
 def run(tally):

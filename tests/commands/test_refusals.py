@@ -5,6 +5,7 @@ no output tells, is asked by a test of the library, which is run in the same way
 """
 
 import itertools
+import os
 import re
 import subprocess
 import tempfile
@@ -22,28 +23,20 @@ MOST = 100_000
 LIBRARY = "tests::ranges::split_and_join"
 LIBRARY_TESTS = TOP / "crates/nbdcheck_first/out/nbdcheck_first_tests"
 
-# The inputs of each command.
-FAULTS = {
-    "check": ("capture", "order", "image"),
-    "explain": ("capture", "order", "image"),
-    "order": ("capture",),
-    "show": ("capture",),
-    "lint": ("capture",),
-    "make": ("script",),
-}
-
 # What each command writes where nothing is refused; other tests have it word for word.
 WRITES = {
     "check": rb"yes requests \d+ answered \d+ improper 0\n",
     "explain": rb"(yes|no content) [^\n]*\n([^\n]+\n)*",
     "order": rb"(\d+\n)+",
+    "contents": rb"size \d+\n((zero|unknown|data) [^\n]+\n)+|agrees known \d+ unknown \d+\n",
     "show": rb"([CS] [^\n]+\n)+ok\n",
     "lint": rb"((should|hint) at byte [^\n]+\n)+lint must 0 should \d+ hint \d+\n|(\{[^\n]+\}\n)+",
     "make": rb"([CS] ([0-9a-f]{2})+\n)+",
 }
 
 # Runs in which the pieces of a READ are sorted.
-SORTED = ("check chunks", "check over an image", "explain over an image")
+SORTED = ("check chunks", "check over an image", "explain over an image", "check over a text", "contents chunks",
+          "contents against a file")
 
 # Runs in which payloads come into more room than they need, and how many: they are cut down to it.
 CUT = {"check statuses": 2, "lint statuses": 2}
@@ -121,6 +114,17 @@ def runs(room):
     yield "explain a wrong byte", words, room.run(*words), 0
     words = ["explain", room.path("chunks.cap"), room.path("chunks.ord"), "--start", f"image:{image}"]
     yield "explain over an image", words, room.run(*words), 0
+    chunks, held = room.path("chunks.cap"), "contents:" + room.put("held", b"size 8\nzero 0 8\n")
+    written = room.put("written", bytes(4) + b"\x0a\x0b\x0c\x0d")
+    for name, words in (
+        ("check over a text", ["check", chunks, room.path("chunks.ord"), "--start", held]),
+        ("contents chunks", ["contents", chunks, room.path("chunks.ord"), "--start", "zero"]),
+        ("contents without an order", ["contents", chunks, "--start", held]),
+        ("contents against a file",
+         ["contents", chunks, room.path("chunks.ord"), "--start", held, "--against", written]),
+    ):
+        # All is known before a line is written.
+        yield name, words, room.run(*words), 0
     for name, session in (("a wrong byte", "no-source-overwritten"), ("parts", "found-in-parts")):
         words = ["explain", room.put(f"{session}.cap", text(ORDERLESS[session].records)), "--start", "zero"]
         yield f"explain {name} without an order", words, room.run(*words), 0
@@ -129,6 +133,15 @@ def runs(room):
         words = ["make", room.put(f"{name}.script", script)]
         made = room.run(*words)
         yield f"make {name}", words, made, len(made.out)
+
+
+def inputs(words):
+    """What a run reads, one after the other."""
+    if words[0] == "make":
+        return ["script"]
+    start, against = words[words.index("--start") + 1] if "--start" in words else "", "--against" in words
+    files = sum(os.path.isfile(word) for word in words[1:]) - against
+    return ["capture", "order"][:files] + ([start.partition(":")[0]] if ":" in start else []) + ["against"] * against
 
 
 def is_prefix(found, whole):
@@ -160,12 +173,7 @@ def growths(tally, room, name, words, whole, most):
 
 
 def reads(tally, room, name, words, whole):
-    faults = FAULTS[words[0]]
-    wanted = [f"fault {what} read\n".encode() for what in faults]
-    if "zero" in words:
-        wanted.remove(b"fault image read\n")
-    if "without an order" in name:
-        wanted.remove(b"fault order read\n")
+    wanted = [f"fault {what} read\n".encode() for what in inputs(words)]
     for what in ("read", "read-again"):
         told, behind = [], 0
         for number, found, is_refused in room.each(words, what):

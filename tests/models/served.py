@@ -134,7 +134,10 @@ class Service:
         return one.data[begin - one.offset : end - one.offset] if one.command == WRITE else ZEROES
 
     def at_start(self, begin, end):
-        return {"zero": ZEROES, "unknown": None}[self.start] if isinstance(self.start, str) else self.start[begin:end]
+        """The parts of a range at the start, and what stands in them."""
+        if isinstance(self.start, str):
+            return [(begin, end, {"zero": ZEROES, "unknown": None}[self.start])]
+        return [(begin, end, self.start[begin:end])] if isinstance(self.start, bytes) else self.start.between(begin, end)
 
     def before(self, at, begin, end):
         """What a range holds at an entry, looked up backwards: ranges, and what stands in them."""
@@ -155,7 +158,7 @@ class Service:
                         rest.append((begin, end))
                 left = rest
         for begin, end in left:
-            yield begin, end, self.at_start(begin, end)
+            yield from self.at_start(begin, end)
 
     def told(self, one):
         """The ranges that a reply gives or calls zero, each with its bytes, or None of zeroes."""
@@ -181,13 +184,19 @@ class Service:
         return None
 
 
-def line(records, order, start, profile):
-    """The line of `check`. The start is `zero`, `unknown`, or the bytes of an image."""
-    told = transmitted.judge(records, profile)
+def refused(told, start):
+    """The line where the bytes are refused, or the start has another size than the export; else None."""
     if told.fault:
         return transmitted.said(told)
-    if not isinstance(start, str) and told.found.entered and len(start) != told.found.size:
-        return f"no image {len(start)} size {told.found.size}\n"
+    size = told.found.size if isinstance(start, str) else len(start) if isinstance(start, bytes) else start.size
+    return f"no image {size} size {told.found.size}\n" if told.found.entered and size != told.found.size else None
+
+
+def line(records, order, start, profile):
+    """The line of `check`. The start is `zero`, `unknown`, the bytes of an image, or contents (tools/contents.py)."""
+    told = transmitted.judge(records, profile)
+    if fault := refused(told, start):
+        return fault
     service = Service(told.sent, told.found, order, start, profile)
     if fault := service.order_fault():
         return f"no order entry {fault[0]}: {fault[1]}\n"

@@ -17,8 +17,9 @@ from messages import (
 # How many requests, on how many bytes, how many of them outstanding, how many different bytes; in a hundred: how many steps of a
 # service serve one byte alone, how many changes and statuses fail, requests get no reply, READs and statuses get a wrong byte, and
 # how many requests ask for a status; the least block size, which is the largest too, or 0 where none is in force; and in a hundred how
-# many requests have no byte.
-Shape = namedtuple("Shape", "requests size window letters torn failures unanswered wrong statuses block empty")
+# many requests have no byte, and how many changes pass the export's end, which then fail.
+Shape = namedtuple("Shape", "requests size window letters torn failures unanswered wrong statuses block empty past",
+                   defaults=[0])
 SMALL = Shape(8, 4, 5, 3, 30, 10, 10, 10, 0, 0, 0)
 SHAPES = {
     "small sessions": SMALL,
@@ -37,6 +38,8 @@ LATE, SIMPLY, ALL = 50, 15, 60
 # How many in a hundred of the bytes that are zero a status does not call so, and how many statuses are cut short, have a last extent
 # that passes the range, or are asked for one extent.
 UNTOLD, SHORT, LONG, ONE = 20, 10, 30, 10
+# By how many bytes a change passes the export's end at most: so many more are held.
+PAST = 2
 ZERO = 2
 
 
@@ -92,8 +95,12 @@ def drawn(dice, number, shape):
     length = dice.randint(1, shape.size - offset)
     if shape.empty and command != BLOCK_STATUS and dice.randrange(100) < shape.empty:
         length = 0
+    is_past = shape.past and command not in (READ, BLOCK_STATUS) and dice.randrange(100) < shape.past
+    if is_past:
+        length = shape.size - offset + dice.randint(1, PAST)
     data = [dice.randrange(shape.letters) if command == WRITE else 0 for _ in range(length)]
     one = Asked(number, command, offset, data, command != READ and dice.randrange(100) < shape.failures)
+    one.fails |= bool(is_past)
     one.is_mute = dice.randrange(100) < shape.unanswered
     if command == BLOCK_STATUS and dice.randrange(100) < ONE:
         one.flags = REQ_ONE
@@ -106,8 +113,9 @@ def negotiation(shape):
     return CHUNKS + (granted() if shape.statuses else []) + told
 
 
-def session(dice, shape, held):
-    """The records of a session, and its requests, from a server that serves them in parts."""
+def session(dice, shape, held, log=None):
+    """The records of a session, and its requests, from a server that serves them in parts: `log` takes what it serves,
+    the number of a request with an offset and a length."""
     records, asked, under_way = negotiation(shape), [], []
     for _ in range(40 * shape.requests):
         if len(asked) < shape.requests and len(under_way) < shape.window and dice.randrange(100) < 40:
@@ -118,7 +126,7 @@ def session(dice, shape, held):
         elif under_way:
             one = dice.choice(under_way)
             if one.served < one.length:
-                serve(dice, shape, held, one)
+                serve(dice, shape, held, one, log)
             else:
                 under_way.remove(one)
                 if not one.is_mute:
@@ -126,9 +134,12 @@ def session(dice, shape, held):
     return records, asked
 
 
-def serve(dice, shape, held, one):
+def serve(dice, shape, held, one, log=None):
     count = 1 if dice.randrange(100) < shape.torn else one.length
-    for index in range(one.served, min(one.served + count, one.length)):
+    places = range(one.served, min(one.served + count, one.length))
+    if log is not None:
+        log.append((one.number, one.offset + one.served, len(places)))
+    for index in places:
         serve_at(dice, shape, held, one, one.offset + index)
         one.served += 1
 
@@ -188,14 +199,16 @@ Message = namedtuple("Message", "of kind piece is_last")
 ASKS, SIMPLE = "asks", "simple"
 
 
-def session_by_chunk(dice, shape, held):
-    """The records of a session, and its requests."""
+def session_by_chunk(dice, shape, held, log=None):
+    """The records of a session, and its requests; `log` as above, but None is the place of a request without a byte."""
     is_simple = dice.randrange(100) < SIMPLY
     count = max(dice.randint(2, shape.requests), dice.randint(2, shape.requests))
     shape = shape._replace(size=len(held), statuses=0 if is_simple else shape.statuses)
     asked = [drawn_by_chunk(dice, number, shape) for number in range(1, count + 1)]
     halves = woven(dice, asked, [reply_by_chunk(dice, shape, one, is_simple) for one in asked])
     for number, at in moments(dice, shape, asked):
+        if log is not None:
+            log.append((number, at, 1))
         if at is not None:
             serve_at(dice, shape, held, asked[number - 1], at)
     for one in asked:

@@ -81,6 +81,8 @@ def refusals(tally, room):
         ("a malformed capture", [bad, order], {}, 3, "fault capture line 2"),
         ("a malformed order", [good, bad_order], {}, 3, "fault order line 2"),
         ("no image", [good, order, "--start", "image:/nonexistent"], {}, 3, "fault image read"),
+        ("no text of contents", [good, order, "--start", "contents:/nonexistent"], {}, 3, "fault contents read"),
+        ("a malformed text of contents", [good, order, "--start", f"contents:{bad}"], {}, 3, "fault contents line 1"),
         ("no nbdcheck", [good], {"more": {"NBDCHECK": "/nonexistent"}}, 3, "cannot run /nonexistent: No such file or directory"),
         ("no nbdcheck but another program", [good], {"more": {"NBDCHECK": "/bin/false"}}, 3,
          "cannot run /bin/false: it ended with status 1"),
@@ -106,16 +108,21 @@ def refusals(tally, room):
 
 
 def pipes(tally, room):
-    """What comes from standard input, by a pipe or from a file, as a capture, an order and an image."""
-    places = {"capture": room.put("good.cap", text(WRITTEN)), "order": room.put("good.ord", b"1\n2\n"), "image": room.put("8", bytes(8))}
+    """What comes from standard input, by a pipe or from a file, as a capture, an order, and a start of each kind."""
+    for kind, start in (("image", bytes(8)), ("contents", b"size 8\nzero 0 8\n")):
+        piped(tally, room, kind, start)
+
+
+def piped(tally, room, of_start, start):
+    places = {"capture": room.put("good.cap", text(WRITTEN)), "order": room.put("good.ord", b"1\n2\n"), of_start: room.put("8", start)}
     odd = room.put(os.fsdecode(b"\xff.cap"), text(WRITTEN))
     ended = run_script(odd, places["order"])
     tally.want("a name that is no text", (ended.status, ended.err, data_of(ended.out.decode())["name"]), (0, "", "\\xff.cap"))
-    by_name = data_of(run_script(places["capture"], places["order"], "--start", f"image:{places['image']}").out.decode())
+    by_name = data_of(run_script(places["capture"], places["order"], "--start", f"{of_start}:{places[of_start]}").out.decode())
     for kind, path in places.items():
         for name in ("/dev/stdin", "/proc/self/fd/0"):
             words = {**places, kind: name}
-            line = [words["capture"], words["order"], "--start", f"image:{words['image']}"]
+            line = [words["capture"], words["order"], "--start", f"{of_start}:{words[of_start]}"]
             with open(path, "rb") as file:
                 by_file = run_script(*line, stdin=file)
             with subprocess.Popen(["cat", path], stdout=subprocess.PIPE) as reader:

@@ -201,7 +201,7 @@ def several(tally, folder):
         ("wrong READs", STALE, f"connection 1: {STALE_LINE}", f"connection 2: {STALE_LINE}", 1),
     ):
         with Server(records, count=2) as server:
-            status, out, err = ended("--to", server.address, "--start", "zero", "--keep", f"{folder}/two", "--", *both,
+            status, out, err = ended("--to", server.address, "--start", "zero", "--apart", "--keep", f"{folder}/two", "--", *both,
                                      *player(folder, records))
         tally.want(f"two connections, {name}", (status, out.startswith(first), second in out), (wanted, True, True))
         tally.want(f"two connections, {name}: told", err, kept_lines(*(f"{folder}/two/session.{n}.cap" for n in (1, 2))))
@@ -219,7 +219,7 @@ def beside_others(tally, folder):
         ("READs", READS, [], [f"connection 1: ok, {MEET[1].replace('WRITE', 'READ', 1)}", f"connection 2: {YES}"]),
         ("READs, --order", READS, ["--order", order], [f"connection {number}: ok, {ORDER_OF[3 - number]}" for number in (1, 2)]),
     ):
-        with Ends(folder, name, "--start", "zero", *asked) as ends:
+        with Ends(folder, name, "--start", "zero", "--apart", *asked) as ends:
             for records in (other, GOOD):
                 client, server = ends.both()
                 ends.play(client, server, records)
@@ -267,11 +267,14 @@ def statuses(tally, folder):
         known = sum(status < 2 for status in (first, second))
         unknown = f", no answer {2 - known}" if known < 2 else ""
         lines += f"connections 2: compared 0, not compared {known}, empty 0, not judged 0{unknown}\n"
-        tally.want(f"statuses {first} and {second}", ask(2, first, second), (wanted, lines, kept_lines(capture, other)))
+        found = ask(2, first, second, "--apart")
+        tally.want(f"statuses {first} and {second}", found, (wanted, lines, kept_lines(capture, other)))
     for asked, wanted in (
-        (["--start", "zero"], [f"explain {capture} --start zero --profile wide --hints --json"]),
-        ([], [f"explain {capture} --start unknown --profile wide --hints --json"]),
-        (["--order", notes, "--profile", "base"], [f"explain {capture} {notes} --start unknown --profile base --hints --json"]),
+        (["--start", "zero"], [f"explain {capture} --start zero --profile wide --hints --json",
+                               f"contents {capture} --start zero --profile wide"]),
+        (["--apart"], [f"explain {capture} --start unknown --profile wide --hints --json"]),
+        (["--order", notes, "--profile", "base"], [f"explain {capture} {notes} --start unknown --profile base --hints --json",
+                                                   f"contents {capture} {notes} --start unknown --profile base"]),
     ):
         ask(1, 0, 0, *asked)
         tally.want(f"its words, {asked}", notes.read_text().splitlines(), ["--version", *wanted])

@@ -1,4 +1,5 @@
-"""Contents of several connections: which are compared beside the changes of others, and which two requests meet where they are not."""
+"""Contents of several connections that overlap in time, or with --apart: which are compared beside the changes of others, and which two
+requests meet where they are not."""
 
 import json
 import random
@@ -75,8 +76,9 @@ PAIRS = {
 
 
 def played(folder, name, sessions, *asked, is_one_by_one=True):
-    """A recording of connections that play these sessions, one behind the other or side by side: its status, and its lines."""
-    with Ends(folder, name, "--start", "zero", *asked) as ends:
+    """A recording of connections that play these sessions, one behind the other with --apart, or side by side: its status,
+    and its lines."""
+    with Ends(folder, name, "--start", "zero", *(["--apart"] if is_one_by_one else []), *asked) as ends:
         if is_one_by_one:
             for records in sessions:
                 client, server = ends.both()

@@ -140,7 +140,7 @@ def words_of(server, client):
 
 def first_lines(out):
     """The first line of what is said of each connection, without its number."""
-    lines = [re.sub(r"^connection \d+: ", "", line) for line in out.splitlines()]
+    lines = [re.sub(r"^connection \d+(, from [^:]*)?: ", "", line) for line in out.splitlines()]
     return [line for line in lines if line.startswith(("yes ", "no "))]
 
 
@@ -190,9 +190,9 @@ def run_by_nbdkit(tally, folder):
 JOBS = [*FIO, "--numjobs=4", "--offset_increment=256k"]
 
 
-def strictly(tally, name, address, start, words, count):
+def strictly(tally, name, address, start, words, count, *asked):
     """A run that lets nothing pass but a yes whose contents were compared, with so many connections."""
-    with Tool("--to", address, "--start", start, "--strict", "--", *words, env_more={"PATH": PATH}) as tool:
+    with Tool("--to", address, "--start", start, "--strict", *asked, "--", *words, env_more={"PATH": PATH}) as tool:
         status, out, err = tool.end()
     last = f"connections {count}: compared {count}, not compared 0, empty 0, not judged 0"
     is_right = status == 0 and len(first_lines(out)) == count and out.splitlines()[-1] == last
@@ -222,7 +222,7 @@ def by_four(tally, folder):
                 strictly(tally, f"nbdcopy from {name}", address, f"image:{source}", ["nbdcopy", "{uri}", "null:"], 4)
         if is_there("fio"):
             with begin() as address:
-                out = strictly(tally, f"fio's jobs and {name}", address, "zero", JOBS, 8)
+                out = strictly(tally, f"fio's jobs and {name}", address, "zero", JOBS, 8, "--apart")
             tally.want(f"fio's jobs and {name}: alone", out.count("improper 0, compared alone\n"), 4)
 
 

@@ -46,7 +46,10 @@ def one_line(tally, folder):
     tally.want("two connections without a request", client_of(folder, begun(), count=2),
                (0, f"connection 1: {NONE}\nconnection 2: {NONE}\n{counts(2)}\n", ""))
     lines = "".join(f"connection {number}: ok, {MEET[number]}\n" for number in (1, 2))
-    tally.want("two connections that write", client_of(folder, GOOD, count=2), (0, f"{lines}{counts(0, 2)}\n", ""))
+    found = client_of(folder, GOOD, "--apart", count=2)
+    tally.want("two connections that write, --apart", found, (0, f"{lines}{counts(0, 2)}\n", ""))
+    lines = f"connection 1: {YES}\nconnection 2, from what connection 1 left: {YES}\n"
+    tally.want("two connections that write", client_of(folder, GOOD, count=2), (0, f"{lines}{counts(2)}\n", ""))
     status, lines = lines_of(client_of(folder, IMPROPER))
     tally.want("improper", (status, lines[0], lines[1], lines[-1]),
                (0, "yes requests 3 answered 3 improper 1", "improper: 1 of 3 requests", counts(1)))
@@ -107,7 +110,7 @@ def strict(tally, folder):
     tally.want("strict, a yes", client_of(folder, GOOD, "--strict"), (0, f"{YES}\n{counts(1)}\n", ""))
     for name, records, count, wanted in (("improper", IMPROPER, 1, "improper requests 1"),
                                          ("unanswered", UNANSWERED, 1, "requests without a reply 1"), ("apart", GOOD, 2, MEET[1])):
-        status, out, err = client_of(folder, records, "--strict", "--keep", f"{folder}/{name}", count=count)
+        status, out, err = client_of(folder, records, "--strict", "--apart", "--keep", f"{folder}/{name}", count=count)
         tally.want(f"strict, {name}", (status, f"strict: {wanted}" in out.splitlines()), (7, True))
         kept = "".join(f"nbdcheck-record: kept {folder}/{name}/session.{number}.cap\n" for number in range(1, count + 1))
         tally.want(f"strict, {name}: kept", err, kept)
@@ -168,7 +171,7 @@ def as_json(tally, folder):
     wanted = {
         "name": "nbdcheck-record", "connection": 1, "capture": None, "verdict": YES,
         "result": "compared", "status": 0, "judged": True, "compared": True, "alone": False,
-        "meeting": None, "requests": 2, "answered": 2, "improper": 0, "client_bytes": 84, "server_bytes": 106, "strict": [], "text": [],
+        "from": None, "meeting": None, "requests": 2, "answered": 2, "improper": 0, "client_bytes": 84, "server_bytes": 106, "strict": [], "text": [],
         "fault": None, "refused": [], "tls": None, "lint": None,
         "ended": {"first": "client", "by": "end of file", "outstanding": 0, "client_in": None, "server_in": None},
     }
@@ -185,7 +188,8 @@ def as_json(tally, folder):
     found = json.loads(client_of(folder, TLS, "--format", "json")[1])
     tally.want("JSON, not judged", [found[name] for name in ("result", "status", "judged", "compared", "answered")],
                ["not judged", 6, False, False, None])
-    found = [json.loads(line) for line in client_of(folder, GOOD, "--format", "json", "--keep", f"{folder}/j", count=2)[1].splitlines()]
+    _, out, _ = client_of(folder, GOOD, "--apart", "--format", "json", "--keep", f"{folder}/j", count=2)
+    found = [json.loads(line) for line in out.splitlines()]
     tally.want("JSON of two", [[each[name] for name in ("connection", "capture", "verdict", "compared", "strict")] for each in found],
                [[number, f"{folder}/j/session.{number}.cap", "ok", False, [MEET[number]]] for number in (1, 2)])
     report = f"{folder}/r.json"
@@ -254,6 +258,7 @@ def mistakes(tally, folder):
     for asked, line in (
         (["--start", f"image:{none}"], f"--start image:{none}: {reason}"),
         (["--start", f"image:{folder}"], f"--start image:{folder}: Is a directory"),
+        (["--start", f"contents:{none}"], f"--start contents:{none}: {reason}"),
         (["--order", none], f"--order {none}: {reason}"),
         (["--order", folder], f"--order {folder}: Is a directory"),
         (["--report", f"{none}/r.xml"], f"--report {none}/r.xml: {reason}"),
@@ -262,6 +267,7 @@ def mistakes(tally, folder):
         tally.want(f"{asked}", ended(*asked, *here), (3, "", f"nbdcheck-record: {line}\n"))
     for asked, line in ((["--profile", "Wide"], "--profile Wide: wanted is base or wide"),
                         (["--start", "image:"], "--start image:: wanted is"),
+                        (["--start", "contents:"], "--start contents:: wanted is"),
                         (["--format", "xml"], "--format xml: wanted is text, json or junit")):
         status, out, err = ended(*asked, *here)
         tally.want(f"{asked}", (status, out, line in err.splitlines()[-1]), (2, "", True))

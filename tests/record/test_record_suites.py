@@ -74,7 +74,7 @@ def by_a_reader(tally, folder):
         ("strict", [GOOD, GOOD], [[2, 2, 0, 0], [[f"connection {n}", "strict", [["Failure", meet.format(3 - n)]]] for n in (1, 2)]]),
     ):
         report = f"{folder}/{name}.xml"
-        with Ends(folder, name, "--start", "zero", "--strict", "--format", "junit", "--report", report) as ends:
+        with Ends(folder, name, "--start", "zero", "--strict", "--apart", "--format", "junit", "--report", report) as ends:
             for records in sessions:
                 client, server = ends.both()
                 ends.play(client, server, records)

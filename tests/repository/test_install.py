@@ -110,10 +110,11 @@ def completions(tally, prefix, folder):
     for line, wanted in (
         (["ch"], {"check"}),
         (["check", "on"], {"one.cap", "one.ord"}),
-        (["check", "one.cap", "one.ord", "--start", ""], {"unknown", "zero", "image:"}),
+        (["check", "one.cap", "one.ord", "--start", ""], {"unknown", "zero", "image:", "contents:"}),
         (["check", "one.cap", "one.ord", "--start", "z"], {"zero"}),
         (["check", "one.cap", "one.ord", "--start", "image", ":"], {"one.cap", "one.ord", "two.cap"}),
         (["check", "one.cap", "one.ord", "--start", "image", ":", "tw"], {"two.cap"}),
+        (["contents", "one.cap", "--against", "tw"], {"two.cap"}),
         (["show", "--profile", ""], {"base", "wide"}),
         (["order", "one.cap", "--profile", "w"], {"wide"}),
         (["show", "t"], {"two.cap"}),
@@ -153,6 +154,7 @@ def tabs(tally, prefix, folder):
         ("nbdcheck check one.cap one.ord --start im\ttw\t", "nbdcheck check one.cap one.ord --start image:two.cap "),
         ("nbdcheck-picture one.cap --start im\t", "nbdcheck-picture one.cap --start image:"),
         ("nbdcheck-record --start im\t", "nbdcheck-record --start image:"),
+        ("nbdcheck-record --start c\ttw\t", "nbdcheck-record --start contents:two.cap "),
         ("nbdcheck show --profile w\t", "nbdcheck show --profile wide "),
         ("nbdcheck-record --profile b\t", "nbdcheck-record --profile base "),
         ("nbdcheck show wi\t", "nbdcheck show wide/"),
@@ -200,7 +202,7 @@ def recorder(tally, prefix, folder):
     complete = {"command": "nbdcheck-record"}
     tally.want("options of nbdcheck-record", completed(prefix, folder, "-", **complete), options | {"--"})
     for line, wanted in (
-        (["--start", ""], {"unknown", "zero", "image:"}),
+        (["--start", ""], {"unknown", "zero", "image:", "contents:"}),
         (["--format", "j"], {"json", "junit"}),
         (["--refuse", "s"], {"starttls", "structured-reply", "set-meta-context"}),
         (["--start", "image", ":", "tw"], {"two.cap"}),
@@ -223,7 +225,7 @@ def picture(tally, prefix, folder):
     tally.want("options of its manual page", {option for option in options if option in page}, options)
     complete = {"command": "nbdcheck-picture"}
     tally.want("options of nbdcheck-picture", completed(prefix, folder, "-", **complete), options)
-    for line, wanted in ((["--start", ""], {"unknown", "zero", "image:"}), (["--start", "image", ":", "tw"], {"two.cap"}),
+    for line, wanted in ((["--start", ""], {"unknown", "zero", "image:", "contents:"}), (["--start", "image", ":", "tw"], {"two.cap"}),
                          (["on"], {"one.cap", "one.ord"})):
         tally.want(f"completion of nbdcheck-picture {line}", completed(prefix, folder, *line, **complete), wanted)
 

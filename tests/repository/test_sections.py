@@ -9,7 +9,7 @@ import re
 from built import TOP
 
 PAGES = ("README.md", "CONTRIBUTING.md", *(f"docs/{name}" for name in (
-    "DECISIONS.md", "DEFINITIONS.md", "GLOSSARY.md", "ORDER.md", "PERFORMANCE.md", "PROFILE.md", "RECORDING.md", "THEOREMS.md")))
+    "CHAINS.md", "DECISIONS.md", "DEFINITIONS.md", "GLOSSARY.md", "ORDER.md", "PERFORMANCE.md", "PROFILE.md", "RECORDING.md", "THEOREMS.md")))
 # What quotation marks hold that is no section: the words that mark a choice.
 WORDS = {"This project's choice"}
 NAMED = re.compile(r"(?P<page>\w+/\w+\.md, )?\"(?P<name>[A-Z][a-z][^\"]*)\"(?P<here>,? (?:below|above))?")

@@ -1,5 +1,6 @@
 """Long messages and lines, many records and chunks, many READs as holes and statuses over many changes, many statuses and what they
-cost, exports of no byte and of as many as there may be, and the memory that READs of an image take.
+cost, exports of no byte and of as many as there may be, the memory that READs of an image take, what many changes
+leave, and long texts of contents.
 """
 
 import random
@@ -121,12 +122,13 @@ def holes(count, command, asked):
 
 
 def costs(tally, room, name, wanted, *words):
-    """The processor time of a run, the less of two."""
+    """The processor time of a run, the less of two; of `wanted` the standard output may be None."""
     seconds = []
     for _ in range(2):
         before = resource.getrusage(resource.RUSAGE_CHILDREN)
-        tally.want(name, room.run(*words), wanted)
+        found = room.run(*words)
         after = resource.getrusage(resource.RUSAGE_CHILDREN)
+        tally.want(name, found if wanted.out is not None else found._replace(out=None), wanted)
         seconds.append(after.ru_utime + after.ru_stime - before.ru_utime - before.ru_stime)
     return min(seconds)
 
@@ -265,6 +267,68 @@ def memory_of_images(tally, room):
             tally.holds(f"memory of {words}", peak < 1.3 * least, (peak, least))
 
 
+def scattered(count, size):
+    """So many changes at random places, 16 of them outstanding together."""
+    dice, asked, records = random.Random("scattered"), [], begun(size=size)
+    for cookie in range(1, count + 1):
+        command = dice.choice((WRITE, WRITE, WRITE, WRITE_ZEROES, TRIM))
+        length = dice.randint(1, 300) if command == WRITE else dice.randint(1, 2**16)
+        data = dice.randbytes(length) if command == WRITE else b""
+        records.append(request(command, cookie, dice.randrange(size - length), length, data))
+        asked.append(cookie)
+        if len(asked) == 16:
+            records += [simple(one) for one in asked]
+            asked = []
+    return text(records + [simple(one) for one in asked])
+
+
+def costs_of_contents(tally, room):
+    """What 100,000 changes of an export of 1 GiB leave: hardly more processor time and memory than `check` takes."""
+    count = 100_000
+    capture = room.put("scattered.cap", scattered(count, 2**30))
+    order = room.put("scattered.ord", b"".join(b"%d\n" % number for number in range(1, count + 1)))
+    words = ["check", capture, order, "--start", "zero"]
+    least = costs(tally, room, "check of scattered changes", yes(count, count, 0), *words)
+    *_, memory = room.measured(*words)
+    for words in (["contents", capture, order], ["contents", capture]):
+        words += ["--start", "zero"]
+        seconds = costs(tally, room, f"{words}", Ended(0, None, b""), *words)
+        tally.holds(f"{words}: seconds", seconds <= 1.5 * least + APART / 5, (seconds, least))
+        *_, peak = room.measured(*words)
+        tally.holds(f"{words}: memory", peak <= 1.2 * memory, (peak, memory))
+
+
+def held_in_pieces(length):
+    """A contents text of about so many bytes, a line for each piece of 32 bytes, and the size that it tells."""
+    data = random.Random("pieces").randbytes(MIB)
+    size, lines, told = 0, [], 0
+    while told < length:
+        lines.append(f"data {size} {data[size % MIB : size % MIB + 32].hex()}\n")
+        size, told = size + 32, told + len(lines[-1])
+    return f"size {size}\n{''.join(lines)}".encode(), size
+
+
+def held_in_a_line(length):
+    """The same in one line."""
+    size = length // 2
+    return f"size {size}\ndata 0 {'5a' * size}\n".encode(), size
+
+
+def costs_of_texts(tally, room):
+    """A contents text of 64 MiB is read in no more than eight times the seconds that one of 16 MiB takes."""
+    for held in (held_in_pieces, held_in_a_line):
+        seconds = []
+        for length in (16 * MIB, 64 * MIB):
+            told, size = held(length)
+            capture, order = room.put("texts.cap", text(begun(size=size))), room.put("texts.ord", b"")
+            start = ["--start", f"contents:{room.put('texts.con', told)}"]
+            name = f"{held.__name__}, {length} bytes"
+            seconds.append(costs(tally, room, name, yes(0, 0, 0), "check", capture, order, *start))
+            if held is held_in_pieces:
+                tally.holds(f"{name}, written", room.run("contents", capture, *start).out == told)
+        tally.holds(f"{held.__name__}: four times as many", seconds[1] <= 8 * seconds[0] + APART, seconds)
+
+
 def long_lines(tally, room):
     """Bad lines of a MiB, and remarks that are as long."""
     good = text(begun())
@@ -285,5 +349,6 @@ def long_lines(tally, room):
 
 def run(tally):
     with Room() as room:
-        for part in (long_messages, many_chunks, a_million, costs_of_holes, costs_of_statuses, many_contexts, exports, memory_of_images, long_lines):
+        for part in (long_messages, many_chunks, a_million, costs_of_holes, costs_of_statuses, many_contexts, exports,
+                     memory_of_images, costs_of_contents, costs_of_texts, long_lines):
             part(tally, room)
