@@ -1,8 +1,9 @@
 //! The rule on modes of TLS: a server keeps one for the whole connection (proto.md, "Server-side requirements").
 
 use crate::asked::Asked;
-use crate::breach::{Breach, breach_if};
+use crate::notes::Notes;
 use crate::numbers::{ERR_PLATFORM, ERR_TLS_REQD, ERR_UNSUP};
+use crate::table::Name;
 use nbd_wire::answers::is_error;
 use nbd_wire::options;
 
@@ -167,20 +168,23 @@ fn is_without_tls(kind: u32) -> bool {
     kind == ERR_UNSUP || kind == ERR_PLATFORM
 }
 
-/// No mode allows this answer and those before it; the sentence names the first that no mode allows with it.
-pub fn tls_mode(before: &Tls, asked: &Asked, kind: u32) -> Option<Breach<'static>> {
+/// Judges an answer: no mode allows it and those before it. The sentence names the first that no mode allows with it.
+pub fn judge_tls(before: &Tls, asked: &Asked, kind: u32, notes: &mut Notes) {
     let leaves = left_by(asked, kind);
-    let first = first_against(before, leaves);
-    breach_if(
-        !before.left.and(leaves).is_any(),
-        Breach::of(&[
-            u64::from(asked.id),
-            u64::from(kind),
-            first.place,
-            u64::from(first.option),
-            u64::from(first.kind),
-        ]),
-    )
+    if !before.left.and(leaves).is_any() {
+        let first = first_against(before, leaves);
+        notes.tell(
+            Name::TlsMode,
+            0,
+            &[
+                asked.number(),
+                u64::from(kind),
+                first.place,
+                u64::from(first.option),
+                u64::from(first.kind),
+            ],
+        );
+    }
 }
 
 // The first answer beside which these modes leave none.

@@ -1,20 +1,31 @@
 //! The rule on the query `base:`, which lists all contexts of that namespace (proto.md, "The `base:` metadata namespace").
 
-use crate::asked::Asked;
-use crate::breach::Breach;
+use crate::asked::{Asked, asks_contexts};
+use crate::notes::Notes;
+use crate::table::Name;
+use crate::texts::Texts;
 use nbd_wire::{name_in, options};
 use std::alloc::{AllocError, Global};
-use std::collections::{BTreeMap, BTreeSet};
+use std::collections::BTreeMap;
 
 /// What was told of the contexts of one export since the last option that is neither LIST_META_CONTEXT nor SET_META_CONTEXT.
 #[derive(Drop)]
-pub struct Known {
+struct Known {
     /// The contexts of the namespace `base`, each with the option that told it first.
     told: BTreeMap<Vec<u8>, u64>,
-    /// Those that each LIST_META_CONTEXT for `base:` told, where there was one.
-    listed: BTreeSet<Vec<u8>>,
+    /// What further options told, which is added when a LIST_META_CONTEXT for `base:` comes.
+    later: Vec<Told>,
+    /// Those that each LIST_META_CONTEXT for `base:` told, where there was one, in their order.
+    listed: Texts,
     /// The place of the first one; 0 where there was none.
     place: u64,
+}
+
+/// What an option told.
+#[derive(Drop)]
+struct Told {
+    option: u64,
+    contexts: Texts,
 }
 
 /// The same of each export.
@@ -36,20 +47,26 @@ impl Wildcards {
         self.exports.clear();
     }
 
-    /// What is known of an export's contexts.
-    pub fn known_of(&self, asked: &Asked) -> Option<&Known> {
-        self.exports.get(name_in(asked.data()))
+    /// LIST_META_CONTEXT or SET_META_CONTEXT is granted: judges what it told beside what is known of its export.
+    pub fn judge(&mut self, asked: &Asked, notes: &mut Notes) {
+        if asks_contexts(asked.id) {
+            if let Some(known) = self.exports.get_mut(name_in(asked.data())) {
+                let judged = known.judge(notes.alloc(), asked, notes);
+                notes.refused_if(judged.is_err());
+            }
+        }
     }
 
-    /// LIST_META_CONTEXT or SET_META_CONTEXT was granted.
-    pub fn grant(&mut self, alloc: Global, asked: &Asked) -> Result<(), AllocError> {
+    /// It was granted: takes what it told.
+    pub fn grant(&mut self, alloc: Global, asked: &mut Asked) -> Result<(), AllocError> {
+        let told = std::mem::replace(&mut asked.told, Texts::none(alloc));
         let name = name_in(asked.data());
         if !self.exports.contains_key(name) {
-            let copy = Vec::from_slice(alloc, name)?;
-            self.exports.insert(copy, Known::none(alloc))?;
+            self.exports
+                .insert(Vec::from_slice(alloc, name)?, Known::none(alloc))?;
         }
         match self.exports.get_mut(name) {
-            Some(known) => known.take(alloc, asked),
+            Some(known) => known.take(alloc, asked, told),
             None => Ok(()),
         }
     }
@@ -59,45 +76,91 @@ impl Known {
     fn none(alloc: Global) -> Known {
         Known {
             told: BTreeMap::new(alloc),
-            listed: BTreeSet::new(alloc),
+            later: Vec::new(alloc),
+            listed: Texts::none(alloc),
             place: 0,
         }
     }
 
-    // Takes what one more option was told.
-    fn take(&mut self, alloc: Global, asked: &Asked) -> Result<(), AllocError> {
+    // Judges an option: a LIST_META_CONTEXT for `base:` does not tell a context that another option is told.
+    fn judge(&mut self, alloc: Global, asked: &Asked, notes: &mut Notes) -> Result<(), AllocError> {
         if is_wildcard(asked) {
-            self.list(alloc, asked)?;
+            self.add_later(alloc)?;
+            let told = asked.told.sorted(alloc)?;
+            if let Some((context, option)) = self.first_untold(&told) {
+                tell(context, asked.place, option, notes);
+                return Ok(());
+            }
         }
-        for context in &asked.told {
-            self.tell(alloc, context.as_slice(), asked.id)?;
+        if self.place != 0 {
+            let told = asked.told.sorted(alloc)?;
+            if let Some(context) = told.first_missing(&self.listed) {
+                tell(context, self.place, asked.number(), notes);
+            }
         }
         Ok(())
+    }
+
+    // Takes what one more option was told.
+    fn take(&mut self, alloc: Global, asked: &Asked, told: Texts) -> Result<(), AllocError> {
+        if is_wildcard(asked) {
+            self.list(alloc, &told)?;
+            if self.place == 0 {
+                self.place = asked.place;
+            }
+        }
+        let told = Told {
+            option: asked.number(),
+            contexts: told,
+        };
+        match self.later.push(told) {
+            Ok(()) => Ok(()),
+            Err(_) => Err(AllocError),
+        }
     }
 
     // Takes what one more LIST_META_CONTEXT for `base:` was told.
-    fn list(&mut self, alloc: Global, asked: &Asked) -> Result<(), AllocError> {
-        let mut both = BTreeSet::new(alloc);
-        for context in &asked.told {
-            if self.place == 0 || self.listed.contains(context) {
-                both.insert(Vec::from_slice(alloc, context.as_slice())?)?;
+    fn list(&mut self, alloc: Global, told: &Texts) -> Result<(), AllocError> {
+        let mut both = Texts::none(alloc);
+        for place in 0..told.count() {
+            let context = told.at(place);
+            if self.place == 0 || self.listed.has(context) {
+                both.add(context)?;
             }
         }
-        self.listed = both;
-        if self.place == 0 {
-            self.place = asked.place;
-        }
+        self.listed = both.sorted(alloc)?;
         Ok(())
     }
 
-    // Takes one more context.
-    fn tell(&mut self, alloc: Global, context: &[u8], option: u32) -> Result<(), AllocError> {
-        if !self.told.contains_key(context) {
-            self.told
-                .insert(Vec::from_slice(alloc, context)?, u64::from(option))?;
+    // Adds what further options told.
+    fn add_later(&mut self, alloc: Global) -> Result<(), AllocError> {
+        for told in &self.later {
+            add(&mut self.told, alloc, told)?;
         }
+        self.later.clear();
         Ok(())
     }
+
+    // The first context that was told before and is none of these, and the option that it was told to.
+    fn first_untold(&self, told: &Texts) -> Option<(&[u8], u64)> {
+        for (context, option) in &self.told {
+            if !told.has(context.as_slice()) {
+                return Some((context.as_slice(), *option));
+            }
+        }
+        None
+    }
+}
+
+// Adds what an option told.
+fn add(known: &mut BTreeMap<Vec<u8>, u64>, alloc: Global, told: &Told) -> Result<(), AllocError> {
+    for place in 0..told.contexts.count() {
+        let context = told.contexts.at(place);
+        if !known.contains_key(context) {
+            known.insert(Vec::from_slice(alloc, context)?, told.option)?;
+        }
+    }
+    Ok(())
 }
 
 // Whether an option is a LIST_META_CONTEXT for `base:`.
@@ -105,46 +168,7 @@ fn is_wildcard(asked: &Asked) -> bool {
     asked.id == options::LIST_META_CONTEXT && asked.queries.is_wildcard
 }
 
-/// A LIST_META_CONTEXT for `base:` does not tell a context that another option is told.
-pub fn base_wildcard<'a>(known: &'a Known, asked: &'a Asked) -> Option<Breach<'a>> {
-    if is_wildcard(asked) {
-        if let Some((context, option)) = first_untold(known, asked) {
-            return Some(of_context(context, asked.place, option));
-        }
-    }
-    match first_unlisted(known, asked) {
-        Some(context) => Some(of_context(context, known.place, u64::from(asked.id))),
-        None => None,
-    }
-}
-
-// A breach that names a context.
-fn of_context(context: &[u8], place: u64, option: u64) -> Breach<'_> {
-    Breach {
-        names: [context, &[]],
-        ..Breach::of(&[place, option])
-    }
-}
-
-// The first context that was told before and not to this option, and the option that it was told to.
-fn first_untold<'a>(known: &'a Known, asked: &Asked) -> Option<(&'a [u8], u64)> {
-    for (context, option) in &known.told {
-        if !asked.told.contains(context) {
-            return Some((context.as_slice(), *option));
-        }
-    }
-    None
-}
-
-// The first context that this option was told and not a LIST_META_CONTEXT for `base:` before it.
-fn first_unlisted<'a>(known: &Known, asked: &'a Asked) -> Option<&'a [u8]> {
-    if known.place == 0 {
-        return None;
-    }
-    for context in &asked.told {
-        if !known.listed.contains(context) {
-            return Some(context.as_slice());
-        }
-    }
-    None
+// Tells of a context that a LIST_META_CONTEXT did not tell, and an option did.
+fn tell(context: &[u8], place: u64, option: u64, notes: &mut Notes) {
+    notes.note_named(Name::BaseWildcard, true, [context, &[]], &[place, option]);
 }
