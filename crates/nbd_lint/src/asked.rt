@@ -20,8 +20,12 @@ pub struct Asked {
     pub was_structured: bool,
     /// Its data has its form, where it is one that lists something.
     pub is_formed: bool,
-    /// It is a GO with the data of an INFO just before it, which was granted.
-    pub is_behind_same_info: bool,
+    /// What it and its data are found by, where hints are looked for and it tells the same when it is sent again.
+    pub key: Vec<u8>,
+    /// Of a GO with the data of an INFO just before it, which was granted: the infos that this got, and the place of its ACK;
+    /// 0 of another option.
+    pub earlier: Texts,
+    pub earlier_at: u64,
     /// What its queries have in common.
     pub queries: Common,
     /// Its queries in their order, where they are asked for: of a SET_META_CONTEXT whose queries all begin with `base:`.
@@ -57,7 +61,9 @@ impl Asked {
             place: 0,
             was_structured: false,
             is_formed,
-            is_behind_same_info: false,
+            key: Vec::new(alloc),
+            earlier: Texts::none(alloc),
+            earlier_at: 0,
             queries: Common::none(),
             listed,
             answers: 0,
@@ -85,6 +91,14 @@ impl Asked {
         self.payload.as_slice()
     }
 
+    /// Takes from the option before it what its answers are compared with.
+    pub fn compare(&mut self, before: &mut Asked) {
+        if self.id == options::GO && before.id == options::INFO && before.data() == self.data() {
+            self.earlier_at = before.granted;
+            std::mem::swap(&mut self.earlier, &mut before.told);
+        }
+    }
+
     /// Takes an answer, whose last byte is at this place.
     pub fn take(&mut self, kind: u32, answer: &[u8], place: u64) -> Result<(), AllocError> {
         self.answers = self.answers.saturating_add(1);
@@ -107,7 +121,7 @@ impl Asked {
         if let Some(Info::Export { size, .. }) = info_of(answer) {
             self.size = Some(size);
         }
-        if self.id == options::INFO || self.is_behind_same_info {
+        if self.id == options::INFO || self.earlier_at != 0 {
             self.told.add(answer)
         } else {
             Ok(())

@@ -50,8 +50,8 @@ pub fn judge_acknowledged(before: &Negotiation, notes: &mut Notes) {
             judge_sizes(size, sizes, notes);
         }
     }
-    if asked.is_behind_same_info {
-        let judged = judge_same(notes.alloc(), &before.before, &asked.told, notes);
+    if asked.earlier_at != 0 {
+        let judged = judge_same(notes.alloc(), asked, notes);
         notes.refused_if(judged.is_err());
     }
 }
@@ -102,19 +102,14 @@ fn are_usual(sizes: Sizes) -> bool {
 }
 
 // Judges the infos that GO got beside those that INFO with the same data got just before.
-fn judge_same(
-    alloc: Global,
-    before: &Asked,
-    now: &Texts,
-    notes: &mut Notes,
-) -> Result<(), AllocError> {
-    let earlier = before.told.sorted(alloc)?;
-    let now = now.sorted(alloc)?;
+fn judge_same(alloc: Global, asked: &Asked, notes: &mut Notes) -> Result<(), AllocError> {
+    let earlier = asked.earlier.sorted(alloc)?;
+    let now = asked.told.sorted(alloc)?;
     if let Some(info) = now.first_missing(&earlier) {
         let sentence = usize::from(!has_kind(&earlier, number_in(info, 0, 2)));
-        tell_info(info, before.granted, sentence, notes);
+        tell_info(info, asked.earlier_at, sentence, notes);
     } else if let Some(info) = earlier.first_missing(&now) {
-        tell_info(info, before.granted, 2, notes);
+        tell_info(info, asked.earlier_at, 2, notes);
     }
     Ok(())
 }

@@ -6,11 +6,12 @@ use crate::endings::{Stage, judge_end};
 use crate::errors::judge_error;
 use crate::handshake::judge_greeting;
 use crate::infos::judge_flags;
-use crate::negotiation::Negotiation;
+use crate::negotiation::{Negotiation, key_of};
 use crate::notes::Notes;
 use crate::numbers::ESHUTDOWN;
 use crate::options::{judge_listed, judge_option};
 use crate::places::{Places, Runs};
+use crate::queries::Common;
 use crate::reply::Errored;
 use crate::requests::{judge_disconnect, judge_request};
 use crate::sizes::Announced;
@@ -109,20 +110,24 @@ impl Linter {
     // Takes an option.
     fn choose(&mut self, id: u32, payload: &Bytes) {
         let queries = judge_listed(id, payload.as_slice(), &mut self.notes);
-        let (alloc, place) = (self.notes.alloc(), self.notes.place());
-        match self.negotiation.asking(alloc, id, payload, queries, place) {
-            Ok(asked) => {
-                judge_option(&asked, &self.negotiation, &mut self.notes);
-                self.negotiation.choose(asked);
-            }
-            Err(_) => self.notes.refused_if(true),
-        }
+        let chosen = self.choose_with(id, payload, queries);
+        self.notes.refused_if(chosen.is_err());
         self.select(id, payload.as_slice());
         self.stage = match id {
             options::ABORT => Stage::Aborting,
             options::EXPORT_NAME => Stage::Apart,
             _ => Stage::Negotiating,
         };
+    }
+
+    // The same of one with these queries.
+    fn choose_with(&mut self, id: u32, payload: &Bytes, queries: Common) -> Result<(), AllocError> {
+        let (alloc, place) = (self.notes.alloc(), self.notes.place());
+        let key = key_of(alloc, id, payload.as_slice(), self.notes.are_hinting)?;
+        let negotiation = &mut self.negotiation;
+        let asked = negotiation.asking(alloc, id, payload, queries, key, place)?;
+        judge_option(&asked, negotiation, &mut self.notes);
+        negotiation.choose(alloc, asked)
     }
 
     // Takes what an option selects, or brings into transmission.
@@ -136,7 +141,7 @@ impl Linter {
 
     // Takes an answer to the option that was chosen last.
     fn answer(&mut self, kind: u32, answer: &[u8]) {
-        let (alloc, place) = (self.notes.alloc(), self.notes.place());
+        let place = self.notes.place();
         let negotiation = &mut self.negotiation;
         judge_answer(negotiation, kind, answer, &mut self.notes);
         if kind == answers::ACK {
@@ -144,20 +149,18 @@ impl Linter {
                 .wildcards
                 .judge(&negotiation.asked, &mut self.notes);
         }
-        let taken = negotiation.answer(alloc, kind, answer, place);
+        let taken = negotiation.answer(kind, answer, place);
         self.notes.refused_if(taken.is_err());
         if kind == answers::ACK {
-            self.grant(alloc);
+            self.grant();
         }
         self.tell(kind, answer);
     }
 
     // The option that was chosen last is granted.
-    fn grant(&mut self, alloc: Global) {
-        if self.notes.are_hinting {
-            let kept = self.negotiation.remember(alloc);
-            self.notes.refused_if(kept.is_err());
-        }
+    fn grant(&mut self) {
+        let kept = self.negotiation.remember(self.notes.alloc());
+        self.notes.refused_if(kept.is_err());
         if self.negotiation.asked.id == options::GO {
             self.begin(self.negotiation.asked.sizes);
         }
@@ -214,7 +217,8 @@ impl Linter {
     // Takes a simple reply, whose error is 0 where it is none.
     fn simple(&mut self, cookie: u64, error: u32, messages: &[Message]) {
         if error != 0 {
-            self.begin_reply(cookie, messages);
+            let begun = self.begin_reply(cookie, messages);
+            self.notes.refused_if(begun.is_err());
             self.judge_simple(cookie, error);
             self.note_shutdown(error);
         }
@@ -250,7 +254,8 @@ impl Linter {
 
     // Takes a chunk of a reply.
     fn chunk(&mut self, cookie: u64, chunk: Chunk<'_>, messages: &[Message]) {
-        self.begin_reply(cookie, messages);
+        let begun = self.begin_reply(cookie, messages);
+        self.notes.refused_if(begun.is_err());
         if let Some(request) = self.begun.get_mut(&cookie) {
             let error = take_chunk(request, &self.transmission, chunk, &mut self.notes);
             self.note_shutdown(error);
@@ -261,27 +266,20 @@ impl Linter {
     }
 
     // The reply to a request begins, if it has not yet.
-    fn begin_reply(&mut self, cookie: u64, messages: &[Message]) {
-        if !self.begun.contains_key(&cookie) {
-            if let Some((before, head, payload)) = self.transmission.outstanding(cookie, messages) {
-                let kept = self.keep(cookie, before, &head, payload);
-                self.notes.refused_if(kept.is_err());
-            }
+    fn begin_reply(&mut self, cookie: u64, messages: &[Message]) -> Result<(), AllocError> {
+        if self.begun.contains_key(&cookie) {
+            return Ok(());
         }
-    }
-
-    // Keeps the request behind so many others, with this head and payload.
-    fn keep(
-        &mut self,
-        cookie: u64,
-        before: usize,
-        head: &RequestHead,
-        payload: &[u8],
-    ) -> Result<(), AllocError> {
+        let Some((before, message)) = self.transmission.outstanding(cookie, messages) else {
+            return Ok(());
+        };
+        let Some((head, payload)) = request_of(message) else {
+            return Ok(());
+        };
         let alloc = self.notes.alloc();
         self.begun.insert(
             cookie,
-            self.transmission.asked(alloc, before, head, payload)?,
+            self.transmission.asked(alloc, before, &head, payload)?,
         )?;
         Ok(())
     }

@@ -29,12 +29,10 @@ pub struct Negotiation {
     pub tls: Tls,
     /// The option that was chosen last.
     pub asked: Asked,
-    /// The one before it.
-    pub before: Asked,
     /// The places of the ACKs to options that tell the same when they are sent again, by these options and their data.
     granted: BTreeMap<Vec<u8>, u64>,
-    /// The data of the last SET_META_CONTEXT, and the place of its ACK; 0 where none came.
-    selected: Bytes,
+    /// The same of the last SET_META_CONTEXT; 0 where none came.
+    selected: Vec<u8>,
     selected_at: u64,
     pub wildcards: Wildcards,
 }
@@ -51,9 +49,8 @@ impl Negotiation {
             undone_by_tls: (0, 0),
             tls: Tls::unknown(),
             asked: Asked::none(alloc),
-            before: Asked::none(alloc),
             granted: BTreeMap::new(alloc),
-            selected: Bytes::none(),
+            selected: Vec::new(alloc),
             selected_at: 0,
             wildcards: Wildcards::none(alloc),
         }
@@ -66,6 +63,7 @@ impl Negotiation {
         id: u32,
         payload: &Bytes,
         queries: Common,
+        key: Vec<u8>,
         place: u64,
     ) -> Result<Asked, AllocError> {
         let listed = listed_by(alloc, id, queries, payload.as_slice())?;
@@ -73,24 +71,30 @@ impl Negotiation {
         asked.place = place;
         asked.was_structured = self.structured;
         asked.queries = queries;
-        asked.is_behind_same_info = id == options::GO && self.is_behind_same_info(asked.data());
+        asked.key = key;
         Ok(asked)
     }
 
-    // Whether the last option is an INFO with these data, which was granted.
-    fn is_behind_same_info(&self, data: &[u8]) -> bool {
-        let before = &self.asked;
-        before.id == options::INFO && before.granted != 0 && before.data() == data
-    }
-
     /// Takes an option.
-    pub fn choose(&mut self, asked: Asked) {
+    pub fn choose(&mut self, alloc: Global, mut asked: Asked) -> Result<(), AllocError> {
         let id = asked.id;
         if is_undone_by_tls(id) && self.undone_by_tls.1 == 0 {
             self.undone_by_tls = (id, asked.place);
         }
-        self.before = std::mem::replace(&mut self.asked, asked);
         self.forget_behind(id);
+        asked.compare(&mut self.asked);
+        let taken = self.take_contexts(alloc, id);
+        self.asked = asked;
+        taken
+    }
+
+    // Takes what the last option was told of contexts, where another option that asks for some comes behind it.
+    fn take_contexts(&mut self, alloc: Global, id: u32) -> Result<(), AllocError> {
+        if asks_contexts(id) {
+            self.wildcards.take(alloc, &self.asked)
+        } else {
+            Ok(())
+        }
     }
 
     // Forgets what an option changes.
@@ -108,72 +112,55 @@ impl Negotiation {
     }
 
     /// Takes an answer to the last option, whose last byte is at this place.
-    pub fn answer(
-        &mut self,
-        alloc: Global,
-        kind: u32,
-        answer: &[u8],
-        place: u64,
-    ) -> Result<(), AllocError> {
+    pub fn answer(&mut self, kind: u32, answer: &[u8], place: u64) -> Result<(), AllocError> {
         self.tls = self.tls.after(&self.asked, kind, place);
         if kind == ERR_SHUTDOWN && self.shutdown == 0 {
             self.shutdown = place;
         }
         self.was_refused |= is_error(kind) && self.asked.asks_export();
-        self.asked.take(kind, answer, place)?;
         if kind == answers::ACK {
-            self.grant(alloc)
-        } else {
-            Ok(())
+            self.grant();
         }
+        self.asked.take(kind, answer, place)
     }
 
     // The last option is granted.
-    fn grant(&mut self, alloc: Global) -> Result<(), AllocError> {
+    fn grant(&mut self) {
         match self.asked.id {
             options::STRUCTURED_REPLY => {
                 self.structured = true;
                 self.has_structured_replies = true;
-                Ok(())
             }
             options::EXTENDED_HEADERS => {
                 self.structured = true;
                 self.has_extended_headers = true;
-                Ok(())
             }
-            id if asks_contexts(id) => self.wildcards.grant(alloc, &mut self.asked),
-            _ => Ok(()),
+            _ => {}
         }
     }
 
     /// Notes that the last option was granted, where it tells the same when it is sent again.
     pub fn remember(&mut self, alloc: Global) -> Result<(), AllocError> {
-        let asked = &self.asked;
+        let asked = &mut self.asked;
+        if asked.key.is_empty() {
+            return Ok(());
+        }
+        let key = std::mem::replace(&mut asked.key, Vec::new(alloc));
         if asked.id == options::SET_META_CONTEXT {
-            self.selected = asked.payload.share()?;
+            self.selected = key;
             self.selected_at = asked.granted;
-        } else if tells_same(asked.id) {
-            self.granted.insert(key_of(alloc, asked)?, asked.granted)?;
+        } else {
+            self.granted.insert(key, asked.granted)?;
         }
         Ok(())
     }
 
     /// The place at which an option was granted before, with the same data; 0 where it was not, or nothing tells that its answers
     /// are the same.
-    pub fn granted_at(&self, alloc: Global, asked: &Asked) -> Result<u64, AllocError> {
-        if asked.id == options::SET_META_CONTEXT {
-            return Ok(self.selected_as(asked.data()));
-        }
-        if !tells_same(asked.id) {
-            return Ok(0);
-        }
-        let key = key_of(alloc, asked)?;
-        Ok(self.granted.get(&key).copied().unwrap_or(0))
-    }
-
-    // The place at which a SET_META_CONTEXT with these data was granted, if it is the last one.
-    fn selected_as(&self, data: &[u8]) -> u64 {
-        if self.selected.as_slice() == data {
+    pub fn granted_at(&self, asked: &Asked) -> u64 {
+        if asked.id != options::SET_META_CONTEXT {
+            self.granted.get(&asked.key).copied().unwrap_or(0)
+        } else if self.selected == asked.key {
             self.selected_at
         } else {
             0
@@ -190,10 +177,13 @@ fn listed_by(alloc: Global, id: u32, queries: Common, data: &[u8]) -> Result<Tex
     }
 }
 
-// What an option and its data are found by.
-fn key_of(alloc: Global, asked: &Asked) -> Result<Vec<u8>, AllocError> {
-    let mut key = Vec::from_slice(alloc, asked.data())?;
-    key.push((asked.id & 0xff) as u8)?;
+/// What an option and its data are found by, where that is asked for and it tells the same when it is sent again; else nothing.
+pub fn key_of(alloc: Global, id: u32, data: &[u8], is_asked: bool) -> Result<Vec<u8>, AllocError> {
+    let mut key = Vec::new(alloc);
+    if is_asked && tells_same(id) {
+        key.push((id & 0xff) as u8)?;
+        key.extend_from_slice(data)?;
+    }
     Ok(key)
 }
 
@@ -217,6 +207,6 @@ fn changes_answers(id: u32) -> bool {
 fn tells_same(id: u32) -> bool {
     matches!(
         id,
-        options::LIST | options::INFO | options::LIST_META_CONTEXT
+        options::LIST | options::INFO | options::LIST_META_CONTEXT | options::SET_META_CONTEXT
     )
 }

@@ -24,7 +24,8 @@ pub fn judge_listed(id: u32, payload: &[u8], notes: &mut Notes) -> Common {
     Common::none()
 }
 
-/// Judges an option, behind what was negotiated before it.
+/// Judges an option, behind what was negotiated before it. Where the same was granted before, and nothing since then changes its
+/// answers, it is a round trip that tells nothing new.
 pub fn judge_option(asked: &Asked, before: &Negotiation, notes: &mut Notes) {
     let (option, data) = (asked.number(), asked.data().len() as u64);
     judge_state(asked, before, notes);
@@ -46,9 +47,8 @@ pub fn judge_option(asked: &Asked, before: &Negotiation, notes: &mut Notes) {
             &[option, before.shutdown],
         );
     }
-    if notes.are_hinting {
-        judge_repeated(asked, before, notes);
-    }
+    let granted = before.granted_at(asked);
+    notes.note(Name::OptionRepeated, granted != 0, &[option, granted]);
 }
 
 // Judges which infos are asked for: one is twice.
@@ -91,12 +91,4 @@ fn judge_state(asked: &Asked, before: &Negotiation, notes: &mut Notes) {
         _ => return,
     };
     notes.note(name, holds, &[asked.number()]);
-}
-
-// Judges whether the same was granted before, and nothing since then changes its answers: a round trip that tells nothing new.
-fn judge_repeated(asked: &Asked, before: &Negotiation, notes: &mut Notes) {
-    match before.granted_at(notes.alloc(), asked) {
-        Ok(place) => notes.note(Name::OptionRepeated, place != 0, &[asked.number(), place]),
-        Err(_) => notes.refused_if(true),
-    }
 }

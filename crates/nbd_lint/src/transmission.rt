@@ -127,17 +127,17 @@ impl Transmission {
         }
     }
 
-    /// The outstanding request with this cookie, if there is one: how many came before it, its head and its payload. These are the
-    /// messages so far.
+    /// The outstanding request with this cookie among the messages so far, and how many came before it.
     pub fn outstanding<'a>(
         &self,
         cookie: u64,
         messages: &'a [Message],
-    ) -> Option<(usize, RequestHead, &'a [u8])> {
+    ) -> Option<(usize, &'a Message)> {
         let before = self.outstanding.get(cookie)?;
-        let place = self.places.get(before)?;
-        let (head, payload) = request_of(messages.get(*place as usize)?)?;
-        Some((before, head, payload))
+        match self.places.get(before) {
+            Some(place) => Some((before, messages.get(*place as usize)?)),
+            None => None,
+        }
     }
 
     /// A request is answered.

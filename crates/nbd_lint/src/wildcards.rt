@@ -13,19 +13,10 @@ use std::collections::BTreeMap;
 struct Known {
     /// The contexts of the namespace `base`, each with the option that told it first.
     told: BTreeMap<Vec<u8>, u64>,
-    /// What further options told, which is added when a LIST_META_CONTEXT for `base:` comes.
-    later: Vec<Told>,
     /// Those that each LIST_META_CONTEXT for `base:` told, where there was one, in their order.
     listed: Texts,
     /// The place of the first one; 0 where there was none.
     place: u64,
-}
-
-/// What an option told.
-#[derive(Drop)]
-struct Told {
-    option: u64,
-    contexts: Texts,
 }
 
 /// The same of each export.
@@ -48,25 +39,27 @@ impl Wildcards {
     }
 
     /// LIST_META_CONTEXT or SET_META_CONTEXT is granted: judges what it told beside what is known of its export.
-    pub fn judge(&mut self, asked: &Asked, notes: &mut Notes) {
+    pub fn judge(&self, asked: &Asked, notes: &mut Notes) {
         if asks_contexts(asked.id) {
-            if let Some(known) = self.exports.get_mut(name_in(asked.data())) {
+            if let Some(known) = self.exports.get(name_in(asked.data())) {
                 let judged = known.judge(notes.alloc(), asked, notes);
                 notes.refused_if(judged.is_err());
             }
         }
     }
 
-    /// It was granted: takes what it told.
-    pub fn grant(&mut self, alloc: Global, asked: &mut Asked) -> Result<(), AllocError> {
-        let told = std::mem::replace(&mut asked.told, Texts::none(alloc));
+    /// Another LIST_META_CONTEXT or SET_META_CONTEXT comes behind an option: takes what this told, if it is one that was granted.
+    pub fn take(&mut self, alloc: Global, asked: &Asked) -> Result<(), AllocError> {
         let name = name_in(asked.data());
+        if asked.granted == 0 || !asks_contexts(asked.id) {
+            return Ok(());
+        }
         if !self.exports.contains_key(name) {
             self.exports
                 .insert(Vec::from_slice(alloc, name)?, Known::none(alloc))?;
         }
         match self.exports.get_mut(name) {
-            Some(known) => known.take(alloc, asked, told),
+            Some(known) => known.take(alloc, asked),
             None => Ok(()),
         }
     }
@@ -76,24 +69,21 @@ impl Known {
     fn none(alloc: Global) -> Known {
         Known {
             told: BTreeMap::new(alloc),
-            later: Vec::new(alloc),
             listed: Texts::none(alloc),
             place: 0,
         }
     }
 
     // Judges an option: a LIST_META_CONTEXT for `base:` does not tell a context that another option is told.
-    fn judge(&mut self, alloc: Global, asked: &Asked, notes: &mut Notes) -> Result<(), AllocError> {
+    fn judge(&self, alloc: Global, asked: &Asked, notes: &mut Notes) -> Result<(), AllocError> {
+        let told = asked.told.sorted(alloc)?;
         if is_wildcard(asked) {
-            self.add_later(alloc)?;
-            let told = asked.told.sorted(alloc)?;
             if let Some((context, option)) = self.first_untold(&told) {
                 tell(context, asked.place, option, notes);
                 return Ok(());
             }
         }
         if self.place != 0 {
-            let told = asked.told.sorted(alloc)?;
             if let Some(context) = told.first_missing(&self.listed) {
                 tell(context, self.place, asked.number(), notes);
             }
@@ -102,25 +92,21 @@ impl Known {
     }
 
     // Takes what one more option was told.
-    fn take(&mut self, alloc: Global, asked: &Asked, told: Texts) -> Result<(), AllocError> {
+    fn take(&mut self, alloc: Global, asked: &Asked) -> Result<(), AllocError> {
         if is_wildcard(asked) {
-            self.list(alloc, &told)?;
+            self.listed = self.listed_with(alloc, &asked.told)?;
             if self.place == 0 {
                 self.place = asked.place;
             }
         }
-        let told = Told {
-            option: asked.number(),
-            contexts: told,
-        };
-        match self.later.push(told) {
-            Ok(()) => Ok(()),
-            Err(_) => Err(AllocError),
+        for place in 0..asked.told.count() {
+            self.add(alloc, asked.told.at(place), asked.number())?;
         }
+        Ok(())
     }
 
-    // Takes what one more LIST_META_CONTEXT for `base:` was told.
-    fn list(&mut self, alloc: Global, told: &Texts) -> Result<(), AllocError> {
+    // What each LIST_META_CONTEXT for `base:` told, with one more that told these.
+    fn listed_with(&self, alloc: Global, told: &Texts) -> Result<Texts, AllocError> {
         let mut both = Texts::none(alloc);
         for place in 0..told.count() {
             let context = told.at(place);
@@ -128,16 +114,14 @@ impl Known {
                 both.add(context)?;
             }
         }
-        self.listed = both.sorted(alloc)?;
-        Ok(())
+        both.sorted(alloc)
     }
 
-    // Adds what further options told.
-    fn add_later(&mut self, alloc: Global) -> Result<(), AllocError> {
-        for told in &self.later {
-            add(&mut self.told, alloc, told)?;
+    // Takes one more context.
+    fn add(&mut self, alloc: Global, context: &[u8], option: u64) -> Result<(), AllocError> {
+        if !self.told.contains_key(context) {
+            self.told.insert(Vec::from_slice(alloc, context)?, option)?;
         }
-        self.later.clear();
         Ok(())
     }
 
@@ -150,17 +134,6 @@ impl Known {
         }
         None
     }
-}
-
-// Adds what an option told.
-fn add(known: &mut BTreeMap<Vec<u8>, u64>, alloc: Global, told: &Told) -> Result<(), AllocError> {
-    for place in 0..told.contexts.count() {
-        let context = told.contexts.at(place);
-        if !known.contains_key(context) {
-            known.insert(Vec::from_slice(alloc, context)?, told.option)?;
-        }
-    }
-    Ok(())
 }
 
 // Whether an option is a LIST_META_CONTEXT for `base:`.
