@@ -21,9 +21,13 @@ def faults():
 
 def rules():
     """The level of each rule of `lint`, by its name."""
+    return {name: level for level, _, name, _ in rows_of_table()}
+
+
+def rows_of_table():
+    """The rules of `lint`, as its table has them: the level, the side, the name and the section of each."""
     table = (TOP / "crates/nbd_lint/src/table.rt").read_text()
-    found = re.findall(r'level: Level::(\w+),\s+who: Who::\w+,\s+name: "([\w-]+)"', table)
-    return {name: level.lower() for level, name in found}
+    return re.findall(r"(?m)^(must|should|hint) \| (\w+) \| ([\w-]+) \| [^|]+ \| (.+)$", table)
 
 
 def rows_of_lint():
@@ -33,9 +37,7 @@ def rows_of_lint():
 
 def stated():
     """The same of the program."""
-    table = (TOP / "crates/nbd_lint/src/table.rt").read_text()
-    found = re.findall(r'who: Who::(\w+),\s+name: "([\w-]+)",\s+lines: "[^"]*",\s+section: "([^"]*)"', table)
-    return [(name, who.lower(), section) for who, name, section in found]
+    return [(name, who, section) for _, who, name, section in rows_of_table()]
 
 
 def errors_of_lint():

@@ -1,7 +1,6 @@
 //! The rules on answers to options (proto.md, "Option types", "Option reply types").
 
 use crate::asked::Asked;
-use crate::breach::{Breach, breach_if};
 use crate::contexts::judge_context;
 use crate::infos::{judge_acknowledged, judge_info, judge_refused_sizes};
 use crate::negotiation::Negotiation;
@@ -11,7 +10,7 @@ use crate::numbers::{
 };
 use crate::strings::judge_answer_strings;
 use crate::table::Name;
-use crate::tls::tls_mode;
+use crate::tls::judge_tls;
 use nbd_wire::answers::is_error;
 use nbd_wire::names::{REPLIES, name_in};
 use nbd_wire::{answers, options};
@@ -20,52 +19,51 @@ use nbd_wire::{answers, options};
 pub fn judge_answer(before: &Negotiation, kind: u32, answer: &[u8], notes: &mut Notes) {
     let asked = &before.asked;
     judge_answer_strings(kind, answer, notes);
-    notes.note(Name::TlsMode, tls_mode(&before.tls, asked, kind));
+    judge_tls(&before.tls, asked, kind, notes);
     notes.note(
         Name::AnswerAfterShutdown,
-        answer_after_shutdown(before, kind),
+        is_after_shutdown(before, kind),
+        &[asked.number(), u64::from(kind), before.shutdown],
     );
-    if is_error(kind) {
-        judge_error(asked, kind, notes);
-    } else {
-        judge_success(before, kind, answer, notes);
-    }
-}
-
-// Judges an answer that is no error.
-fn judge_success(before: &Negotiation, kind: u32, answer: &[u8], notes: &mut Notes) {
-    let asked = &before.asked;
     match kind {
         answers::INFO => judge_info(before, answer, notes),
         answers::META_CONTEXT => judge_context(asked, answer, notes),
         answers::ACK => {
-            notes.note(
-                Name::SetContextGrantedEarly,
-                set_context_granted_early(asked),
-            );
+            notes.note(Name::SetContextGrantedEarly, is_early(asked), &[]);
             judge_acknowledged(before, notes);
         }
+        _ if is_error(kind) => judge_error(asked, kind, notes),
         _ => {}
     }
 }
 
-// Judges an error.
+// Whether behind ERR_SHUTDOWN the first answer to an option is another (proto.md, "Termination of the session during option
+// haggling").
+fn is_after_shutdown(before: &Negotiation, kind: u32) -> bool {
+    before.shutdown != 0
+        && kind != ERR_SHUTDOWN
+        && before.asked.answers == 0
+        && before.asked.id != options::ABORT
+}
+
+// Judges an error: by the option that it answers, by its kind, and by both.
 fn judge_error(asked: &Asked, kind: u32, notes: &mut Notes) {
-    notes.note(
-        Name::AbortNotAcknowledged,
-        abort_not_acknowledged(asked, kind),
-    );
-    notes.note(Name::StarttlsError, starttls_error(asked, kind));
-    notes.note(Name::BaselineUnsupported, baseline_unsupported(asked, kind));
-    notes.note(Name::ListContextError, list_context_error(asked, kind));
-    notes.note(Name::ErrorOfBadOption, error_of_bad_option(asked, kind));
-    notes.note(Name::InfoBeforeUnknown, info_before_unknown(asked, kind));
-    notes.note(
-        Name::TooBigWithoutQueries,
-        too_big_without_queries(asked, kind),
-    );
-    if kind == ERR_BLOCK_SIZE_REQD && asked.asks_export() {
-        judge_refused_sizes(asked, notes);
+    judge_error_to(asked, kind, notes);
+    judge_error_of_bad(asked, kind, notes);
+    let asks_export = asked.asks_export();
+    match kind {
+        ERR_UNSUP => notes.note(
+            Name::BaselineUnsupported,
+            asks_export || asked.id == options::LIST,
+            &[asked.number()],
+        ),
+        ERR_UNKNOWN => notes.note(
+            Name::InfoBeforeUnknown,
+            asks_export && asked.infos != 0,
+            &[asked.infos],
+        ),
+        ERR_BLOCK_SIZE_REQD if asks_export => judge_refused_sizes(asked, notes),
+        _ => {}
     }
 }
 
@@ -74,88 +72,42 @@ fn is_open(kind: u32) -> bool {
     kind != ERR_UNKNOWN && kind != ERR_BLOCK_SIZE_REQD && name_in(REPLIES, kind).is_some()
 }
 
-// ABORT gets an error. ERR_TLS_REQD is due to every option where TLS is forced.
-fn abort_not_acknowledged(asked: &Asked, kind: u32) -> Option<Breach<'static>> {
-    breach_if(
-        asked.id == options::ABORT && kind != ERR_TLS_REQD,
-        Breach::of(&[u64::from(kind)]),
-    )
+// Judges an error by the option: ABORT gets one, but ERR_TLS_REQD is due to every option where TLS is forced; STARTTLS gets one that
+// does not fit it (proto.md, "NOTLS mode"); LIST_META_CONTEXT is malformed and gets another than the one for that, or has no
+// queries and is too big.
+fn judge_error_to(asked: &Asked, kind: u32, notes: &mut Notes) {
+    let is_tls_reqd = kind == ERR_TLS_REQD;
+    let (name, holds) = match asked.id {
+        options::ABORT => (Name::AbortNotAcknowledged, !is_tls_reqd),
+        options::STARTTLS => (Name::StarttlsError, is_tls_reqd || !is_open(kind)),
+        options::LIST_META_CONTEXT if !asked.is_formed => (Name::ListContextError, !is_open(kind)),
+        options::LIST_META_CONTEXT => (
+            Name::TooBigWithoutQueries,
+            kind == ERR_TOO_BIG && asked.queries.is_empty,
+        ),
+        _ => return,
+    };
+    notes.note(name, holds, &[u64::from(kind)]);
 }
 
-// STARTTLS gets an error that does not fit it (proto.md, "NOTLS mode").
-fn starttls_error(asked: &Asked, kind: u32) -> Option<Breach<'static>> {
-    breach_if(
-        asked.id == options::STARTTLS && (kind == ERR_TLS_REQD || !is_open(kind)),
-        Breach::of(&[u64::from(kind)]),
-    )
-}
-
-// An option that every server has is not supported (proto.md, "Baseline").
-fn baseline_unsupported(asked: &Asked, kind: u32) -> Option<Breach<'static>> {
-    breach_if(
-        kind == ERR_UNSUP && (asked.asks_export() || asked.id == options::LIST),
-        Breach::of(&[u64::from(asked.id)]),
-    )
-}
-
-// A malformed LIST_META_CONTEXT gets another error than the one for that.
-fn list_context_error(asked: &Asked, kind: u32) -> Option<Breach<'static>> {
-    breach_if(
-        asked.id == options::LIST_META_CONTEXT && !asked.is_formed && !is_open(kind),
-        Breach::of(&[u64::from(kind)]),
-    )
-}
-
-// A SET_META_CONTEXT that came before structured replies is granted.
-fn set_context_granted_early(asked: &Asked) -> Option<Breach<'static>> {
-    breach_if(is_early(asked), Breach::of(&[]))
-}
-
-// Whether an option is a SET_META_CONTEXT that came before structured replies.
+// Whether an option is a SET_META_CONTEXT that came before structured replies. It is granted in spite of that.
 fn is_early(asked: &Asked) -> bool {
     asked.id == options::SET_META_CONTEXT && !asked.was_structured
 }
 
 // Whether an option that has no data has some.
 fn is_with_data(asked: &Asked) -> bool {
-    let takes_none = asked.id == options::LIST || asked.id == options::STRUCTURED_REPLY;
-    takes_none && !asked.data().is_empty()
+    matches!(asked.id, options::LIST | options::STRUCTURED_REPLY) && !asked.data().is_empty()
 }
 
 // An option that the client should not have sent gets another error than the one for that.
-fn error_of_bad_option(asked: &Asked, kind: u32) -> Option<Breach<'static>> {
-    breach_if(
-        (is_with_data(asked) || is_early(asked)) && !is_open(kind),
-        Breach {
-            sentence: usize::from(is_early(asked)),
-            ..Breach::of(&[u64::from(asked.id), u64::from(kind)])
-        },
-    )
-}
-
-// Behind ERR_SHUTDOWN the first answer to an option is another (proto.md, "Termination of the session during option haggling").
-fn answer_after_shutdown(before: &Negotiation, kind: u32) -> Option<Breach<'static>> {
-    let asked = &before.asked;
-    let is_first = asked.answers == 0 && asked.id != options::ABORT;
-    breach_if(
-        is_first && before.shutdown != 0 && kind != ERR_SHUTDOWN,
-        Breach::of(&[u64::from(asked.id), u64::from(kind), before.shutdown]),
-    )
-}
-
-// Infos come before the error that there is no such export.
-fn info_before_unknown(asked: &Asked, kind: u32) -> Option<Breach<'static>> {
-    breach_if(
-        kind == ERR_UNKNOWN && asked.asks_export() && asked.infos != 0,
-        Breach::of(&[asked.infos]),
-    )
-}
-
-// A LIST_META_CONTEXT without queries is too big.
-fn too_big_without_queries(asked: &Asked, kind: u32) -> Option<Breach<'static>> {
-    let is_plain = asked.is_formed && asked.queries.is_empty;
-    breach_if(
-        kind == ERR_TOO_BIG && asked.id == options::LIST_META_CONTEXT && is_plain,
-        Breach::of(&[]),
-    )
+fn judge_error_of_bad(asked: &Asked, kind: u32, notes: &mut Notes) {
+    let is_early = is_early(asked);
+    if (is_early || is_with_data(asked)) && !is_open(kind) {
+        notes.tell(
+            Name::ErrorOfBadOption,
+            usize::from(is_early),
+            &[asked.number(), u64::from(kind)],
+        );
+    }
 }

@@ -1,11 +1,12 @@
 //! An option, and what was answered to it.
 
+use crate::contexts::{is_base_leaf, name_in};
+use crate::fields::number_in;
 use crate::queries::Common;
 use crate::sizes::Announced;
-use nbd_wire::answers::is_error;
+use crate::texts::Texts;
 use nbd_wire::{Bytes, Info, answers, go_of, info_of, options, queries_of};
 use std::alloc::{AllocError, Global};
-use std::collections::BTreeSet;
 
 /// An option that the client chose, and its answers so far.
 #[derive(Drop)]
@@ -19,12 +20,16 @@ pub struct Asked {
     pub was_structured: bool,
     /// Its data has its form, where it is one that lists something.
     pub is_formed: bool,
+    /// What it and its data are found by, where hints are looked for and it tells the same when it is sent again.
+    pub key: Vec<u8>,
+    /// Of a GO with the data of an INFO just before it, which was granted: the infos that this got, and the place of its ACK;
+    /// 0 of another option.
+    pub earlier: Texts,
+    pub earlier_at: u64,
     /// What its queries have in common.
     pub queries: Common,
-    /// Its queries, where they are asked for: of a SET_META_CONTEXT whose queries all begin with `base:`.
-    pub listed: BTreeSet<Vec<u8>>,
-    /// The first that is not `base:`, of a SET_META_CONTEXT whose queries name no leaf.
-    pub other: Vec<u8>,
+    /// Its queries in their order, where they are asked for: of a SET_META_CONTEXT whose queries all begin with `base:`.
+    pub listed: Texts,
     /// How many answers came.
     pub answers: u64,
     /// How many of them are infos.
@@ -34,8 +39,9 @@ pub struct Asked {
     /// The size of the export in the last info that has it, in bytes.
     pub size: Option<u64>,
     pub sizes: Announced,
-    /// The infos as they came, of INFO and GO; the contexts of the namespace `base` with a leaf-name, of the other two.
-    pub told: BTreeSet<Vec<u8>>,
+    /// The infos as they came, of INFO and of such a GO; the contexts of the namespace `base` with a leaf-name, of
+    /// LIST_META_CONTEXT and SET_META_CONTEXT.
+    pub told: Texts,
     /// The place of the ACK; 0 where none came.
     pub granted: u64,
 }
@@ -43,33 +49,41 @@ pub struct Asked {
 impl Asked {
     /// Before the first option; takes no memory.
     pub fn none(alloc: Global) -> Asked {
+        Asked::of(alloc, 0, Bytes::none(), Texts::none(alloc))
+    }
+
+    /// An option with these data, and these queries in their order where they are asked for.
+    pub fn of(alloc: Global, id: u32, payload: Bytes, listed: Texts) -> Asked {
+        let is_formed = is_formed(id, payload.as_slice());
         Asked {
-            id: 0,
-            payload: Bytes::none(),
+            id,
+            payload,
             place: 0,
             was_structured: false,
-            is_formed: true,
+            is_formed,
+            key: Vec::new(alloc),
+            earlier: Texts::none(alloc),
+            earlier_at: 0,
             queries: Common::none(),
-            listed: BTreeSet::new(alloc),
-            other: Vec::new(alloc),
+            listed,
             answers: 0,
             infos: 0,
             kinds: 0,
             size: None,
             sizes: Announced::none(),
-            told: BTreeSet::new(alloc),
+            told: Texts::none(alloc),
             granted: 0,
         }
     }
 
     /// Whether it is INFO or GO.
     pub fn asks_export(&self) -> bool {
-        self.id == options::INFO || self.id == options::GO
+        matches!(self.id, options::INFO | options::GO)
     }
 
-    /// Whether it is LIST_META_CONTEXT or SET_META_CONTEXT.
-    pub fn asks_contexts(&self) -> bool {
-        asks_contexts(self.id)
+    /// Its number, as sentences have it.
+    pub fn number(&self) -> u64 {
+        u64::from(self.id)
     }
 
     /// Its data.
@@ -77,18 +91,20 @@ impl Asked {
         self.payload.as_slice()
     }
 
+    /// Takes from the option before it what its answers are compared with.
+    pub fn compare(&mut self, before: &mut Asked) {
+        if self.id == options::GO && before.id == options::INFO && before.data() == self.data() {
+            self.earlier_at = before.granted;
+            std::mem::swap(&mut self.earlier, &mut before.told);
+        }
+    }
+
     /// Takes an answer, whose last byte is at this place.
-    pub fn take(
-        &mut self,
-        alloc: Global,
-        kind: u32,
-        answer: &[u8],
-        place: u64,
-    ) -> Result<(), AllocError> {
+    pub fn take(&mut self, kind: u32, answer: &[u8], place: u64) -> Result<(), AllocError> {
         self.answers = self.answers.saturating_add(1);
         match kind {
-            answers::INFO => self.take_info(alloc, answer),
-            answers::META_CONTEXT => self.take_context(alloc, answer),
+            answers::INFO => self.take_info(answer),
+            answers::META_CONTEXT => self.take_context(name_in(answer)),
             answers::ACK => {
                 self.granted = place;
                 Ok(())
@@ -98,56 +114,47 @@ impl Asked {
     }
 
     // Takes an info.
-    fn take_info(&mut self, alloc: Global, answer: &[u8]) -> Result<(), AllocError> {
+    fn take_info(&mut self, answer: &[u8]) -> Result<(), AllocError> {
         self.infos = self.infos.saturating_add(1);
         self.kinds |= bit_of(answer);
         self.sizes = self.sizes.with(answer);
         if let Some(Info::Export { size, .. }) = info_of(answer) {
             self.size = Some(size);
         }
-        add(&mut self.told, alloc, answer)
-    }
-
-    // Takes a context, behind whose id stands its name.
-    fn take_context(&mut self, alloc: Global, answer: &[u8]) -> Result<(), AllocError> {
-        let name = crate::contexts::name_in(answer);
-        if crate::contexts::is_base_leaf(name) {
-            add(&mut self.told, alloc, name)
+        if self.id == options::INFO || self.earlier_at != 0 {
+            self.told.add(answer)
         } else {
             Ok(())
         }
     }
 
-    /// Whether an answer of this kind ends it with success.
-    pub fn is_granted_by(&self, kind: u32) -> bool {
-        kind == answers::ACK && !is_error(kind)
+    // Takes a context.
+    fn take_context(&mut self, name: &[u8]) -> Result<(), AllocError> {
+        if is_base_leaf(name) {
+            self.told.add(name)
+        } else {
+            Ok(())
+        }
     }
 }
 
 /// Whether an option is LIST_META_CONTEXT or SET_META_CONTEXT.
 pub fn asks_contexts(id: u32) -> bool {
-    id == options::LIST_META_CONTEXT || id == options::SET_META_CONTEXT
-}
-
-// Adds a copy of these bytes.
-fn add(told: &mut BTreeSet<Vec<u8>>, alloc: Global, bytes: &[u8]) -> Result<(), AllocError> {
-    told.insert(Vec::from_slice(alloc, bytes)?)?;
-    Ok(())
+    matches!(id, options::LIST_META_CONTEXT | options::SET_META_CONTEXT)
 }
 
 /// The bit of an info's type, of those that proto.md has; 0 of another.
 pub fn bit_of(answer: &[u8]) -> u64 {
-    match crate::fields::number_in(answer, 0, 2) {
+    match number_in(answer, 0, 2) {
         kind if answer.len() < 2 || kind > 3 => 0,
         kind => 1 << kind,
     }
 }
 
-/// Whether the data of an option has its form, where it is one that lists something.
-pub fn is_formed(id: u32, payload: &[u8]) -> bool {
+// Whether the data of an option has its form, where it is one that lists something.
+fn is_formed(id: u32, payload: &[u8]) -> bool {
     match id {
         options::INFO | options::GO => go_of(payload).is_some(),
-        options::LIST_META_CONTEXT | options::SET_META_CONTEXT => queries_of(payload).is_some(),
-        _ => true,
+        _ => !asks_contexts(id) || queries_of(payload).is_some(),
     }
 }

@@ -1,9 +1,8 @@
 //! The rules on metadata contexts (proto.md, "Metadata querying", "Option types").
 
 use crate::asked::Asked;
-use crate::breach::{Breach, breach_if};
 use crate::notes::Notes;
-use crate::queries::{BASE, colon_in, has_namespace};
+use crate::queries::{BASE, has_namespace, place_in};
 use crate::table::Name;
 use nbd_wire::{context_of, options};
 
@@ -18,14 +17,6 @@ pub fn name_in(answer: &[u8]) -> &[u8] {
     }
 }
 
-// The id in a META_CONTEXT answer.
-fn id_in(answer: &[u8]) -> u64 {
-    match context_of(answer) {
-        Some((id, _)) => u64::from(id),
-        None => 0,
-    }
-}
-
 /// Whether a context is one of the namespace `base` with a leaf-name.
 pub fn is_base_leaf(name: &[u8]) -> bool {
     name.starts_with(BASE) && name.len() > BASE.len()
@@ -33,77 +24,50 @@ pub fn is_base_leaf(name: &[u8]) -> bool {
 
 /// Judges a META_CONTEXT answer to an option.
 pub fn judge_context(asked: &Asked, answer: &[u8], notes: &mut Notes) {
-    let name = name_in(answer);
-    notes.note(Name::ContextName, context_name(name));
-    notes.note(Name::ContextNamespace, context_namespace(name));
-    notes.note(Name::ContextNotAsked, context_not_asked(asked, name));
-    notes.note(Name::ListContextId, list_context_id(asked, answer));
-    notes.note(Name::ContextByEmptyLeaf, context_by_empty_leaf(asked, name));
-}
-
-// A breach that names a context.
-fn naming<'a>(name: &'a [u8], other: &'a [u8]) -> Breach<'a> {
-    Breach {
-        names: [name, other],
-        ..Breach::of(&[])
+    if let Some((id, name)) = context_of(answer) {
+        judge_name(name, notes);
+        match asked.id {
+            options::SET_META_CONTEXT => judge_selected(asked, name, notes),
+            options::LIST_META_CONTEXT => {
+                notes.note_named(Name::ListContextId, id != 0, [name, &[]], &[u64::from(id)]);
+            }
+            _ => {}
+        }
     }
 }
 
-// The name has no colon, or begins with one.
-fn context_name(name: &[u8]) -> Option<Breach<'_>> {
-    breach_if(!has_namespace(name), naming(name, &[]))
-}
-
-// The namespace is none that is registered.
-fn context_namespace(name: &[u8]) -> Option<Breach<'_>> {
-    let place = colon_in(name).unwrap_or(0);
-    let namespace = name.get(..place).unwrap_or(&[]);
-    breach_if(
-        has_namespace(name) && !is_registered(namespace),
-        naming(name, namespace),
-    )
+// Judges the name: it has no colon, or begins with one; or its namespace is none that is registered.
+fn judge_name(name: &[u8], notes: &mut Notes) {
+    let namespace = name.get(..place_in(name, b':').unwrap_or(0)).unwrap_or(&[]);
+    let has_namespace = !namespace.is_empty();
+    notes.note_named(Name::ContextName, !has_namespace, [name, &[]], &[]);
+    notes.note_named(
+        Name::ContextNamespace,
+        has_namespace && !is_registered(namespace),
+        [name, namespace],
+        &[],
+    );
 }
 
 // Whether a namespace is registered, or is of those that need no registration.
 fn is_registered(namespace: &[u8]) -> bool {
-    for one in NAMESPACES {
-        if namespace == *one {
-            return true;
-        }
-    }
-    namespace.starts_with(b"x-")
+    NAMESPACES.contains(&namespace) || namespace.starts_with(b"x-")
 }
 
-// All queries of a SET_META_CONTEXT begin with `base:`, and none of them is this context, or it is `base:` itself.
-fn context_not_asked<'a>(asked: &'a Asked, name: &'a [u8]) -> Option<Breach<'a>> {
-    let is_limited = asked.id == options::SET_META_CONTEXT && asked.queries.are_base;
-    breach_if(
-        is_limited && (name == BASE || !is_listed(asked, name)),
-        naming(name, asked.data()),
-    )
-}
-
-// Whether a context is one of the queries.
-fn is_listed(asked: &Asked, name: &[u8]) -> bool {
-    asked.listed.contains(name)
-}
-
-// A context is told to LIST_META_CONTEXT with an id.
-fn list_context_id<'a>(asked: &Asked, answer: &'a [u8]) -> Option<Breach<'a>> {
-    let id = id_in(answer);
-    breach_if(
-        asked.id == options::LIST_META_CONTEXT && id != 0,
-        Breach {
-            names: [name_in(answer), &[]],
-            ..Breach::of(&[id])
-        },
-    )
-}
-
-// A SET_META_CONTEXT whose queries name no leaf selects a context.
-fn context_by_empty_leaf<'a>(asked: &'a Asked, name: &'a [u8]) -> Option<Breach<'a>> {
-    breach_if(
-        asked.id == options::SET_META_CONTEXT && asked.queries.are_without_leaf,
-        naming(name, asked.other.as_slice()),
-    )
+// Judges a context that is selected: all queries begin with `base:`, and none of them is this context, or it is `base:` itself; or the
+// queries name no leaf.
+fn judge_selected(asked: &Asked, name: &[u8], notes: &mut Notes) {
+    let is_asked = name != BASE && asked.listed.has(name);
+    notes.note_named(
+        Name::ContextNotAsked,
+        asked.queries.are_base() && !is_asked,
+        [name, asked.data()],
+        &[],
+    );
+    notes.note_named(
+        Name::ContextByEmptyLeaf,
+        asked.queries.name_no_leaf(),
+        [name, asked.queries.other_in(asked.data())],
+        &[],
+    );
 }

@@ -1,9 +1,8 @@
 //! The hints on how a capture ends (proto.md, "Terminating the transmission phase", "Option types").
 
-use crate::breach::{Breach, breach_if};
 use crate::notes::Notes;
 use crate::table::Name;
-use crate::transmission::Transmission;
+use nbd_wire::Side;
 
 /// Where a session stands.
 #[derive(Clone, Copy, PartialEq, Eq, Drop)]
@@ -20,38 +19,24 @@ pub enum Stage {
     Disconnected,
 }
 
-/// Judges a capture that ends between messages.
-pub fn judge_end(stage: Stage, transmission: &Transmission, notes: &mut Notes) {
-    let outstanding = transmission.open;
-    notes.note(
-        Name::EndedWithoutDisconnect,
-        ended_without_disconnect(stage, outstanding),
-    );
-    notes.note(Name::AbortUnanswered, abort_unanswered(stage));
-    notes.note(Name::DiscUnanswered, disc_unanswered(stage, outstanding));
+/// Judges a capture of so many bytes that ends between messages: the client has sent neither ABORT nor DISC, ABORT was not
+/// answered, or requests before DISC were not.
+pub fn judge_end(stage: Stage, outstanding: u64, place: u64, notes: &mut Notes) {
+    notes.end(Side::Client, place);
+    match stage {
+        Stage::Apart => {}
+        Stage::Transmitting => notes.tell(Name::EndedWithoutDisconnect, 0, &[outstanding]),
+        Stage::Negotiating => notes.tell(Name::EndedWithoutDisconnect, 1, &[]),
+        Stage::Aborting | Stage::Disconnected => judge_server(stage, outstanding, place, notes),
+    }
 }
 
-// The client has sent neither ABORT nor DISC.
-fn ended_without_disconnect(stage: Stage, outstanding: u64) -> Option<Breach<'static>> {
-    let is_negotiating = stage == Stage::Negotiating;
-    breach_if(
-        is_negotiating || stage == Stage::Transmitting,
-        Breach {
-            sentence: usize::from(is_negotiating),
-            ..Breach::of(&[outstanding])
-        },
-    )
-}
-
-// ABORT was not answered.
-fn abort_unanswered(stage: Stage) -> Option<Breach<'static>> {
-    breach_if(stage == Stage::Aborting, Breach::of(&[]))
-}
-
-// Requests before DISC were not answered.
-fn disc_unanswered(stage: Stage, outstanding: u64) -> Option<Breach<'static>> {
-    breach_if(
-        stage == Stage::Disconnected && outstanding != 0,
-        Breach::of(&[outstanding]),
-    )
+// Judges what the server left undone.
+fn judge_server(stage: Stage, outstanding: u64, place: u64, notes: &mut Notes) {
+    notes.end(Side::Server, place);
+    if stage == Stage::Aborting {
+        notes.tell(Name::AbortUnanswered, 0, &[]);
+    } else {
+        notes.note(Name::DiscUnanswered, outstanding != 0, &[outstanding]);
+    }
 }

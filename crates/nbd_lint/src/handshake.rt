@@ -1,21 +1,13 @@
 //! The rule on the greeting (proto.md, "Handshake flags").
 
-use crate::breach::{Breach, breach_if};
 use crate::notes::Notes;
 use crate::table::Name;
 use nbd_wire::flags::has_only;
 use nbd_wire::handshake::{FIXED_NEWSTYLE, NO_ZEROES};
 
-/// Judges a greeting.
+/// Judges a greeting: whether it has a flag that proto.md has not.
 pub fn judge_greeting(flags: u16, notes: &mut Notes) {
-    notes.note(Name::HandshakeFlags, handshake_flags(flags));
-}
-
-// The greeting has a flag that proto.md has not.
-fn handshake_flags(flags: u16) -> Option<Breach<'static>> {
-    let known = u32::from(FIXED_NEWSTYLE | NO_ZEROES);
-    breach_if(
-        !has_only(u32::from(flags), known),
-        Breach::of(&[u64::from(flags)]),
-    )
+    let flags = u32::from(flags);
+    let is_known = has_only(flags, u32::from(FIXED_NEWSTYLE | NO_ZEROES));
+    notes.note(Name::HandshakeFlags, !is_known, &[u64::from(flags)]);
 }

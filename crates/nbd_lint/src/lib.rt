@@ -1,7 +1,6 @@
 //! What a session breaks of proto.md that its verdict does not tell: a line for each rule and side that broke it.
 //!
-//! A rule is a question to one accepted message and to what came before it: a function that returns how the message breaks
-//! it, and a row of the table. A `Linter` takes the messages one after the other, and has of the session what the rules ask:
+//! A rule is a question to one accepted message and to what came before it, which is put to `Notes`, and an entry of the table. A `Linter` takes the messages one after the other, and has of the session what the rules ask:
 //! the options with their answers, where each request stands among the messages, and of those whose reply has begun what
 //! came of it. No byte is read here but those of payloads, by the readers of nbd_wire. Proved is that each call returns;
 //! what the rules say is tested.
@@ -34,6 +33,7 @@ mod sizes;
 mod statuses;
 mod strings;
 mod table;
+mod texts;
 mod tls;
 mod transmission;
 mod wildcards;

@@ -43,6 +43,13 @@ impl Line {
         self.is_refused |= self.text.push_str(words).is_err();
     }
 
+    /// Adds words one after the other.
+    pub fn say_each(&mut self, words: &[&str]) {
+        for one in words {
+            self.say(one);
+        }
+    }
+
     /// Adds a number.
     pub fn number(&mut self, number: u64) {
         self.is_refused |= write!(self.text, "{number}").is_err();
@@ -135,7 +142,7 @@ impl Line {
     }
 
     // Adds a request with its type.
-    fn request(&mut self, breach: &Breach<'_>) {
+    fn request(&mut self, breach: &Breach<'_, '_>) {
         self.with("request ", breach.request);
         self.say(" (");
         self.name(COMMANDS, "", "command ", u64::from(breach.command));
@@ -143,7 +150,7 @@ impl Line {
     }
 
     // Adds which string it is.
-    fn string(&mut self, breach: &Breach<'_>) {
+    fn string(&mut self, breach: &Breach<'_, '_>) {
         self.say(breach.string.words);
         if breach.string.number != 0 {
             self.with(" ", breach.string.number);
@@ -151,7 +158,7 @@ impl Line {
     }
 
     // Adds what stands for braces with these words and no number.
-    fn put(&mut self, form: &str, breach: &Breach<'_>) {
+    fn put(&mut self, form: &str, breach: &Breach<'_, '_>) {
         let [first, second] = breach.names;
         match form {
             "request" => self.request(breach),
@@ -179,7 +186,7 @@ impl Line {
     /// Adds a sentence, with what a breach says in the places of its braces: `{}` is a number, `{flags}` one in hexadecimal,
     /// `{option}`, `{reply}`, `{info}` and `{error}` the names of numbers; `{request}`, `{string}`, `{name}`, `{other}` and
     /// `{queries}` what the breach speaks of beside its numbers.
-    pub fn sentence(&mut self, words: &str, breach: &Breach<'_>) {
+    pub fn sentence(&mut self, words: &str, breach: &Breach<'_, '_>) {
         let mut rest = words;
         let mut next = 0;
         for _ in 0..words.len() {
@@ -200,6 +207,6 @@ impl Line {
 }
 
 // The number in this place of a sentence; 0 where it has no more.
-fn number_at(breach: &Breach<'_>, place: usize) -> u64 {
+fn number_at(breach: &Breach<'_, '_>, place: usize) -> u64 {
     breach.numbers.get(place).copied().unwrap_or(0)
 }

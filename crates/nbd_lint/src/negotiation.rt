@@ -1,11 +1,9 @@
 //! What was negotiated so far.
 
-use crate::asked::{Asked, asks_contexts, is_formed};
-use crate::notes::Notes;
+use crate::asked::{Asked, asks_contexts};
 use crate::numbers::ERR_SHUTDOWN;
-use crate::options::key_of;
-use crate::queries::{Common, first_other, queries_in};
-use crate::sizes::Announced;
+use crate::queries::{Common, queries_in};
+use crate::texts::Texts;
 use crate::tls::Tls;
 use crate::wildcards::Wildcards;
 use nbd_wire::answers::is_error;
@@ -31,12 +29,11 @@ pub struct Negotiation {
     pub tls: Tls,
     /// The option that was chosen last.
     pub asked: Asked,
-    /// The one before it.
-    pub before: Asked,
     /// The places of the ACKs to options that tell the same when they are sent again, by these options and their data.
-    pub granted: BTreeMap<Vec<u8>, u64>,
-    /// The same of the last SET_META_CONTEXT.
-    pub selected: BTreeMap<Vec<u8>, u64>,
+    granted: BTreeMap<Vec<u8>, u64>,
+    /// The same of the last SET_META_CONTEXT; 0 where none came.
+    selected: Vec<u8>,
+    selected_at: u64,
     pub wildcards: Wildcards,
 }
 
@@ -52,130 +49,142 @@ impl Negotiation {
             undone_by_tls: (0, 0),
             tls: Tls::unknown(),
             asked: Asked::none(alloc),
-            before: Asked::none(alloc),
             granted: BTreeMap::new(alloc),
-            selected: BTreeMap::new(alloc),
+            selected: Vec::new(alloc),
+            selected_at: 0,
             wildcards: Wildcards::none(alloc),
         }
     }
 
-    /// Whether the last option has the data of an INFO just before it, which was granted.
-    pub fn is_behind_same_info(&self) -> bool {
-        let before = &self.before;
-        before.id == options::INFO && before.granted != 0 && before.data() == self.asked.data()
-    }
-
-    /// An option with these data, whose last byte is at this place, as it stands behind what was negotiated.
+    /// An option with these data and these queries, whose last byte is at this place, as it stands behind what was negotiated.
     pub fn asking(
         &self,
         alloc: Global,
         id: u32,
         payload: &Bytes,
+        queries: Common,
+        key: Vec<u8>,
         place: u64,
     ) -> Result<Asked, AllocError> {
-        let data = payload.as_slice();
-        let mut asked = Asked::none(alloc);
-        asked.id = id;
+        let listed = listed_by(alloc, id, queries, payload.as_slice())?;
+        let mut asked = Asked::of(alloc, id, payload.share()?, listed);
         asked.place = place;
         asked.was_structured = self.structured;
-        asked.is_formed = is_formed(id, data);
-        asked.sizes = Announced::none();
-        if asks_contexts(id) {
-            asked.queries = Common::of(data);
-        }
-        if id == options::SET_META_CONTEXT {
-            ask_queries(alloc, &mut asked, data)?;
-        }
-        asked.payload = payload.share()?;
+        asked.queries = queries;
+        asked.key = key;
         Ok(asked)
     }
 
     /// Takes an option.
-    pub fn choose(&mut self, asked: Asked) {
+    pub fn choose(&mut self, alloc: Global, mut asked: Asked) -> Result<(), AllocError> {
         let id = asked.id;
-        let place = asked.place;
-        self.before = std::mem::replace(&mut self.asked, asked);
         if is_undone_by_tls(id) && self.undone_by_tls.1 == 0 {
-            self.undone_by_tls = (id, place);
+            self.undone_by_tls = (id, asked.place);
         }
+        self.forget_behind(id);
+        asked.compare(&mut self.asked);
+        let taken = self.take_contexts(alloc, id);
+        self.asked = asked;
+        taken
+    }
+
+    // Takes what the last option was told of contexts, where another option that asks for some comes behind it.
+    fn take_contexts(&mut self, alloc: Global, id: u32) -> Result<(), AllocError> {
+        if asks_contexts(id) {
+            self.wildcards.take(alloc, &self.asked)
+        } else {
+            Ok(())
+        }
+    }
+
+    // Forgets what an option changes.
+    fn forget_behind(&mut self, id: u32) {
+        let changes_answers = changes_answers(id);
         if !asks_contexts(id) {
             self.wildcards.forget();
         }
-        if changes_answers(id) {
+        if changes_answers {
             self.granted.clear();
         }
-        if changes_answers(id) || id == options::SET_META_CONTEXT {
-            self.selected.clear();
+        if changes_answers || id == options::SET_META_CONTEXT {
+            self.selected_at = 0;
         }
     }
 
     /// Takes an answer to the last option, whose last byte is at this place.
-    pub fn answer(
-        &mut self,
-        alloc: Global,
-        kind: u32,
-        answer: &[u8],
-        place: u64,
-    ) -> Result<(), AllocError> {
+    pub fn answer(&mut self, kind: u32, answer: &[u8], place: u64) -> Result<(), AllocError> {
         self.tls = self.tls.after(&self.asked, kind, place);
         if kind == ERR_SHUTDOWN && self.shutdown == 0 {
             self.shutdown = place;
         }
         self.was_refused |= is_error(kind) && self.asked.asks_export();
         if kind == answers::ACK {
-            self.grant(alloc)?;
+            self.grant();
         }
-        self.asked.take(alloc, kind, answer, place)
+        self.asked.take(kind, answer, place)
     }
 
     // The last option is granted.
-    fn grant(&mut self, alloc: Global) -> Result<(), AllocError> {
+    fn grant(&mut self) {
         match self.asked.id {
             options::STRUCTURED_REPLY => {
                 self.structured = true;
                 self.has_structured_replies = true;
-                Ok(())
             }
             options::EXTENDED_HEADERS => {
                 self.structured = true;
                 self.has_extended_headers = true;
-                Ok(())
             }
-            id if asks_contexts(id) => self.wildcards.grant(alloc, &self.asked),
-            _ => Ok(()),
+            _ => {}
         }
     }
 
-    /// Notes that the last option was granted by an answer at this place, where it tells the same when it is sent again.
-    pub fn remember(&mut self, place: u64, notes: &mut Notes) {
-        if tells_same(self.asked.id) {
-            if let Some(key) = key_of(&self.asked, notes) {
-                let kept = self.keep(key, place);
-                notes.refused_if(kept.is_err());
-            }
+    /// Notes that the last option was granted, where it tells the same when it is sent again.
+    pub fn remember(&mut self, alloc: Global) -> Result<(), AllocError> {
+        let asked = &mut self.asked;
+        if asked.key.is_empty() {
+            return Ok(());
         }
-    }
-
-    // The last option with its data, which was granted by an answer at this place.
-    fn keep(&mut self, key: Vec<u8>, place: u64) -> Result<(), AllocError> {
-        if self.asked.id == options::SET_META_CONTEXT {
-            self.selected.insert(key, place)?;
+        let key = std::mem::replace(&mut asked.key, Vec::new(alloc));
+        if asked.id == options::SET_META_CONTEXT {
+            self.selected = key;
+            self.selected_at = asked.granted;
         } else {
-            self.granted.insert(key, place)?;
+            self.granted.insert(key, asked.granted)?;
         }
         Ok(())
     }
+
+    /// The place at which an option was granted before, with the same data; 0 where it was not, or nothing tells that its answers
+    /// are the same.
+    pub fn granted_at(&self, asked: &Asked) -> u64 {
+        if asked.id != options::SET_META_CONTEXT {
+            self.granted.get(&asked.key).copied().unwrap_or(0)
+        } else if self.selected == asked.key {
+            self.selected_at
+        } else {
+            0
+        }
+    }
 }
 
-// Keeps of the queries of a SET_META_CONTEXT what its answers are judged by.
-fn ask_queries(alloc: Global, asked: &mut Asked, data: &[u8]) -> Result<(), AllocError> {
-    if asked.queries.are_base {
-        asked.listed = queries_in(alloc, data)?;
+// The queries of an option in their order, where its answers are judged by them.
+fn listed_by(alloc: Global, id: u32, queries: Common, data: &[u8]) -> Result<Texts, AllocError> {
+    if id == options::SET_META_CONTEXT && queries.are_base() {
+        queries_in(alloc, data)
+    } else {
+        Ok(Texts::none(alloc))
     }
-    if asked.queries.are_without_leaf {
-        asked.other.extend_from_slice(first_other(data))?;
+}
+
+/// What an option and its data are found by, where that is asked for and it tells the same when it is sent again; else nothing.
+pub fn key_of(alloc: Global, id: u32, data: &[u8], is_asked: bool) -> Result<Vec<u8>, AllocError> {
+    let mut key = Vec::new(alloc);
+    if is_asked && tells_same(id) {
+        key.push((id & 0xff) as u8)?;
+        key.extend_from_slice(data)?;
     }
-    Ok(())
+    Ok(key)
 }
 
 // Whether TLS undoes what an option does.
@@ -194,7 +203,10 @@ fn changes_answers(id: u32) -> bool {
     )
 }
 
-/// Whether an option that was granted tells the same when it is sent again.
-pub fn tells_same(id: u32) -> bool {
-    id == options::LIST || id == options::INFO || asks_contexts(id)
+// Whether an option that was granted tells the same when it is sent again.
+fn tells_same(id: u32) -> bool {
+    matches!(
+        id,
+        options::LIST | options::INFO | options::LIST_META_CONTEXT | options::SET_META_CONTEXT
+    )
 }

@@ -1,11 +1,12 @@
 //! What was found so far.
 
-use crate::breach::Breach;
+use crate::breach::{Breach, Label, UNLABELLED};
 use crate::line::Line;
-use crate::table::{Name, Who, rule_in};
-use nbd_wire::Side;
+use crate::table::{Name, Rule};
+use crate::transmission::Request;
+use nbd_wire::{Side, commands};
 use std::alloc::{AllocError, Global};
-use std::collections::BTreeMap;
+use std::collections::{BTreeMap, BTreeSet};
 
 /// The first message of a side that broke a rule, and how many more did.
 #[derive(Drop)]
@@ -29,12 +30,18 @@ pub struct Finding {
 pub struct Notes {
     alloc: Global,
     pub found: BTreeMap<u64, Finding>,
+    /// The places of what was found, each with its key.
+    pub places: BTreeSet<(u64, u64)>,
     place: u64,
     message: u64,
     side: Side,
+    /// The request that is spoken of, from 1, and its type; 0 where none is.
+    request: u64,
+    command: u16,
     /// Hints are looked for.
     pub are_hinting: bool,
-    is_refused: bool,
+    /// Memory was refused for something of it.
+    pub is_refused: bool,
 }
 
 impl Notes {
@@ -43,9 +50,12 @@ impl Notes {
         Notes {
             alloc,
             found: BTreeMap::new(alloc),
+            places: BTreeSet::new(alloc),
             place: 0,
             message: 0,
             side: Side::Server,
+            request: 0,
+            command: commands::DISC,
             are_hinting,
             is_refused: false,
         }
@@ -53,14 +63,21 @@ impl Notes {
 
     /// The next message is judged. It is of this side, and its last byte is at this place.
     pub fn begin(&mut self, side: Side, place: u64) {
-        self.side = side;
-        self.place = place;
         self.message = self.message.saturating_add(1);
+        self.end(side, place);
     }
 
-    /// The end of the capture is judged, which has so many bytes.
-    pub fn end(&mut self, place: u64) {
+    /// The end of the capture is judged, which has so many bytes: what this side left undone.
+    pub fn end(&mut self, side: Side, place: u64) {
+        self.side = side;
         self.place = place;
+        self.request = 0;
+    }
+
+    /// What is told from now on of the message speaks of a request.
+    pub fn speak_of(&mut self, request: &Request) {
+        self.request = request.number;
+        self.command = request.head.command;
     }
 
     /// The place of the message that is judged.
@@ -78,57 +95,77 @@ impl Notes {
         self.is_refused |= is_refused;
     }
 
-    /// What was found, where there was memory for all of it.
-    pub fn finish(self) -> Result<BTreeMap<u64, Finding>, AllocError> {
-        if self.is_refused {
-            Err(AllocError)
-        } else {
-            Ok(self.found)
+    /// Notes that the message breaks a rule, where it does, with the numbers of the rule's sentence. Of a message that breaks it
+    /// more than once the first is told.
+    pub fn note(&mut self, name: Name, holds: bool, numbers: &[u64]) {
+        if holds {
+            self.tell(name, 0, numbers);
         }
     }
 
-    /// Notes how the message breaks a rule, where it does. Of a message that breaks it more than once the first is told.
-    pub fn note(&mut self, name: Name, breach: Option<Breach<'_>>) {
-        if let Some(breach) = breach {
-            self.add(name as usize, &breach);
+    /// Notes that the message breaks a rule, with one of its sentences, from 0, and the numbers of that.
+    pub fn tell(&mut self, name: Name, sentence: usize, numbers: &[u64]) {
+        self.add(name, sentence, UNLABELLED, [&[], &[]], numbers);
+    }
+
+    /// The same as `note`, of a sentence that names something beside its numbers.
+    pub fn note_named(&mut self, name: Name, holds: bool, names: [&[u8]; 2], numbers: &[u64]) {
+        if holds {
+            self.add(name, 0, UNLABELLED, names, numbers);
         }
     }
 
-    // Notes how the message breaks the rule of this row.
-    fn add(&mut self, row: usize, breach: &Breach<'_>) {
-        let side = self.side_bound(row);
-        let key = key_of(row, side);
+    /// The same of a sentence that speaks of a string.
+    pub fn note_string(&mut self, name: Name, holds: bool, string: Label, number: usize) {
+        if holds {
+            self.add(name, 0, string, [&[], &[]], &[number as u64]);
+        }
+    }
+
+    // Notes how the message breaks a rule.
+    fn add(
+        &mut self,
+        name: Name,
+        sentence: usize,
+        string: Label,
+        names: [&[u8]; 2],
+        numbers: &[u64],
+    ) {
+        let key = key_of(name as usize, self.side);
         match self.found.get_mut(&key) {
             Some(finding) => finding.repeat(self.place),
-            None => self.insert(row, key, side, breach),
-        }
-    }
-
-    // The side that breaks the rule of this row.
-    fn side_bound(&self, row: usize) -> Side {
-        match rule_in(row).who {
-            Who::Client => Side::Client,
-            Who::Server => Side::Server,
-            Who::Both => self.side,
+            None => self.insert(
+                key,
+                &Breach {
+                    sentence,
+                    request: self.request,
+                    command: self.command,
+                    string,
+                    numbers,
+                    names,
+                },
+            ),
         }
     }
 
     // Notes the first breach of a rule by a side.
-    fn insert(&mut self, row: usize, key: u64, side: Side, breach: &Breach<'_>) {
-        let Ok(text) = sentence_of(self.alloc, row, breach) else {
-            self.is_refused = true;
-            return;
-        };
-        let finding = Finding {
-            place: self.place,
-            message: self.message,
-            request: breach.request,
-            side,
-            text,
-            more: 0,
-            last: self.place,
-        };
-        self.is_refused |= self.found.insert(key, finding).is_err();
+    fn insert(&mut self, key: u64, breach: &Breach<'_, '_>) {
+        match sentence_of(self.alloc, row_of(key), breach) {
+            Ok(text) => {
+                let finding = Finding {
+                    place: self.place,
+                    message: self.message,
+                    request: breach.request,
+                    side: self.side,
+                    text,
+                    more: 0,
+                    last: self.place,
+                };
+                self.is_refused |= self.found.insert(key, finding).is_err();
+            }
+            Err(_) => self.is_refused = true,
+        }
+        self.is_refused |= self.places.insert((self.place, key)).is_err();
     }
 }
 
@@ -144,11 +181,9 @@ impl Finding {
 
 // What a rule and a side are found by.
 fn key_of(row: usize, side: Side) -> u64 {
-    let twice = (row as u64).saturating_mul(2);
-    match side {
-        Side::Client => twice,
-        Side::Server => twice.saturating_add(1),
-    }
+    (row as u64)
+        .saturating_mul(2)
+        .saturating_add(u64::from(side == Side::Server))
 }
 
 /// The row of the rule that is found by this key.
@@ -157,10 +192,8 @@ pub fn row_of(key: u64) -> usize {
 }
 
 // The sentence of a breach of the rule in this row.
-fn sentence_of(alloc: Global, row: usize, breach: &Breach<'_>) -> Result<String, AllocError> {
-    let rule = rule_in(row);
-    let words = rule.sentences.get(breach.sentence).copied().unwrap_or("");
+fn sentence_of(alloc: Global, row: usize, breach: &Breach<'_, '_>) -> Result<String, AllocError> {
     let mut line = Line::new(alloc);
-    line.sentence(words, breach);
+    line.sentence(Rule::in_row(row).sentence(breach.sentence), breach);
     line.finish()
 }

@@ -3,7 +3,7 @@
 use crate::line::Line;
 use crate::notes::Finding;
 use crate::report::{Counts, Refusal, word_of};
-use crate::table::{Level, Rule};
+use crate::table::{LEVEL, LINES, Level, NAME, Rule, SECTION};
 use json::Writer;
 use std::alloc::{AllocError, Global};
 
@@ -126,9 +126,9 @@ fn put(object: Object, line: &mut Line) {
 }
 
 /// Adds the object of a finding.
-pub fn json_finding(alloc: Global, rule: &Rule, finding: &Finding, line: &mut Line) {
+pub fn json_finding(alloc: Global, rule: Rule, finding: &Finding, line: &mut Line) {
     let mut object = Object::new(alloc);
-    object.text("level", rule.level.word());
+    object.text("level", rule.column(LEVEL));
     object.number("byte", finding.place);
     object.number("message", finding.message);
     object.number_if("request", finding.request);
@@ -138,11 +138,11 @@ pub fn json_finding(alloc: Global, rule: &Rule, finding: &Finding, line: &mut Li
 }
 
 // Adds what is said of a finding, and how often it was made.
-fn add_rule(rule: &Rule, finding: &Finding, object: &mut Object) {
-    object.text("rule", rule.name);
+fn add_rule(rule: Rule, finding: &Finding, object: &mut Object) {
+    object.text("rule", rule.column(NAME));
     object.text("text", finding.text.as_str());
-    object.text("section", rule.section);
-    object.text("lines", rule.lines);
+    object.text("section", rule.column(SECTION));
+    object.text("lines", rule.column(LINES));
     object.number("more", finding.more);
 }
 

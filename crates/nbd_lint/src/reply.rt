@@ -68,19 +68,20 @@ impl Reply {
 
     /// The piece that has an offset, if there is one.
     pub fn piece_at(&self, offset: u64) -> Option<Piece> {
-        let (_, piece) = self.pieces.range(..=offset).next_back()?;
-        if piece.last < offset {
-            return None;
+        match self.pieces.range(..=offset).next_back() {
+            Some((_, piece)) if piece.last >= offset => Some(*piece),
+            _ => None,
         }
-        Some(*piece)
     }
 
-    /// Takes content, which is cut here where it should not be.
-    pub fn add(&mut self, piece: Piece, cut: Option<u64>) -> Result<(), AllocError> {
+    /// Takes content, which is cut here where it should not be. The last piece of a reply is not asked for later.
+    pub fn add(&mut self, piece: Piece, cut: Option<u64>, is_last: bool) -> Result<(), AllocError> {
         self.has_content = true;
         self.is_behind_payload = true;
         self.cut = self.cut.or(cut);
-        self.pieces.insert(piece.first, piece)?;
+        if !is_last {
+            self.pieces.insert(piece.first, piece)?;
+        }
         Ok(())
     }
 

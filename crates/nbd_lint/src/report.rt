@@ -4,12 +4,11 @@ ghost use Rattle.std.specs.Prelude.{◌≡◌, ◌↔◌, IsTrue, false};
 
 use crate::line::Line;
 use crate::linter::Linter;
-use crate::notes::{Finding, row_of};
+use crate::notes::{Finding, Notes, row_of};
 use crate::objects::{json_finding, json_last, json_refusal};
-use crate::table::{COUNT, Level, Rule, rule_in};
+use crate::table::{COUNT, LEVEL, LINES, Level, NAME, Rule, SECTION, WHO};
 use nbd_wire::Side;
 use std::alloc::{AllocError, Global};
-use std::collections::BTreeMap;
 
 /// In which form a report is written.
 #[derive(Clone, Copy, PartialEq, Eq, Drop)]
@@ -50,7 +49,7 @@ impl Wanted {
     /// Whether a rule is told of.
     fn has(&self, row: usize) -> bool {
         let is_allowed = self.allowed.get(row).copied().unwrap_or(false);
-        !is_allowed && rule_in(row).level.is_told(self.level)
+        !is_allowed && Rule::in_row(row).level().is_told(self.level)
     }
 }
 
@@ -132,72 +131,48 @@ impl Report {
         refusal: Option<Refusal<'_>>,
         wanted: &Wanted,
     ) -> Result<Report, AllocError> {
-        let found = linter.finish()?;
-        let keys = ordered(alloc, &found)?;
-        let mut line = Line::new(alloc);
-        let counts = say_whole(alloc, &found, &keys, refusal, wanted, &mut line);
-        let text = line.finish()?;
-        Ok(Report {
-            text,
-            musts: counts.musts,
-            is_refused: refusal.is_some(),
-        })
+        report_of(alloc, &linter.notes, refusal, wanted)
     }
 }
 
-// Adds all that is printed, and returns how many lines of each level there are.
-fn say_whole(
+// The same of what was found.
+fn report_of(
     alloc: Global,
-    found: &BTreeMap<u64, Finding>,
-    keys: &[(u64, u64)],
+    notes: &Notes,
     refusal: Option<Refusal<'_>>,
     wanted: &Wanted,
-    line: &mut Line,
-) -> Counts {
-    let counts = say_all(alloc, found, keys, wanted, line);
+) -> Result<Report, AllocError> {
+    let mut line = Line::new(alloc);
+    line.refused_if(notes.is_refused);
+    let counts = say_all(alloc, notes, wanted, &mut line);
     match wanted.form {
-        Form::Text => say_end(refusal, counts, wanted.level, line),
-        Form::Json => json_end(alloc, refusal, counts, wanted.level, line),
+        Form::Text => say_end(refusal, counts, wanted.level, &mut line),
+        Form::Json => json_end(alloc, refusal, counts, wanted.level, &mut line),
     }
-    counts
+    Ok(Report {
+        text: line.finish()?,
+        musts: counts.musts,
+        is_refused: refusal.is_some(),
+    })
 }
 
-// The keys of the findings, by their places, and at one place by the rows of their rules.
-fn ordered(alloc: Global, found: &BTreeMap<u64, Finding>) -> Result<Vec<(u64, u64)>, AllocError> {
-    let mut keys = Vec::new(alloc);
-    for (key, finding) in found {
-        keys.push((finding.place, *key))?;
-    }
-    keys.sort()?;
-    Ok(keys)
-}
-
-// Adds the line of each finding that is told, and returns how many there are.
-fn say_all(
-    alloc: Global,
-    found: &BTreeMap<u64, Finding>,
-    keys: &[(u64, u64)],
-    wanted: &Wanted,
-    line: &mut Line,
-) -> Counts {
+// Adds the line of each finding that is told, by their places, and at one place by the rows of their rules; returns how many there are.
+fn say_all(alloc: Global, notes: &Notes, wanted: &Wanted, line: &mut Line) -> Counts {
     let mut counts = Counts::none();
-    for (_, key) in keys {
+    for (_, key) in &notes.places {
         let row = row_of(*key);
         if wanted.has(row) {
-            if let Some(finding) = found.get(key) {
-                say_one(alloc, &rule_in(row), finding, wanted.form, line);
-                counts = counts.with(rule_in(row).level);
+            if let Some(finding) = notes.found.get(key) {
+                let rule = Rule::in_row(row);
+                counts = counts.with(rule.level());
+                match wanted.form {
+                    Form::Text => say_finding(rule, finding, line),
+                    Form::Json => json_finding(alloc, rule, finding, line),
+                }
             }
         }
     }
     counts
-}
-
-fn say_one(alloc: Global, rule: &Rule, finding: &Finding, form: Form, line: &mut Line) {
-    match form {
-        Form::Text => say_finding(rule, finding, line),
-        Form::Json => json_finding(alloc, rule, finding, line),
-    }
 }
 
 /// The word of a side.
@@ -209,18 +184,12 @@ pub fn word_of(side: Side) -> &'static str {
 }
 
 // Adds the line of a finding.
-fn say_finding(rule: &Rule, finding: &Finding, line: &mut Line) {
-    line.say(rule.level.word());
+fn say_finding(rule: Rule, finding: &Finding, line: &mut Line) {
+    line.say(rule.column(LEVEL));
     line.with(" at byte ", finding.place);
-    line.say(": ");
-    line.say(word_of(finding.side));
-    line.say(": ");
-    line.say(rule.name);
-    line.say(": ");
+    line.say_each(&[": ", word_of(finding.side), ": ", rule.column(NAME), ": "]);
     line.say(finding.text.as_str());
-    line.say(" (\"");
-    line.say(rule.section);
-    line.say("\")");
+    line.say_each(&[" (\"", rule.column(SECTION), "\")"]);
     say_more(finding.more, line);
     line.say("\n");
 }
@@ -271,19 +240,21 @@ fn say_last(counts: Counts, level: Level, line: &mut Line) {
 pub fn listed(alloc: Global) -> Result<String, AllocError> {
     let mut line = Line::new(alloc);
     for row in 0..COUNT {
-        say_rule(&rule_in(row), &mut line);
+        say_rule(Rule::in_row(row), &mut line);
     }
     line.finish()
 }
 
 // Adds the line of a rule.
-fn say_rule(rule: &Rule, line: &mut Line) {
-    line.say(rule.level.word());
-    line.say(" ");
-    line.say(rule.who.word());
-    line.say(" ");
-    line.say(rule.name);
-    line.say(" ");
-    line.say(rule.lines);
-    line.say("\n");
+fn say_rule(rule: Rule, line: &mut Line) {
+    line.say_each(&[
+        rule.column(LEVEL),
+        " ",
+        rule.column(WHO),
+        " ",
+        rule.column(NAME),
+        " ",
+        rule.column(LINES),
+        "\n",
+    ]);
 }

@@ -1,37 +1,43 @@
 //! The rules on requests (proto.md, "Request types", "Command flags").
 
-use crate::breach::{Breach, breach_if};
 use crate::notes::Notes;
 use crate::numbers::{SECTOR, USUAL_LARGEST};
 use crate::table::Name;
 use crate::transmission::{Request, Transmission};
 use nbd_wire::flags::has;
-use nbd_wire::{command_flags, commands, transmission};
+use nbd_wire::{RequestHead, command_flags, commands, transmission};
 
-/// Judges a request, behind what came before it.
+/// Judges a request, behind what came before it: a request that writes nothing has FUA, one comes behind ESHUTDOWN, and others.
 pub fn judge_request(request: &Request, before: &Transmission, notes: &mut Notes) {
-    notes.note(
-        Name::WriteWithoutPayloadLen,
-        write_without_payload_len(request),
-    );
-    notes.note(Name::Length0, length_0(request));
-    notes.note(Name::FuaOnReading, fua_on_reading(request, before));
+    let head = &request.head;
+    let has_needless_fua = is_reading(head.command) && has_fua(head.flags, before);
+    notes.speak_of(request);
+    notes.note(Name::WriteWithoutPayloadLen, lacks_payload_len(head), &[]);
+    notes.note(Name::Length0, asks_for_nothing(request), &[]);
+    notes.note(Name::FuaOnReading, has_needless_fua, &[]);
     if notes.are_hinting {
         notes.note(
             Name::RequestAfterEshutdown,
-            request_after_eshutdown(request, before),
+            request.is_late,
+            &[before.eshutdown],
         );
-        notes.note(Name::RequestUnaligned, request_unaligned(request, before));
+        judge_alignment(request, before, notes);
     }
 }
 
-/// Judges a DISC with these flags.
+/// Judges a DISC with these flags: it has a flag that it may not have, or FUA, or is sent before all replies came (proto.md,
+/// "Terminating the transmission phase").
 pub fn judge_disconnect(flags: u16, before: &Transmission, notes: &mut Notes) {
-    notes.note(Name::DiscWithFlags, disc_with_flags(flags, before));
-    notes.note(Name::FuaOnReading, fua_on_disc(flags, before));
+    let has_fua = has_fua(flags, before);
+    let has_others = flags != 0 && (flags != command_flags::FUA || !has_fua);
+    notes.note(Name::DiscWithFlags, has_others, &[u64::from(flags)]);
+    if has_fua {
+        notes.tell(Name::FuaOnReading, 1, &[]);
+    }
     notes.note(
         Name::DiscWithRequestsOutstanding,
-        disc_with_requests_outstanding(before),
+        before.open != 0,
+        &[before.open],
     );
 }
 
@@ -40,83 +46,56 @@ fn has_fua(flags: u16, before: &Transmission) -> bool {
     has(flags, command_flags::FUA) && has(before.export.flags, transmission::SEND_FUA)
 }
 
-// DISC has a flag that it may not have.
-fn disc_with_flags(flags: u16, before: &Transmission) -> Option<Breach<'static>> {
-    breach_if(
-        flags != 0 && (flags != command_flags::FUA || !has_fua(flags, before)),
-        Breach::of(&[u64::from(flags)]),
-    )
+// Whether a WRITE with an extended header lacks the flag for its payload.
+fn lacks_payload_len(head: &RequestHead) -> bool {
+    head.extended
+        && head.command == commands::WRITE
+        && head.length != 0
+        && !has(head.flags, command_flags::PAYLOAD_LEN)
 }
 
-// DISC has FUA.
-fn fua_on_disc(flags: u16, before: &Transmission) -> Option<Breach<'static>> {
-    breach_if(
-        has_fua(flags, before),
-        Breach {
-            sentence: 1,
-            ..Breach::of(&[])
-        },
-    )
+// Whether a request asks for nothing.
+fn asks_for_nothing(request: &Request) -> bool {
+    request.length == 0
+        && match request.head.command {
+            commands::READ | commands::WRITE | commands::TRIM | commands::WRITE_ZEROES => true,
+            commands::BLOCK_STATUS => request.has_contexts,
+            _ => false,
+        }
 }
 
-// DISC is sent before all replies came (proto.md, "Terminating the transmission phase").
-fn disc_with_requests_outstanding(before: &Transmission) -> Option<Breach<'static>> {
-    breach_if(before.open != 0, Breach::of(&[before.open]))
-}
-
-// A WRITE with an extended header lacks the flag for its payload.
-fn write_without_payload_len(request: &Request) -> Option<Breach<'static>> {
-    let head = &request.head;
-    breach_if(
-        head.extended
-            && head.command == commands::WRITE
-            && head.length != 0
-            && !has(head.flags, command_flags::PAYLOAD_LEN),
-        Breach::by(request, &[]),
-    )
-}
-
-// A request asks for nothing.
-fn length_0(request: &Request) -> Option<Breach<'static>> {
-    let is_meant = match request.head.command {
-        commands::READ | commands::WRITE | commands::TRIM | commands::WRITE_ZEROES => true,
-        commands::BLOCK_STATUS => request.has_contexts,
-        _ => false,
-    };
-    breach_if(is_meant && request.length == 0, Breach::by(request, &[]))
-}
-
-// A request that writes nothing has FUA.
-fn fua_on_reading(request: &Request, before: &Transmission) -> Option<Breach<'static>> {
-    let is_reading = matches!(
-        request.head.command,
+// Whether requests of this type write nothing.
+fn is_reading(command: u16) -> bool {
+    matches!(
+        command,
         commands::READ | commands::FLUSH | commands::CACHE | commands::BLOCK_STATUS
-    );
-    breach_if(
-        is_reading && has_fua(request.head.flags, before),
-        Breach::by(request, &[]),
     )
 }
 
-// A request comes behind ESHUTDOWN.
-fn request_after_eshutdown(request: &Request, before: &Transmission) -> Option<Breach<'static>> {
-    breach_if(request.is_late, Breach::by(request, &[before.eshutdown]))
-}
-
-// A request is not aligned to the preferred block size, or to what serves where none was announced.
-fn request_unaligned(request: &Request, before: &Transmission) -> Option<Breach<'static>> {
-    let is_meant = request.is_proper && has_size(request.head.command);
+// A request is not aligned to the preferred block size, or to what serves where none was announced; or it is longer than is in
+// order there.
+fn judge_alignment(request: &Request, before: &Transmission, notes: &mut Notes) {
     let (size, sentence) = match before.sizes.last {
         Some(sizes) => (u64::from(sizes.preferred), 1),
         None => (SECTOR, 0),
     };
-    if is_meant && !is_aligned(request, before.export.size, size) {
-        return Some(of_range(request, size, sentence));
+    if !request.is_proper || !has_size(request.head.command) {
+        return;
     }
-    breach_if(
-        is_meant && before.sizes.last.is_none() && is_long(request),
-        of_range(request, u64::from(USUAL_LARGEST), 2),
-    )
+    if !is_aligned(request, before.export.size, size) {
+        tell_range(request, size, sentence, notes);
+    } else if sentence == 0 && is_long(request) {
+        tell_range(request, u64::from(USUAL_LARGEST), 2, notes);
+    }
+}
+
+// Tells the range of a request beside a size.
+fn tell_range(request: &Request, size: u64, sentence: usize, notes: &mut Notes) {
+    notes.tell(
+        Name::RequestUnaligned,
+        sentence,
+        &[request.head.offset, request.length, size],
+    );
 }
 
 // Whether the offset and the length are multiples of a size, or the range goes on to the export's end.
@@ -127,16 +106,8 @@ fn is_aligned(request: &Request, end: u64, size: u64) -> bool {
 
 // Whether the payload is longer than is in order where no sizes were announced.
 fn is_long(request: &Request) -> bool {
-    let carries = request.head.command == commands::READ || request.head.command == commands::WRITE;
-    carries && request.length > u64::from(USUAL_LARGEST)
-}
-
-// A breach that tells the range of a request.
-fn of_range(request: &Request, size: u64, sentence: usize) -> Breach<'static> {
-    Breach {
-        sentence,
-        ..Breach::by(request, &[request.head.offset, request.length, size])
-    }
+    matches!(request.head.command, commands::READ | commands::WRITE)
+        && request.length > u64::from(USUAL_LARGEST)
 }
 
 // Whether a request of this type has a range that block sizes bind, other than BLOCK_STATUS.

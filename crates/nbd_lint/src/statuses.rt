@@ -1,12 +1,12 @@
 //! The rules on block status (proto.md, "Request types", "Structured reply types", "`base:allocation` metadata context").
 
-use crate::breach::{Breach, breach_if};
 use crate::notes::Notes;
 use crate::numbers::MOST_EXTENTS;
 use crate::reply::is_sector;
 use crate::table::Name;
 use crate::transmission::{Request, Transmission};
-use nbd_wire::{Extent, first_extent, states};
+use nbd_wire::chunks::{BLOCK_STATUS, BLOCK_STATUS_EXT};
+use nbd_wire::{Extent, first_extent, states, status_ext_of, status_of};
 
 /// Extents of a status chunk: the id of their context, and their descriptors.
 #[derive(Clone, Copy)]
@@ -24,6 +24,20 @@ impl Status<'_> {
     }
 }
 
+/// The status that a chunk of this type is, if it is one.
+pub fn status_in(kind: u16, payload: &[u8]) -> Option<Status<'_>> {
+    let (id, descriptors) = match kind {
+        BLOCK_STATUS => status_of(payload)?,
+        BLOCK_STATUS_EXT => status_ext_of(payload)?,
+        _ => return None,
+    };
+    Some(Status {
+        extended: kind == BLOCK_STATUS_EXT,
+        id,
+        descriptors,
+    })
+}
+
 /// Judges a status chunk.
 pub fn judge_status(
     request: &Request,
@@ -31,76 +45,85 @@ pub fn judge_status(
     status: Status<'_>,
     notes: &mut Notes,
 ) {
-    if request.is_aligned {
-        notes.note(
-            Name::ExtentOffBlockSize,
-            extent_off_block_size(request, before, status),
-        );
+    let count = status.count();
+    let is_allocation = before.is_allocation(status.id);
+    let mut rest = status.descriptors;
+    let mut last = None;
+    let mut end = Some(request.head.offset);
+    notes.note(Name::TooManyExtents, count > MOST_EXTENTS, &[count]);
+    for number in 1..=count {
+        let Some((extent, behind)) = first_extent(status.extended, rest) else {
+            return;
+        };
+        end = behind_extent(end, extent);
+        judge_length(request, before, number, extent, notes);
+        judge_end(request, before, number, end, behind.is_empty(), notes);
+        judge_beside(status.extended, last, number, extent, notes);
+        if is_allocation {
+            judge_flags(extent, notes);
+        }
+        last = Some(extent);
+        rest = behind;
     }
-    notes.note(
-        Name::ExtentOff512,
-        extent_off_512(request, before.export.size, status),
-    );
-    notes.note(Name::ExtentsAlike, extents_alike(request, status));
-    notes.note(Name::TooManyExtents, too_many_extents(request, status));
-    if before.is_allocation(status.id) {
-        notes.note(Name::AllocationFlags, allocation_flags(request, status));
+}
+
+// Where an extent ends that begins here. What ends at 2^64 or behind it is not looked at.
+fn behind_extent(begin: Option<u64>, extent: Extent) -> Option<u64> {
+    match begin {
+        Some(begin) => begin.checked_add(extent.length),
+        None => None,
     }
 }
 
 // An extent is no multiple of the minimum block size.
-fn extent_off_block_size(
+fn judge_length(
     request: &Request,
     before: &Transmission,
-    status: Status<'_>,
-) -> Option<Breach<'static>> {
-    let mut rest = status.descriptors;
-    for place in 0..status.count() {
-        let (extent, behind) = first_extent(status.extended, rest)?;
-        if !before.sizes.is_multiple(extent.length) {
-            let least = u64::from(before.sizes.least);
-            return Some(of_extent(request, place, extent.length, least));
-        }
-        rest = behind;
-    }
-    None
+    number: u64,
+    extent: Extent,
+    notes: &mut Notes,
+) {
+    notes.note(
+        Name::ExtentOffBlockSize,
+        request.is_aligned && !before.sizes.is_multiple(extent.length),
+        &[number, extent.length, u64::from(before.sizes.least)],
+    );
 }
 
-// A breach that tells the extent behind so many others, and two numbers.
-fn of_extent(request: &Request, place: u64, first: u64, second: u64) -> Breach<'static> {
-    Breach::by(request, &[place.saturating_add(1), first, second])
+// An extent ends at no multiple of 512; the last one also not with the request or the export.
+fn judge_end(
+    request: &Request,
+    before: &Transmission,
+    number: u64,
+    end: Option<u64>,
+    is_last: bool,
+    notes: &mut Notes,
+) {
+    if let Some(end) = end {
+        let is_excused = is_last && (end == request.end() || end == before.export.size);
+        notes.note(
+            Name::ExtentOff512,
+            !is_sector(end) && !is_excused,
+            &[number, end],
+        );
+    }
 }
 
-// An extent ends at no multiple of 512; the last one also not with the request or the export. What ends at 2^64 or behind it is not
-// looked at.
-fn extent_off_512(request: &Request, size: u64, status: Status<'_>) -> Option<Breach<'static>> {
-    let mut rest = status.descriptors;
-    let mut end = request.head.offset;
-    for place in 0..status.count() {
-        let (extent, behind) = first_extent(status.extended, rest)?;
-        end = end.checked_add(extent.length)?;
-        let is_excused = behind.is_empty() && (end == request.end() || end == size);
-        if !is_sector(end) && !is_excused {
-            return Some(of_extent(request, place, end, 0));
-        }
-        rest = behind;
+// An extent and the one before it could be one.
+fn judge_beside(
+    extended: bool,
+    last: Option<Extent>,
+    number: u64,
+    extent: Extent,
+    notes: &mut Notes,
+) {
+    if let Some(last) = last {
+        notes.note(
+            Name::ExtentsAlike,
+            last.flags == extent.flags && fit_together(extended, last, extent),
+            &[number.saturating_sub(1), number, extent.flags],
+        );
     }
-    None
-}
-
-// Two neighbours could be one.
-fn extents_alike(request: &Request, status: Status<'_>) -> Option<Breach<'static>> {
-    let (mut last, mut rest) = first_extent(status.extended, status.descriptors)?;
-    for place in 1..status.count() {
-        let (extent, behind) = first_extent(status.extended, rest)?;
-        if extent.flags == last.flags && fit_together(status.extended, last, extent) {
-            let second = place.saturating_add(1);
-            return Some(Breach::by(request, &[place, second, extent.flags]));
-        }
-        last = extent;
-        rest = behind;
-    }
-    None
 }
 
 // Whether one descriptor could have the lengths of both.
@@ -111,24 +134,12 @@ fn fit_together(extended: bool, first: Extent, second: Extent) -> bool {
     }
 }
 
-// There are more extents than a chunk is to have.
-fn too_many_extents(request: &Request, status: Status<'_>) -> Option<Breach<'static>> {
-    breach_if(
-        status.count() > MOST_EXTENTS,
-        Breach::by(request, &[status.count()]),
-    )
-}
-
 // An extent of `base:allocation` has a flag that is reserved.
-fn allocation_flags(request: &Request, status: Status<'_>) -> Option<Breach<'static>> {
+fn judge_flags(extent: Extent, notes: &mut Notes) {
     let known = u64::from(states::HOLE | states::ZERO);
-    let mut rest = status.descriptors;
-    for _ in 0..status.count() {
-        let (extent, behind) = first_extent(status.extended, rest)?;
-        if extent.flags & !known != 0 {
-            return Some(Breach::by(request, &[extent.flags]));
-        }
-        rest = behind;
-    }
-    None
+    notes.note(
+        Name::AllocationFlags,
+        extent.flags & !known != 0,
+        &[extent.flags],
+    );
 }

@@ -1,67 +1,29 @@
 //! The rule on modes of TLS: a server keeps one for the whole connection (proto.md, "Server-side requirements").
 
 use crate::asked::Asked;
-use crate::breach::{Breach, breach_if};
+use crate::notes::Notes;
 use crate::numbers::{ERR_PLATFORM, ERR_TLS_REQD, ERR_UNSUP};
+use crate::table::Name;
 use nbd_wire::answers::is_error;
 use nbd_wire::options;
 
-/// Which of the modes a server can have.
-#[derive(Clone, Copy, Drop)]
-pub struct Modes {
-    none: bool,
-    forced: bool,
-    selective: bool,
-}
+/// Which of the modes a server can have, a bit each: there is no TLS; everything is hidden until TLS is negotiated; some exports are.
+type Modes = u8;
 
-/// Before the first answer.
-const ALL: Modes = Modes {
-    none: true,
-    forced: true,
-    selective: true,
-};
+const WITHOUT_TLS: Modes = 1;
+
+const FORCED: Modes = 2;
+
+const SELECTIVE: Modes = 4;
 
 /// An export is hidden until TLS is negotiated.
-const WITH_TLS: Modes = Modes { none: false, ..ALL };
-
-/// Everything is.
-const FORCED: Modes = Modes {
-    selective: false,
-    ..WITH_TLS
-};
+const WITH_TLS: Modes = FORCED | SELECTIVE;
 
 /// Something is not.
-const OPEN: Modes = Modes {
-    forced: false,
-    ..ALL
-};
+const OPEN: Modes = WITHOUT_TLS | SELECTIVE;
 
-/// There is no TLS.
-const WITHOUT_TLS: Modes = Modes {
-    selective: false,
-    ..OPEN
-};
-
-impl Modes {
-    // Those of both.
-    fn and(self, other: Modes) -> Modes {
-        Modes {
-            none: self.none && other.none,
-            forced: self.forced && other.forced,
-            selective: self.selective && other.selective,
-        }
-    }
-
-    // Whether there is one.
-    fn is_any(self) -> bool {
-        self.none || self.forced || self.selective
-    }
-
-    // Whether there is each.
-    fn are_all(self) -> bool {
-        self.none && self.forced && self.selective
-    }
-}
+/// Before the first answer.
+const ALL: Modes = WITHOUT_TLS | FORCED | SELECTIVE;
 
 /// An answer that leaves only some modes.
 #[derive(Clone, Copy, Drop)]
@@ -101,8 +63,8 @@ impl Tls {
     /// After an answer to an option; where it leaves no mode, what it leaves alone.
     pub fn after(self, asked: &Asked, kind: u32, place: u64) -> Tls {
         let sign = sign_of(asked, kind, place);
-        let left = self.left.and(sign.leaves);
-        if left.is_any() {
+        let left = self.left & sign.leaves;
+        if left != 0 {
             Tls {
                 left,
                 signs: with(self.signs, sign),
@@ -118,25 +80,18 @@ impl Tls {
 
 // The signs with one more, unless the same modes are left by an earlier one, or it leaves all.
 fn with(signs: [Sign; 4], sign: Sign) -> [Sign; 4] {
-    let [first, second, third, fourth] = signs;
-    if sign.leaves.are_all() {
-        signs
-    } else if sign.leaves.none {
-        if sign.leaves.selective {
-            [earlier(first, sign), second, third, fourth]
-        } else {
-            [first, earlier(second, sign), third, fourth]
-        }
-    } else if sign.leaves.selective {
-        [first, second, earlier(third, sign), fourth]
-    } else {
-        [first, second, third, earlier(fourth, sign)]
+    let mut signs = signs;
+    let place = match sign.leaves {
+        OPEN => 0,
+        WITHOUT_TLS => 1,
+        WITH_TLS => 2,
+        FORCED => 3,
+        _ => return signs,
+    };
+    if signs[place].place == 0 {
+        signs[place] = sign;
     }
-}
-
-// The first of the two, where there is one.
-fn earlier(known: Sign, sign: Sign) -> Sign {
-    if known.place == 0 { sign } else { known }
+    signs
 }
 
 // What an answer leaves.
@@ -167,27 +122,30 @@ fn is_without_tls(kind: u32) -> bool {
     kind == ERR_UNSUP || kind == ERR_PLATFORM
 }
 
-/// No mode allows this answer and those before it; the sentence names the first that no mode allows with it.
-pub fn tls_mode(before: &Tls, asked: &Asked, kind: u32) -> Option<Breach<'static>> {
+/// Judges an answer: no mode allows it and those before it. The sentence names the first that no mode allows with it.
+pub fn judge_tls(before: &Tls, asked: &Asked, kind: u32, notes: &mut Notes) {
     let leaves = left_by(asked, kind);
-    let first = first_against(before, leaves);
-    breach_if(
-        !before.left.and(leaves).is_any(),
-        Breach::of(&[
-            u64::from(asked.id),
-            u64::from(kind),
-            first.place,
-            u64::from(first.option),
-            u64::from(first.kind),
-        ]),
-    )
+    if before.left & leaves == 0 {
+        let first = first_against(before, leaves);
+        notes.tell(
+            Name::TlsMode,
+            0,
+            &[
+                asked.number(),
+                u64::from(kind),
+                first.place,
+                u64::from(first.option),
+                u64::from(first.kind),
+            ],
+        );
+    }
 }
 
 // The first answer beside which these modes leave none.
 fn first_against(before: &Tls, leaves: Modes) -> Sign {
     let mut first = NO_SIGN;
     for sign in &before.signs {
-        let is_against = sign.place != 0 && !sign.leaves.and(leaves).is_any();
+        let is_against = sign.place != 0 && sign.leaves & leaves == 0;
         if is_against && (first.place == 0 || sign.place < first.place) {
             first = *sign;
         }

@@ -6,7 +6,6 @@ use crate::sizes::Announced;
 use nbd_state::{Asking, Export, Outstanding, Selection, is_proper};
 use nbd_wire::{Message, RequestHead};
 use std::alloc::{AllocError, Global};
-use std::collections::BTreeMap;
 
 /// A request under way.
 #[derive(Drop)]
@@ -52,8 +51,6 @@ pub struct Transmission {
     outstanding: Outstanding,
     /// How many are outstanding.
     pub open: u64,
-    /// Those of them whose reply has begun, by their cookies.
-    pub begun: BTreeMap<u64, Request>,
     /// The place of the first ESHUTDOWN, and how many requests came before it; 0 where none came.
     pub eshutdown: u64,
     before_eshutdown: u64,
@@ -71,7 +68,6 @@ impl Transmission {
             places: Vec::new(alloc),
             outstanding: Outstanding::none(alloc),
             open: 0,
-            begun: BTreeMap::new(alloc),
             eshutdown: 0,
             before_eshutdown: 0,
         }
@@ -87,8 +83,8 @@ impl Transmission {
         self.asked(alloc, self.places.len(), head, payload)
     }
 
-    // The request behind so many others, with this head and payload, as it stood behind what had come before it.
-    fn asked(
+    /// The request behind so many others, with this head and payload, as it stood behind what had come before it.
+    pub fn asked(
         &self,
         alloc: Global,
         before: usize,
@@ -96,10 +92,13 @@ impl Transmission {
         payload: &[u8],
     ) -> Result<Request, AllocError> {
         let flags = self.export.flags;
-        let asking = self
+        match self
             .selection
-            .asking(alloc, self.is_agreed, flags, head, payload)?;
-        Ok(self.request(alloc, before as u64, head, &asking))
+            .asking(alloc, self.is_agreed, flags, head, payload)
+        {
+            Ok(asking) => Ok(self.request(alloc, before as u64, head, &asking)),
+            Err(_) => Err(AllocError),
+        }
     }
 
     // The same of one that asks this.
@@ -120,41 +119,31 @@ impl Transmission {
 
     /// Takes a request with this cookie, which is the message at this place of all.
     pub fn ask(&mut self, cookie: u64, place: usize) -> Result<(), AllocError> {
-        let Ok(place) = u32::try_from(place) else {
-            return Err(AllocError);
-        };
         self.outstanding.insert(cookie, self.places.len())?;
-        self.places.push(place)?;
         self.open = self.open.saturating_add(1);
-        Ok(())
-    }
-
-    /// The reply to a request begins or goes on. These are the messages so far.
-    pub fn reply(
-        &mut self,
-        alloc: Global,
-        cookie: u64,
-        messages: &[Message],
-    ) -> Result<(), AllocError> {
-        if self.begun.contains_key(&cookie) {
-            return Ok(());
+        match u32::try_from(place) {
+            Ok(place) if self.places.push(place).is_ok() => Ok(()),
+            _ => Err(AllocError),
         }
-        let Some(before) = self.outstanding.get(cookie) else {
-            return Ok(());
-        };
-        let Some((head, payload)) = asked_at(self.places.get(before), messages) else {
-            return Ok(());
-        };
-        let request = self.asked(alloc, before, &head, payload)?;
-        self.begun.insert(cookie, request)?;
-        Ok(())
     }
 
-    /// A request is answered; returns it where its reply had begun.
-    pub fn end(&mut self, cookie: u64) -> Option<Request> {
+    /// The outstanding request with this cookie among the messages so far, and how many came before it.
+    pub fn outstanding<'a>(
+        &self,
+        cookie: u64,
+        messages: &'a [Message],
+    ) -> Option<(usize, &'a Message)> {
+        let before = self.outstanding.get(cookie)?;
+        match self.places.get(before) {
+            Some(place) => Some((before, messages.get(*place as usize)?)),
+            None => None,
+        }
+    }
+
+    /// A request is answered.
+    pub fn end(&mut self, cookie: u64) {
         self.outstanding.remove(cookie);
         self.open = self.open.saturating_sub(1);
-        self.begun.remove(&cookie)
     }
 
     /// Takes an ESHUTDOWN that comes at this place of the capture.
@@ -169,11 +158,6 @@ impl Transmission {
     pub fn is_allocation(&self, id: u32) -> bool {
         self.is_agreed && self.selection.is_allocation(id)
     }
-}
-
-// The head and the payload of the request at a place among the messages, if there is one.
-fn asked_at<'a>(place: Option<&u32>, messages: &'a [Message]) -> Option<(RequestHead, &'a [u8])> {
-    request_of(messages.get(*place? as usize)?)
 }
 
 /// The head and the payload of a message that is a request.
