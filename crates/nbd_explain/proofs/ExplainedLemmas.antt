@@ -37,23 +37,6 @@ pub is_order : (order : Option (List ℕ)) (entries : List Entry) → IfSome ord
 is_order None entries text = tt
 is_order (Some bytes) entries text = (entries, text)
 
--- what a fault says that came of reading the start, behind an order
-pub cause_on : {I : Type 0} (remaining : I → Option (List ℕ)) (order : Option (List ℕ)) (start : StartFrom I) (fault : RunFault) → IsOrder order → IsStartCause remaining start fault →
-    (known : Option (List ℕ)) → IsCapture known → IsCause remaining known order start fault
-cause_on remaining order start ImageRead is_order cause = λ known capture. (capture, is_order, cause)
-cause_on remaining order start ContentsRead is_order cause = λ known capture. (capture, is_order, cause)
-cause_on remaining order start (ContentsLine n) is_order cause = λ known capture. (capture, is_order, cause)
-cause_on remaining order start Memory is_order cause = λ known capture. tt
-cause_on remaining order start fault is_order cause = absurd cause
-
--- and without an order
-pub cause_of : {I : Type 0} (remaining : I → Option (List ℕ)) (start : StartFrom I) (fault : RunFault) → IsStartCause remaining start fault → (known : Option (List ℕ)) → IsCapture known → IsOrderingCause remaining known start fault
-cause_of remaining start ImageRead cause = λ known capture. (capture, cause)
-cause_of remaining start ContentsRead cause = λ known capture. (capture, cause)
-cause_of remaining start (ContentsLine n) cause = λ known capture. (capture, cause)
-cause_of remaining start Memory cause = λ known capture. tt
-cause_of remaining start fault cause = absurd cause
-
 -- where nothing was written
 keeps_same : (old : Option (List ℕ)) → Keeps old old
 keeps_same None = tt

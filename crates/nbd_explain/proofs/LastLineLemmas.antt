@@ -97,13 +97,7 @@ module _ {profile : Profile} (known : Option (List ℕ)) (r : SessionView) (sess
       prefix_shown old new (then_prefix old mid new (message_lines r.messages) (last_line (fault_at_end r)) first (subst (λ e. AppendsPrefix mid new (last_line e)) same left))
   last_stopped old mid new ended (Err faults.Memory) same first left =
       inr (messages_shown old new (message_lines r.messages, [], sym (append-nil (message_lines r.messages)), then_kept old mid new (message_lines r.messages) first left))
-  last_stopped old mid new ended (Err (faults.CaptureLine n)) same first left = absurd left
-  last_stopped old mid new ended (Err faults.CaptureRead) same first left = absurd left
-  last_stopped old mid new ended (Err (faults.OrderLine n)) same first left = absurd left
-  last_stopped old mid new ended (Err faults.OrderRead) same first left = absurd left
-  last_stopped old mid new ended (Err faults.ImageRead) same first left = absurd left
-  last_stopped old mid new ended (Err (faults.ScriptLine n)) same first left = absurd left
-  last_stopped old mid new ended (Err faults.ScriptRead) same first left = absurd left
+  last_stopped old mid new ended (Err fault) same first left = absurd left
 
 -- what a fault of written lines says of the capture
 pub output_cause : {A : Type 0} (known : Option (List ℕ)) (fault : OutputFault) (o : Result A RunFault) → IsCapture known → IsErrAnd o (λ e. e ≡ of_output fault) → IfErr o (IsShowCause known)

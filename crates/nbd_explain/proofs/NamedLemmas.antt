@@ -26,13 +26,7 @@ pub last_cause : {profile : Profile} (known : Option (List ℕ)) (r : SessionVie
 last_cause known r ended old new (Ok b) session left = tt
 last_cause known r ended old new (Err faults.Write) session left = capture_over known r session
 last_cause known r ended old new (Err faults.Memory) session left = tt
-last_cause known r ended old new (Err (faults.CaptureLine n)) session left = absurd left
-last_cause known r ended old new (Err faults.CaptureRead) session left = absurd left
-last_cause known r ended old new (Err (faults.OrderLine n)) session left = absurd left
-last_cause known r ended old new (Err faults.OrderRead) session left = absurd left
-last_cause known r ended old new (Err faults.ImageRead) session left = absurd left
-last_cause known r ended old new (Err (faults.ScriptLine n)) session left = absurd left
-last_cause known r ended old new (Err faults.ScriptRead) session left = absurd left
+last_cause known r ended old new (Err fault) session left = absurd left
 
 -- what a fault says of the capture where the writer failed or memory ran out
 pub told_cause : {profile : Profile} (A : Type 0) (known : Option (List ℕ)) (r : SessionView) (o : Result A RunFault) (fault : RunFault) → IsOverText profile known r → IsErrAnd o (λ f. f ≡ fault) →

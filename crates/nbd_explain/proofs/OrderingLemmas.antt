@@ -1,6 +1,7 @@
 -- What a run of `order` writes.
-use Rattle.nbd_explain.proofs.Common.{◌≡◌, ℕ, List, [], ◌∷◌, ◌++◌, ◌<◌, ◌≤◌, ap, refl, sym, subst, Option, Some, None, Result, Ok, Err, IfOk, IfErr, IfSome, length, slice_index, slice_get, inl, inr, arith, decimal, Appends, Entry, WireFault, Profile, Pair, FitsImage, IsExplainedOf, Start, start_byte, Item, pairs, Report, report, IsRunOf, Passes, request_count, IsSoundReport, no_export, SessionFault, Wire, EndsIn, IsReported, SessionView, fault_at_end, fault_of, no_run_of, IsFaultOf, HasReport, IsFound, IsWanted, Says, arrival, IsRefutedBy, IsUnexplained, Found, Wanted, IsOverText, IsOrdered, IsOrderedFrom, IsUnexplainedBy, Orders, found_text, ordered_of, spaced_numbers, unexplained_line, gave_up, image, none_whole, order, unexplained, wire, Refuted, Beginning, IsBeginningOf, room_in, IsToldFrom, IsToldOf, of_refusal, of_report, RunFault, Ordered, flat_of, line, words, fault_over, report_over, Exporting, size_and_flags, IsOtherSize, wrong_verdict, size_of, IsReadAs, Longer}
+use Rattle.nbd_explain.proofs.Common.{◌≡◌, ℕ, List, [], ◌∷◌, ◌++◌, ◌<◌, ◌≤◌, ap, refl, sym, ◌∙◌, subst, Option, Some, None, Result, Ok, Err, IfOk, IfErr, IfSome, length, slice_index, slice_get, inl, inr, arith, decimal, Appends, Entry, WireFault, Profile, Pair, FitsImage, IsExplainedOf, Start, start_byte, Item, pairs, Report, report, IsRunOf, Passes, request_count, IsSoundReport, no_export, SessionFault, Wire, EndsIn, IsReported, SessionView, fault_at_end, fault_of, no_run_of, IsFaultOf, HasReport, IsFound, IsWanted, Says, arrival, IsRefutedBy, IsUnexplained, Found, Wanted, IsOverText, IsOrdered, IsOrderedFrom, IsUnexplainedBy, Orders, found_text, ordered_of, spaced_numbers, unexplained_line, gave_up, image, none_whole, order, unexplained, wire, Refuted, Beginning, IsBeginningOf, room_in, IsToldFrom, IsToldOf, of_refusal, of_report, RunFault, Ordered, flat_of, line, words, fault_over, report_over, Exporting, size_and_flags, IsOtherSize, wrong_verdict, size_of, IsReadAs, Longer}
 use Rattle.std.specs.Prelude.{codes}
+use Rattle.std.proofs.lemmas.List.{length-map}
 use Rattle.nbd_judge.specs.declared.verdict.Verdict.TheVariants as verdict
 use Rattle.nbd_order.specs.declared.finding.Found.TheVariants as found
 
@@ -11,7 +12,7 @@ counted_other (Some e) initial n size flags q h =
     let s : (size, flags) ≡ (e.size, e.flags) = cc in
     let same : size ≡ e.size = ap (λ (p : ℕ × ℕ). p.0) s in
     subst (λ i. IsOtherSize (Some e) i n size) (sym h.1)
-    (h.2, same, λ z. (let more : e.size < n = h.3 in let is : n ≡ length h.0 = h.2 in absurd (omega (arith, z, more, is))))
+    (h.2 ∙ sym (length-map h.0 Some), same, λ z. (let more : e.size < n = h.3 in let is : n ≡ length h.0 = h.2 in let l = length-map h.0 Some in absurd (omega (arith, z, more, is, l))))
 
 -- without an export there is no request, and the empty order passes
 pub nothing_passes : (profile : Profile) (r : Report) (initial : Start) → IsSoundReport r → None ≡ size_and_flags r.export → Passes profile r [] initial

@@ -41,5 +41,6 @@ IsOrderWithinLimit remaining None = Unit {0}
 -- what a fault says of the inputs: as of `check`, or without an order as of `order`
 abbrev pub IsExplainCause : {O I : Type 0} → (O → Option (List ℕ)) → (I → Option (List ℕ)) → Option (List ℕ) → Option O
     → StartFrom I → RunFault → Type 0
-IsExplainCause remaining of_start capture (Some order) start fault = IsCause of_start capture (remaining order) start fault
+IsExplainCause remaining of_start capture (Some order) start fault =
+    IsCause of_start capture (remaining order) start fault
 IsExplainCause remaining of_start capture None start fault = IsOrderingCause of_start capture start fault

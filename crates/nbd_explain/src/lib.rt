@@ -21,8 +21,8 @@ mod writing;
 
 pub use answer::{Answer, explain_status};
 pub use arrival::{run_arrival, run_arrival_of};
-pub use contents::run_contents;
 pub use as_objects::{run_names_as_objects, run_show_as_objects};
+pub use contents::run_contents;
 pub use explain::{run_explain, run_explain_of};
 pub use linting::{run_lint, write_rules};
 pub use listing::{run_names, run_names_of};

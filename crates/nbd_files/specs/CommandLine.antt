@@ -5,8 +5,8 @@ use Rattle.nbd_files.specs.RunFaults.{status}
 use Rattle.nbd_files.specs.declared.command_line.StartWord.{StartWord}
 use Rattle.nbd_files.specs.declared.command_line.StartWord.TheVariants.{Unknown, Zero, Image, Contents}
 
--- the word behind `--start` names this start: bytes that are not known, zeroes, those of the file behind `image:`, or what
--- the text in the file behind `contents:` says
+-- the word behind `--start` names this start: bytes that are not known, zeroes, those of the file behind `image:`, or
+-- what the text in the file behind `contents:` says
 abbrev pub Names : List ℕ → StartWord → Type 0
 Names word Unknown = word ≡ codes "unknown"
 Names word Zero = word ≡ codes "zero"

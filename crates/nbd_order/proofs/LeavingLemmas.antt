@@ -79,7 +79,7 @@ left_held asked e mid behind m size a b same bytes =
     ap (held_from (byte_of e) 0) (a ∙ b)
     ∙ held_from-same (byte_of e) (forgotten asked behind) 0 size
     (λ x lo hi. let l : x < size = omega arith in
-        same x (subst (λ (n : ℕ). x < n) (sym b) l) ∙ ap (λ byte. if are_open_at asked x then None else byte) (bytes x l))
+    same x (subst (λ (n : ℕ). x < n) (sym b) l) ∙ ap (λ byte. if are_open_at asked x then None else byte) (bytes x l))
 
 -- what is left depends on the bytes at first only below the export's size
 pub left_of_start : {E : Type 0} (profile : Profile) (r : Report) → IsSoundReport r → (order : List Entry) (initial : Start) (f : ℕ → Option ℕ) (n : ℕ) (export : Exporting) → r.export ≡ Some export → export.size ≡ n
@@ -90,8 +90,13 @@ left_of_start {E} profile r sound order initial f n export is sized fits same (O
     let below : export_size r.export ≡ n = ap export_size is ∙ sized in
     (report_of_conclusion {E = E} profile r sound order f initial fits (λ x l. same x (subst (λ (k : ℕ). x < k) below l)) (Ok v) h.0, h.1)
 left_of_start {E} profile r sound order initial f n export is sized fits same (Ok (Contents contents)) h =
-    let below : export_size r.export ≡ n = ap export_size is ∙ sized in
-    ((h.0.0, report_of_conclusion {E = E} profile r sound order f initial fits (λ x l. same x (subst (λ (k : ℕ). x < k) below l)) (Ok h.0.0) h.0.1, h.0.2),
-    (export, is, h.1 ∙ held_from-same (left r order f) (left r order (start_byte initial)) 0 n
-    (λ x lo hi. ap (λ byte. if are_open_at r.asked x then None else byte) (left_same (last_touch (effects r) x (take (length order) order)) f (start_byte initial) x (same x (omega arith))))
-    ∙ ap (held_from (left r order (start_byte initial)) 0) (sym sized)))
+    let below : export_size r.export ≡ n = ap export_size is ∙ sized in (
+      (h.0.0, report_of_conclusion {E = E} profile r sound order f initial fits (λ x l. same x (subst (λ (k : ℕ). x < k) below l)) (Ok h.0.0) h.0.1, h.0.2),
+      (
+        export,
+        is,
+        h.1 ∙ held_from-same (left r order f) (left r order (start_byte initial)) 0 n
+            (λ x lo hi. ap (λ byte. if are_open_at r.asked x then None else byte) (left_same (last_touch (effects r) x (take (length order) order)) f (start_byte initial) x (same x (omega arith))))
+            ∙ ap (held_from (left r order (start_byte initial)) 0) (sym sized),
+      ),
+    )

@@ -75,10 +75,12 @@ AnswersExactly profile capture order initial says = Unit {0}
 
 -- what a fault says of the known bytes of the capture and of the order, and of the start: the capture is judged first,
 -- then the order, then the start
-abbrev pub IsCause : {I : Type 0} → (I → Option (List ℕ)) → (capture order : Option (List ℕ)) → StartFrom I → RunFault → Type 0
+abbrev pub IsCause : {I : Type 0} → (I → Option (List ℕ)) → (capture order : Option (List ℕ)) → StartFrom I → RunFault
+    → Type 0
 IsCause remaining capture order start (CaptureLine n) = IfSome capture (λ text. IsFirstBadCaptureLine text n)
 IsCause remaining capture order start CaptureRead = Unit {0}
-IsCause remaining capture order start (OrderLine n) = IsCapture capture × IfSome order (λ text. IsFirstBadOrderLine text n)
+IsCause remaining capture order start (OrderLine n) =
+    IsCapture capture × IfSome order (λ text. IsFirstBadOrderLine text n)
 IsCause remaining capture order start OrderRead = IsCapture capture
 IsCause remaining capture order start Write = IsCapture capture × IsOrder order
 IsCause remaining capture order start Memory = Unit {0}

@@ -3,8 +3,8 @@
 use crate::asked::Asked;
 use nbd_capture::write_whole;
 use nbd_explain::{
-    Answer, Ordered, objects_of, run_arrival_of, run_contents, run_explain_of, run_names_as_objects,
-    run_names_of, run_order_of, run_show_as_objects, run_show_of,
+    Answer, Ordered, objects_of, run_arrival_of, run_contents, run_explain_of,
+    run_names_as_objects, run_names_of, run_order_of, run_show_as_objects, run_show_of,
 };
 use nbd_files::{
     Files, FinalWriter, Opener, RunFault, StartFrom, open_inputs, open_start, terminal,

@@ -40,8 +40,8 @@ FitsImage _ _ = Unit {0}
 abbrev pub HasNoWrongByte : Report → List Entry → Start → Type 0
 HasNoWrongByte r order initial = (i x : ℕ) → IsWrong (effects r) order (start_byte initial) i x → ⊥
 
--- some run of the profile has these bytes and is served in this order, a start of given bytes has the export's size, and no byte
--- of a READ and no zero of a status that is served is wrong (this project's choice)
+-- some run of the profile has these bytes and is served in this order, a start of given bytes has the export's size,
+-- and no byte of a READ and no zero of a status that is served is wrong (this project's choice)
 pub record IsExplainedOf (profile : Profile) (capture : List Pair) (order : List Entry)
     (initial : Start) : Type 0 where
   pub items : List Item
