@@ -202,7 +202,8 @@ const SCRIPT: Word = Word {
     excludes: &[],
 };
 
-const COMMANDS: &[Told] = &[
+// The commands that judge a session, and say what it leaves.
+const JUDGING: &[Told] = &[
     Told {
         name: "check",
         about: "Did both ends keep the protocol, and did every read return the right bytes?",
@@ -238,6 +239,10 @@ const COMMANDS: &[Told] = &[
         help: CONTENTS_HELP,
         words: &[CAPTURE, ORDER_IF_ANY, START, PROFILE, AGAINST, JSON, HINTS],
     },
+];
+
+// The commands that read a session or write one, and judge nothing of its order.
+const READING: &[Told] = &[
     Told {
         name: "show",
         about: "Which messages does a capture hold?",
@@ -401,11 +406,30 @@ Exit status:
 
 /// The command line: the program's commands with their words.
 pub fn command<'a>(alloc: Global) -> Result<Command<'a>, AllocError> {
-    let mut command = Command::new(alloc, "nbdcheck")
+    let command = Command::new(alloc, "nbdcheck")
         .about("Checks recorded sessions between an NBD client and an NBD server")
         .version("0.1.0")
         .subcommand_required(true);
-    for told in COMMANDS {
+    let command = with_commands(alloc, command, judging())?;
+    with_commands(alloc, command, reading())
+}
+
+fn judging() -> &'static [Told] {
+    JUDGING
+}
+
+fn reading() -> &'static [Told] {
+    READING
+}
+
+// The command with these of its own.
+fn with_commands<'a>(
+    alloc: Global,
+    command: Command<'a>,
+    commands: &'static [Told],
+) -> Result<Command<'a>, AllocError> {
+    let mut command = command;
+    for told in commands {
         command = with_command(command, with_words(alloc, *told))?;
     }
     Ok(command)
