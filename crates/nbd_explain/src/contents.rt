@@ -47,46 +47,70 @@ pub fn run_contents<
     ensures order_limited { OnOk result (IsOrderWithinLimit O.remaining order) }
     ensures start_limited { OnOk result (IsStartWithinLimit I.remaining start) }
 {
+    let left = left_over(alloc, profile, capture, order, start)?;
+    write_left(alloc, &left, against, out)
+}
+
+// What is left of the session of a capture, from the order and the start that are read behind it.
+fn left_over<C: BufRead + Drop, O: Read + Drop, I: Measured + Drop>(
+    alloc: Global,
+    profile: Profile,
+    capture: C,
+    order: Option<O>,
+    start: StartFrom<I>,
+) -> Result<Left, RunFault>
+    ensures well_formed { OnOk result (IsCapture (C.remaining capture)) }
+    ensures limited { OnOk result (IsWithinLimit (C.remaining capture)) }
+    ensures order_limited { OnOk result (IsOrderWithinLimit O.remaining order) }
+    ensures start_limited { OnOk result (IsStartWithinLimit I.remaining start) }
+{
     let session = session_over(alloc, profile, capture, &mut Unseen)?;
-    let left = left_over(alloc, profile, session.finish(), order, start)?;
-    write_left(alloc, left, against, out)
+    left_behind(alloc, profile, &session.finish(), order, start)
 }
 
 // What is left of a finished session, from the order and the start that are read.
-fn left_over<O: Read + Drop, I: Measured + Drop>(
+fn left_behind<O: Read + Drop, I: Measured + Drop>(
     alloc: Global,
     profile: Profile,
-    finished: Result<Transcript, SessionFault>,
+    finished: &Result<Transcript, SessionFault>,
     order: Option<O>,
     start: StartFrom<I>,
 ) -> Result<Left, RunFault>
     ensures order_limited { OnOk result (IsOrderWithinLimit O.remaining order) }
     ensures start_limited { OnOk result (IsStartWithinLimit I.remaining start) }
 {
+    let entries = read_entries(alloc, order)?;
+    let start = read_start(alloc, start, room_of(finished))?;
+    left_of(alloc, profile, finished, &entries, start)
+}
+
+// The entries of an order, if there is one.
+fn read_entries<O: Read + Drop>(
+    alloc: Global,
+    order: Option<O>,
+) -> Result<Option<Vec<Entry>>, RunFault>
+    ensures { OnOk result (IsOrderWithinLimit O.remaining order) }
+{
     match order {
-        Some(mut order) => {
-            let entries = read_order(alloc, &mut order)?;
-            let start = read_start(alloc, start, room_of(&finished))?;
-            left_of(alloc, profile, finished, Some(&entries), start)
-        }
-        None => {
-            let start = read_start(alloc, start, room_of(&finished))?;
-            left_of(alloc, profile, finished, None, start)
-        }
+        Some(mut order) => Ok(Some(read_order(alloc, &mut order)?)),
+        None => Ok(None),
     }
 }
 
-// The same of what was read.
+// What is left, from what was read.
 fn left_of(
     alloc: Global,
     profile: Profile,
-    finished: Result<Transcript, SessionFault>,
-    order: Option<&[Entry]>,
+    finished: &Result<Transcript, SessionFault>,
+    order: &Option<Vec<Entry>>,
     start: Beginning,
 ) -> Result<Left, RunFault> {
     match finished {
-        Ok(transcript) => Ok(left_from(alloc, profile, &transcript, order, start)?),
-        Err(SessionFault::Wire { at, fault }) => Ok(Left::Refused(Verdict::Wire { at, fault })),
+        Ok(transcript) => Ok(left_from(alloc, profile, transcript, order, start)?),
+        Err(SessionFault::Wire { at, fault }) => {
+            let (at, fault) = (*at, *fault);
+            Ok(Left::Refused(Verdict::Wire { at, fault }))
+        }
         Err(SessionFault::Memory) => Err(RunFault::Memory),
     }
 }
@@ -96,7 +120,7 @@ fn left_from(
     alloc: Global,
     profile: Profile,
     transcript: &Transcript,
-    order: Option<&[Entry]>,
+    order: &Option<Vec<Entry>>,
     start: Beginning,
 ) -> Result<Left, AllocError> {
     let start = match (start, transcript.export()) {
@@ -115,25 +139,37 @@ fn left_from(
 // Writes what is left, or whether it agrees with an image.
 fn write_left<A: Measured + Drop, W: Write>(
     alloc: Global,
-    left: Left,
+    left: &Left,
     against: Option<A>,
     out: &mut W,
 ) -> Result<bool, RunFault> {
-    match (left, against) {
-        (Left::Refused(verdict), _) => write_verdict(alloc, verdict, out),
-        (Left::NoExport, _) => {
+    match left {
+        Left::Refused(verdict) => write_verdict(alloc, *verdict, out),
+        Left::NoExport => {
             write_whole(out, NO_EXPORT.as_bytes())?;
             Ok(false)
         }
-        (Left::Contents(contents), None) => {
-            write_contents(out, &contents)?;
-            Ok(true)
-        }
-        (Left::Contents(contents), Some(mut image)) => {
-            let compared = comparison(alloc, &contents, &mut image)?;
-            write_compared(alloc, &compared, out)
-        }
+        Left::Contents(contents) => match against {
+            Some(mut image) => write_against(alloc, contents, &mut image, out),
+            None => {
+                write_contents(out, contents)?;
+                Ok(true)
+            }
+        },
     }
+}
+
+// Writes how contents and an image compare; true where they agree.
+fn write_against<A: Measured, W: Write>(
+    alloc: Global,
+    contents: &Extents,
+    image: &mut A,
+    out: &mut W,
+) -> Result<bool, RunFault> {
+    let compared = comparison(alloc, contents, image)?;
+    let text = line_of(alloc, &compared)?;
+    write_whole(out, text.as_bytes())?;
+    Ok(matches!(compared, Compared::Agree { .. }))
 }
 
 /// How contents and an image compare.
@@ -145,17 +181,6 @@ enum Compared {
     Sizes { image: u64, size: u64 },
     /// The least offset of a known byte that is another one in the image.
     Differ { offset: u64 },
-}
-
-// Writes how they compare; true where they agree.
-fn write_compared<W: Write>(
-    alloc: Global,
-    compared: &Compared,
-    out: &mut W,
-) -> Result<bool, RunFault> {
-    let text = line_of(alloc, compared)?;
-    write_whole(out, text.as_bytes())?;
-    Ok(matches!(compared, Compared::Agree { .. }))
 }
 
 fn line_of(alloc: Global, compared: &Compared) -> Result<String, AllocError> {

@@ -97,17 +97,36 @@ fn told_of_found(
         limits,
     };
     let found = find_order(alloc, profile, &transcript, start, scope, progress)?;
+    told_kept(
+        alloc, profile, transcript, &found, kept, story, scope, progress,
+    )
+}
+
+// The line of what was found, from a start that was kept, and what that says, and the answer.
+fn told_kept(
+    alloc: Global,
+    profile: Profile,
+    transcript: Transcript,
+    found: &Found,
+    kept: Beginning,
+    story: &Story,
+    scope: Scope,
+    progress: &mut Progress,
+) -> Result<(String, Answer), AllocError>
+    ensures begins { IfOk result (λ told. BeginsWithLineOf profile transcript found.now kept told.0.bytes.items) }
+    ensures answer { IfOk result (λ told. told.1 ≡ answer_to found.now) }
+{
     let is_wider = is_wider(
         alloc,
         profile,
         &transcript,
-        &found,
+        found,
         &kept,
         story,
         scope,
         progress,
     )?;
-    told_found(alloc, profile, transcript, &found, kept, is_wider, story)
+    told_found(alloc, profile, transcript, found, kept, is_wider, story)
 }
 
 // Whether no order explains the session in the profile `Base`, and one is found that does in `Wide`.

@@ -234,10 +234,15 @@ pub fn sweep(
 ) -> Result<(), AllocError> {
     let touches = Touches::of(alloc, transcript, contents.size())?;
     let mut here = Here::new(alloc);
+    walk(&touches, &mut here, contents)
+}
+
+// Goes from each offset at which one begins or ends to the next.
+fn walk(touches: &Touches<'_>, here: &mut Here, contents: &mut Extents) -> Result<(), AllocError> {
     let mut at = 0;
     for (offset, is_begun, place) in &touches.ends {
         if *offset > at {
-            settle(&touches, here.holds(), (at, *offset), contents)?;
+            settle(touches, here.holds(), (at, *offset), contents)?;
             at = *offset;
         }
         if let Some(touch) = touches.touches.get(*place) {

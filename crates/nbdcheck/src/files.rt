@@ -179,9 +179,18 @@ fn contents_into<W: Write>(
     let alloc = files.rt.alloc();
     let capture = files.open_buffered(asked.input, RunFault::CaptureRead)?;
     let order = opened(files, asked.order, RunFault::OrderRead)?;
+    let (start, against) = opened_last(files, asked)?;
+    run_contents(alloc, asked.profile, capture, order, start, against, out)
+}
+
+// Opens the start and the image, where there are such.
+fn opened_last(
+    files: &mut Files<'_>,
+    asked: &Asked<'_>,
+) -> Result<(StartFrom<File>, Option<File>), RunFault> {
     let start = open_start(files, asked.start)?;
     let against = opened(files, asked.against, RunFault::AgainstRead)?;
-    run_contents(alloc, asked.profile, capture, order, start, against, out)
+    Ok((start, against))
 }
 
 // Opens the file with this path, if there is one.
