@@ -1,4 +1,5 @@
 pub mod Common
+pub mod ContentsLemmas
 pub mod ExplainedLemmas
 pub mod FateLemmas
 pub mod LastLineLemmas

@@ -1,5 +1,6 @@
 pub mod Answering
 pub mod Arrival
+pub mod Contents
 pub mod Explained
 pub mod Named
 pub mod Ordering

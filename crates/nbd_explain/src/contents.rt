@@ -1,14 +1,22 @@
 //! The command `contents`, over any readers and writer.
 
-ghost use Rattle.std.specs.Prelude.{OnOk};
+ghost use Rattle.std.specs.Prelude.{◌≡◌, ◌⊎◌, ℕ, List, Option, None, IfErr, IfOk, IsSome, OnOk};
+ghost use Rattle.nbd_files.specs.declared.fault.RunFault.TheVariants.{AgainstRead, Memory, Write};
+ghost use Rattle.nbd_wire.specs.protocol.Explains as definitions;
+ghost use Rattle.nbd_judge.specs.Servable.{size_of};
+ghost use Rattle.nbd_order.specs.Leaving.{IsLeft};
+ghost use Rattle.nbd_tool.specs.Beginnings.{IsReadAs, room_in};
+ghost use Rattle.nbd_explain.specs.Contents.{IsContentsCause, WritesContents};
+ghost use Rattle.nbd_explain.specs.internal.Leaving.{HasEntries, IsGivenOrderCause, HoldsEntries, IsLeftFrom, IsLeftIn, IsLeftOver, TellsLeft};
 ghost use Rattle.nbd_tool.specs.Runs.{IsCapture};
-ghost use Rattle.nbd_files.specs.Starts.{IsStartWithinLimit, IsWithinLimit};
-ghost use Rattle.nbd_explain.specs.Explained.{IsOrderWithinLimit};
+ghost use Rattle.nbd_files.specs.Starts.{IsStartWithinLimit, IsWithinLimit, OfStart};
+ghost use Rattle.nbd_explain.specs.Explained.{IsExplainCause, IsOrderWithinLimit};
+ghost use Rattle.nbd_explain.specs.Ordering.{LeavesOrdered};
 
 use nbd_capture::{write_contents, write_whole};
 use nbd_export::{Contents, Extents, Kind, Start};
 use nbd_files::{Measured, PORTION, READ_LIMIT, RunFault, StartFrom};
-use nbd_judge::Verdict;
+use nbd_judge::{Verdict, laws};
 use nbd_order::{Left, left_by, left_by_each};
 use nbd_session::{SessionFault, Transcript};
 use nbd_tool::{Beginning, Unseen, read_order, read_start, room_of, session_over, write_verdict};
@@ -46,6 +54,10 @@ pub fn run_contents<
     ensures limited { OnOk result (IsWithinLimit (C.remaining capture)) }
     ensures order_limited { OnOk result (IsOrderWithinLimit O.remaining order) }
     ensures start_limited { OnOk result (IsStartWithinLimit I.remaining start) }
+    ensures written { IfOk result (λ yes. OfStart I.remaining start (λ initial. WritesContents profile O.remaining
+        (C.remaining capture) order against initial (W.contents out.old) (W.contents out.new) yes)) }
+    ensures cause { IfErr result (IsContentsCause O.remaining I.remaining (C.remaining capture) order start against) }
+    ensures left { IfErr result (LeavesOrdered (W.contents out.old) (W.contents out.new)) }
 {
     let left = left_over(alloc, profile, capture, order, start)?;
     write_left(alloc, &left, against, out)
@@ -63,7 +75,12 @@ fn left_over<C: BufRead + Drop, O: Read + Drop, I: Measured + Drop>(
     ensures limited { OnOk result (IsWithinLimit (C.remaining capture)) }
     ensures order_limited { OnOk result (IsOrderWithinLimit O.remaining order) }
     ensures start_limited { OnOk result (IsStartWithinLimit I.remaining start) }
+    ensures left { IfOk result (λ left. OfStart I.remaining start (λ initial. IsLeftOver profile O.remaining
+        (C.remaining capture) order initial left)) }
+    ensures read { OnOk result (IsExplainCause O.remaining I.remaining (C.remaining capture) order start Write) }
+    ensures cause { IfErr result (IsExplainCause O.remaining I.remaining (C.remaining capture) order start) }
 {
+    laws::verdicts_answer_runs();
     let session = session_over(alloc, profile, capture, &mut Unseen)?;
     left_behind(alloc, profile, &session.finish(), order, start)
 }
@@ -78,6 +95,12 @@ fn left_behind<O: Read + Drop, I: Measured + Drop>(
 ) -> Result<Left, RunFault>
     ensures order_limited { OnOk result (IsOrderWithinLimit O.remaining order) }
     ensures start_limited { OnOk result (IsStartWithinLimit I.remaining start) }
+    ensures left { IfOk result (λ left. OfStart I.remaining start (λ initial. IsLeftFrom O.remaining profile finished.now
+        order initial left)) }
+    ensures read { OnOk result ((known : Option (List ℕ)) → IsCapture known →
+        IsExplainCause O.remaining I.remaining known order start Write) }
+    ensures cause { IfErr result (λ fault. (known : Option (List ℕ)) → IsCapture known →
+        IsExplainCause O.remaining I.remaining known order start fault) }
 {
     let entries = read_entries(alloc, order)?;
     let start = read_start(alloc, start, room_of(finished))?;
@@ -89,7 +112,9 @@ fn read_entries<O: Read + Drop>(
     alloc: Global,
     order: Option<O>,
 ) -> Result<Option<Vec<Entry>>, RunFault>
-    ensures { OnOk result (IsOrderWithinLimit O.remaining order) }
+    ensures limited { OnOk result (IsOrderWithinLimit O.remaining order) }
+    ensures entries { IfOk result (HoldsEntries O.remaining order) }
+    ensures cause { IfErr result (IsGivenOrderCause O.remaining order) }
 {
     match order {
         Some(mut order) => Ok(Some(read_order(alloc, &mut order)?)),
@@ -104,7 +129,12 @@ fn left_of(
     finished: &Result<Transcript, SessionFault>,
     order: &Option<Vec<Entry>>,
     start: Beginning,
-) -> Result<Left, RunFault> {
+) -> Result<Left, RunFault>
+    ensures left { IfOk result (λ left. (initial : definitions.Start) (entries : List Entry) →
+        IsReadAs (room_in finished.now) initial start → HasEntries order.now entries →
+        IsLeftIn profile finished.now entries initial left) }
+    ensures cause { IfErr result (λ fault. fault ≡ Memory) }
+{
     match finished {
         Ok(transcript) => Ok(left_from(alloc, profile, transcript, order, start)?),
         Err(SessionFault::Wire { at, fault }) => {
@@ -122,7 +152,11 @@ fn left_from(
     transcript: &Transcript,
     order: &Option<Vec<Entry>>,
     start: Beginning,
-) -> Result<Left, AllocError> {
+) -> Result<Left, AllocError>
+    ensures { IfOk result (λ left. (initial : definitions.Start) (entries : List Entry) →
+        IsReadAs (size_of transcript.now.export) initial start → HasEntries order.now entries →
+        IsLeft profile transcript.now entries initial left) }
+{
     let start = match (start, transcript.export()) {
         (Beginning::Whole(start), _) => start,
         (Beginning::Longer(image), Some((size, _))) => {
@@ -142,7 +176,11 @@ fn write_left<A: Measured + Drop, W: Write>(
     left: &Left,
     against: Option<A>,
     out: &mut W,
-) -> Result<bool, RunFault> {
+) -> Result<bool, RunFault>
+    ensures told { IfOk result (λ yes. against ≡ None → TellsLeft left.now (W.contents out.old) (W.contents out.new) yes) }
+    ensures cause { IfErr result (λ fault. (fault ≡ Write) ⊎ (fault ≡ Memory) ⊎ (fault ≡ AgainstRead) × IsSome against) }
+    ensures left { IfErr result (LeavesOrdered (W.contents out.old) (W.contents out.new)) }
+{
     match left {
         Left::Refused(verdict) => write_verdict(alloc, *verdict, out),
         Left::NoExport => {
@@ -165,7 +203,10 @@ fn write_against<A: Measured, W: Write>(
     contents: &Extents,
     image: &mut A,
     out: &mut W,
-) -> Result<bool, RunFault> {
+) -> Result<bool, RunFault>
+    ensures cause { IfErr result (λ fault. (fault ≡ Write) ⊎ (fault ≡ Memory) ⊎ (fault ≡ AgainstRead)) }
+    ensures left { IfErr result (LeavesOrdered (W.contents out.old) (W.contents out.new)) }
+{
     let compared = comparison(alloc, contents, image)?;
     let text = line_of(alloc, &compared)?;
     write_whole(out, text.as_bytes())?;
@@ -198,7 +239,9 @@ fn comparison<A: Measured>(
     alloc: Global,
     contents: &Extents,
     image: &mut A,
-) -> Result<Compared, RunFault> {
+) -> Result<Compared, RunFault>
+    ensures { IfErr result (λ fault. (fault ≡ Memory) ⊎ (fault ≡ AgainstRead)) }
+{
     let size = contents.size();
     if let Some(image) = image.bytes_left() {
         if image != size {
@@ -223,7 +266,9 @@ fn read_against<A: Read>(
     contents: &Extents,
     image: &mut A,
     portion: &mut [u8],
-) -> Result<(u64, Option<u64>), RunFault> {
+) -> Result<(u64, Option<u64>), RunFault>
+    ensures { IfErr result (λ fault. fault ≡ AgainstRead) }
+{
     let mut count = 0u64;
     let mut first = None;
     for _ in 0..READ_LIMIT {
