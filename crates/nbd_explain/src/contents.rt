@@ -9,7 +9,7 @@ ghost use Rattle.nbd_tool.specs.Beginnings.{IsReadAs, room_in};
 ghost use Rattle.nbd_explain.specs.Contents.{IsContentsCause, WritesContents};
 ghost use Rattle.nbd_explain.specs.internal.Leaving.{HasEntries, IsGivenOrderCause, HoldsEntries, IsLeftFrom, IsLeftIn, IsLeftOver, TellsLeft};
 ghost use Rattle.nbd_tool.specs.Runs.{IsCapture};
-ghost use Rattle.nbd_files.specs.Starts.{IsStartWithinLimit, IsWithinLimit, OfStart};
+ghost use Rattle.nbd_files.specs.Starts.{IsStartWellFormed, IsWithinLimit, OfStart};
 ghost use Rattle.nbd_explain.specs.Explained.{IsExplainCause, IsOrderWithinLimit};
 ghost use Rattle.nbd_explain.specs.Ordering.{LeavesOrdered};
 
@@ -53,7 +53,7 @@ pub fn run_contents<
     ensures well_formed { OnOk result (IsCapture (C.remaining capture)) }
     ensures limited { OnOk result (IsWithinLimit (C.remaining capture)) }
     ensures order_limited { OnOk result (IsOrderWithinLimit O.remaining order) }
-    ensures start_limited { OnOk result (IsStartWithinLimit I.remaining start) }
+    ensures start_limited { OnOk result (IsStartWellFormed I.remaining start) }
     ensures written { IfOk result (λ yes. OfStart I.remaining start (λ initial. WritesContents profile O.remaining
         (C.remaining capture) order against initial (W.contents out.old) (W.contents out.new) yes)) }
     ensures cause { IfErr result (IsContentsCause O.remaining I.remaining (C.remaining capture) order start against) }
@@ -74,7 +74,7 @@ fn left_over<C: BufRead + Drop, O: Read + Drop, I: Measured + Drop>(
     ensures well_formed { OnOk result (IsCapture (C.remaining capture)) }
     ensures limited { OnOk result (IsWithinLimit (C.remaining capture)) }
     ensures order_limited { OnOk result (IsOrderWithinLimit O.remaining order) }
-    ensures start_limited { OnOk result (IsStartWithinLimit I.remaining start) }
+    ensures start_limited { OnOk result (IsStartWellFormed I.remaining start) }
     ensures left { IfOk result (λ left. OfStart I.remaining start (λ initial. IsLeftOver profile O.remaining
         (C.remaining capture) order initial left)) }
     ensures read { OnOk result (IsExplainCause O.remaining I.remaining (C.remaining capture) order start Write) }
@@ -94,7 +94,7 @@ fn left_behind<O: Read + Drop, I: Measured + Drop>(
     start: StartFrom<I>,
 ) -> Result<Left, RunFault>
     ensures order_limited { OnOk result (IsOrderWithinLimit O.remaining order) }
-    ensures start_limited { OnOk result (IsStartWithinLimit I.remaining start) }
+    ensures start_limited { OnOk result (IsStartWellFormed I.remaining start) }
     ensures left { IfOk result (λ left. OfStart I.remaining start (λ initial. IsLeftFrom O.remaining profile finished.now
         order initial left)) }
     ensures read { OnOk result ((known : Option (List ℕ)) → IsCapture known →

@@ -9,7 +9,7 @@ ghost use Rattle.nbd_files.specs.declared.fault.RunFault.TheVariants.{ImageRead,
 ghost use Rattle.nbd_tool.specs.declared.beginning.Beginning.{Beginning};
 ghost use Rattle.nbd_explain.specs.Ordering.{LeavesOrdered};
 ghost use Rattle.nbd_tool.specs.Runs.{IsCapture, IsCaptureCause, IsCause, IsOrder};
-ghost use Rattle.nbd_files.specs.Starts.{IsStartCause, IsStartWithinLimit, IsWithinLimit, OfStart};
+ghost use Rattle.nbd_files.specs.Starts.{IsStartCause, IsStartWellFormed, IsWithinLimit, OfStart};
 ghost use Rattle.nbd_explain.specs.Explained.{Explains, IsExplainCause, IsExplained, IsOrderWithinLimit};
 ghost use Rattle.nbd_explain.specs.internal.Lines.{IsFinishOf, IsToldOn, OnWritten};
 
@@ -48,7 +48,7 @@ pub fn run_explain<C: BufRead + Drop, O: Read + Drop, I: Measured + Drop, W: Wri
     ensures well_formed { OnOk result (IsCapture (C.remaining capture)) }
     ensures limited { OnOk result (IsWithinLimit (C.remaining capture)) }
     ensures order_limited { OnOk result (IsOrderWithinLimit O.remaining order) }
-    ensures start_limited { OnOk result (IsStartWithinLimit I.remaining start) }
+    ensures start_limited { OnOk result (IsStartWellFormed I.remaining start) }
     ensures cause { IfErr result (IsExplainCause O.remaining I.remaining (C.remaining capture) order start) }
     ensures left { IfErr result (LeavesOrdered (W.contents out.old) (W.contents out.new)) }
 {
@@ -89,7 +89,7 @@ pub fn run_explain_of<C: BufRead + Drop, O: Read + Drop, I: Measured + Drop, W: 
     ensures well_formed { OnOk result (IsCapture (C.remaining capture)) }
     ensures limited { OnOk result (IsWithinLimit (C.remaining capture)) }
     ensures order_limited { OnOk result (IsOrderWithinLimit O.remaining order) }
-    ensures start_limited { OnOk result (IsStartWithinLimit I.remaining start) }
+    ensures start_limited { OnOk result (IsStartWellFormed I.remaining start) }
     ensures cause { IfErr result (IsExplainCause O.remaining I.remaining (C.remaining capture) order start) }
     ensures left { IfErr result (LeavesOrdered (W.contents out.old) (W.contents out.new)) }
 {
@@ -126,7 +126,7 @@ fn told_over<C: BufRead + Drop, O: Read + Drop, I: Measured + Drop>(
     ensures well_formed { OnOk result (IsCapture (C.remaining capture)) }
     ensures limited { OnOk result (IsWithinLimit (C.remaining capture)) }
     ensures order_limited { OnOk result (IsOrderWithinLimit O.remaining order) }
-    ensures start_limited { OnOk result (IsStartWithinLimit I.remaining start) }
+    ensures start_limited { OnOk result (IsStartWellFormed I.remaining start) }
     ensures read { OnOk result (IsExplainCause O.remaining I.remaining (C.remaining capture) order start Write) }
     ensures cause { IfErr result (IsExplainCause O.remaining I.remaining (C.remaining capture) order start) }
 {
@@ -159,7 +159,7 @@ fn told_after<O: Read + Drop, I: Measured + Drop>(
         OfStart I.remaining start (λ initial. OnWritten told.0.bytes.items
         (IsExplained profile O.remaining known order initial told.1))) }
     ensures order_limited { OnOk result (IsOrderWithinLimit O.remaining order) }
-    ensures start_limited { OnOk result (IsStartWithinLimit I.remaining start) }
+    ensures start_limited { OnOk result (IsStartWellFormed I.remaining start) }
     ensures finished { OnOk result (IsOk finished) }
     ensures read { OnOk result ((known : Option (List ℕ)) → IsCapture known →
         IsExplainCause O.remaining I.remaining known order start Write) }
@@ -186,7 +186,7 @@ fn told_of<O: Read + Drop, I: Measured + Drop>(
         OfStart I.remaining start (λ initial. OnWritten told.0.bytes.items
         (IsExplained profile O.remaining known order initial told.1))) }
     ensures order_limited { OnOk result (IsOrderWithinLimit O.remaining order) }
-    ensures start_limited { OnOk result (IsStartWithinLimit I.remaining start) }
+    ensures start_limited { OnOk result (IsStartWellFormed I.remaining start) }
     ensures read { OnOk result ((known : Option (List ℕ)) → IsCapture known →
         IsExplainCause O.remaining I.remaining known order start Write) }
     ensures cause { IfErr result (λ fault. (known : Option (List ℕ)) → IsCapture known →
@@ -211,7 +211,7 @@ fn told_with<O: Read + Drop, I: Measured + Drop>(
         OfStart I.remaining start (λ initial. OnWritten told.0.bytes.items
         (Explains profile known (O.remaining order) initial told.1))) }
     ensures limited { OnOk result (IsWithinLimit (O.remaining order)) }
-    ensures start_limited { OnOk result (IsStartWithinLimit I.remaining start) }
+    ensures start_limited { OnOk result (IsStartWellFormed I.remaining start) }
     ensures read { OnOk result (IsOrder (O.remaining order)) }
     ensures cause { IfErr result (λ fault. (known : Option (List ℕ)) → IsCapture known →
         IsCause I.remaining known (O.remaining order) start fault) }
@@ -232,7 +232,7 @@ fn told_on<I: Measured + Drop>(
     ensures told { IfOk result (λ told. (beginning : Beginning)
         × OfStart I.remaining start (λ initial. IsBeginningOf initial (room_in finished) beginning)
         × IsToldOn profile finished entries.now beginning told.1 told.0.bytes.items) }
-    ensures start_limited { OnOk result (IsStartWithinLimit I.remaining start) }
+    ensures start_limited { OnOk result (IsStartWellFormed I.remaining start) }
     ensures cause { IfErr result (IsStartCause I.remaining start) }
 {
     let start = read_start(alloc, start, room_of(&finished))?;

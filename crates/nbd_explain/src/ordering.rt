@@ -17,7 +17,7 @@ ghost use Rattle.nbd_order.specs.declared.finding.Wanted.{Wanted};
 ghost use Rattle.nbd_tool.specs.Beginnings.{IsReadAs};
 ghost use Rattle.nbd_tool.specs.declared.beginning.Beginning.{Beginning};
 ghost use Rattle.nbd_explain.specs.Ordering.{IsOrderingCause, LeavesOrdered, Orders, entry_lines, found_text, gave_up_line, ordered_of, reason_words, spaced_numbers, status_of, unexplained_line};
-ghost use Rattle.nbd_files.specs.Starts.{IsInitial, IsStartCause, IsStartWithinLimit, IsWithinLimit, OfStart};
+ghost use Rattle.nbd_files.specs.Starts.{IsInitial, IsStartCause, IsStartWellFormed, IsWithinLimit, OfStart};
 ghost use Rattle.nbd_files.specs.declared.fault.RunFault.TheVariants as faults;
 ghost use Rattle.nbd_explain.specs.internal.Outcomes.{IsToldFrom, IsToldOf};
 
@@ -71,7 +71,7 @@ pub fn run_order<C: BufRead + Drop, I: Measured + Drop, W: Write>(
     ensures written { IfOk result (λ ordered. OfStart I.remaining start (λ initial. Orders Base (C.remaining capture) initial
         scope.wanted ordered (W.contents out.old) (W.contents out.new))) }
     ensures limited { OnOk result (IsWithinLimit (C.remaining capture)) }
-    ensures start_limited { OnOk result (IsStartWithinLimit I.remaining start) }
+    ensures start_limited { OnOk result (IsStartWellFormed I.remaining start) }
     ensures cause { IfErr result (IsOrderingCause I.remaining (C.remaining capture) start) }
     ensures left { IfErr result (LeavesOrdered (W.contents out.old) (W.contents out.new)) }
 {
@@ -95,7 +95,7 @@ pub fn run_order_of<C: BufRead + Drop, I: Measured + Drop, W: Write>(
     ensures written { IfOk result (λ ordered. OfStart I.remaining start (λ initial. Orders profile (C.remaining capture) initial
         scope.wanted ordered (W.contents out.old) (W.contents out.new))) }
     ensures limited { OnOk result (IsWithinLimit (C.remaining capture)) }
-    ensures start_limited { OnOk result (IsStartWithinLimit I.remaining start) }
+    ensures start_limited { OnOk result (IsStartWellFormed I.remaining start) }
     ensures cause { IfErr result (IsOrderingCause I.remaining (C.remaining capture) start) }
     ensures left { IfErr result (LeavesOrdered (W.contents out.old) (W.contents out.new)) }
 {
@@ -126,7 +126,7 @@ fn told_over<I: Measured + Drop>(
 ) -> Result<(String, Ordered), RunFault>
     ensures told { IfOk result (λ told. IsToldFrom profile (IsInitial I.remaining start) scope.wanted finished told.1
         told.0.bytes.items) }
-    ensures limited { OnOk result (IsStartWithinLimit I.remaining start) }
+    ensures limited { OnOk result (IsStartWellFormed I.remaining start) }
     ensures cause { IfErr result (IsStartCause I.remaining start) }
 {
     let start = read_start(alloc, start, room_of(&finished))?;

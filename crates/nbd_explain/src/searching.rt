@@ -5,7 +5,7 @@ ghost use Rattle.nbd_files.specs.declared.fault.RunFault.TheVariants.{ImageRead,
 ghost use Rattle.nbd_tool.specs.declared.beginning.Beginning.{Beginning};
 ghost use Rattle.nbd_wire.specs.declared.profile.Profile.{Profile};
 ghost use Rattle.nbd_tool.specs.Beginnings.{IsBeginningOf, room_in};
-ghost use Rattle.nbd_files.specs.Starts.{IsStartCause, IsStartWithinLimit, OfStart};
+ghost use Rattle.nbd_files.specs.Starts.{IsStartCause, IsStartWellFormed, OfStart};
 ghost use Rattle.nbd_explain.specs.Answering.{answer_to};
 ghost use Rattle.nbd_explain.specs.internal.Lines.{Begins, BeginsWithLineOf, IsLineOf, IsToldBySearch, IsToldOfFound};
 
@@ -37,7 +37,7 @@ pub fn told_searching<I: Measured + Drop>(
     ensures told { IfOk result (λ told. (beginning : Beginning)
         × OfStart I.remaining start (λ initial. IsBeginningOf initial (room_in finished) beginning)
         × IsToldBySearch profile beginning finished told.1 told.0.bytes.items) }
-    ensures start_limited { OnOk result (IsStartWithinLimit I.remaining start) }
+    ensures start_limited { OnOk result (IsStartWellFormed I.remaining start) }
     ensures cause { IfErr result (IsStartCause I.remaining start) }
 {
     let start = read_start(alloc, start, room_of(&finished))?;

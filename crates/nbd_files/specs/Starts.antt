@@ -44,8 +44,12 @@ IsStartCause remaining start fault = ⊥
 abbrev pub IsWithinLimit : Option (List ℕ) → Type 0
 IsWithinLimit known = IfSome known (λ bytes. length bytes ≤ 2 ^ 40)
 
--- so has an image, and a contents text
-abbrev pub IsStartWithinLimit : {I : Type 0} → (I → Option (List ℕ)) → StartFrom I → Type 0
-IsStartWithinLimit remaining (Image reader) = IsWithinLimit (remaining reader)
-IsStartWithinLimit remaining (Contents reader) = IsWithinLimit (remaining reader)
-IsStartWithinLimit remaining start = Unit {0}
+-- known bytes are a contents text
+abbrev pub IsContents : Option (List ℕ) → Type 0
+IsContents known = IfSome known (λ text. (bytes : Held) × IsContentsText text bytes)
+
+-- so has an image, and a contents text, which is one by its form
+abbrev pub IsStartWellFormed : {I : Type 0} → (I → Option (List ℕ)) → StartFrom I → Type 0
+IsStartWellFormed remaining (Image reader) = IsWithinLimit (remaining reader)
+IsStartWellFormed remaining (Contents reader) = IsWithinLimit (remaining reader) × IsContents (remaining reader)
+IsStartWellFormed remaining start = Unit {0}

@@ -1,4 +1,5 @@
-//! An order of service that explains a session, or the proof that none does.
+//! An order of service that explains a session, or the proof that none does; and what an order, or each, leaves on the
+//! export.
 #![tactic(auto)]
 
 mod due;

@@ -5,7 +5,7 @@ ghost use Rattle.nbd_files.specs.declared.fault.RunFault.TheVariants.{ImageRead,
 ghost use Rattle.nbd_files.specs.declared.input.Text.TheVariants.{Longer};
 ghost use Rattle.nbd_wire.specs.protocol.Explains as definitions;
 ghost use Rattle.nbd_tool.specs.Beginnings.{IsBeginningOf, room_in};
-ghost use Rattle.nbd_files.specs.Starts.{IsStartCause, IsStartWithinLimit, IsStartText, IsWithinLimit, OfStart, image_of};
+ghost use Rattle.nbd_files.specs.Starts.{IsContents, IsStartCause, IsStartWellFormed, IsStartText, IsWithinLimit, OfStart, image_of};
 ghost use Rattle.nbd_files.specs.Texts.{IsText};
 ghost use Rattle.nbd_capture.specs.Contents.{IsContentsText};
 ghost use Rattle.nbd_export.specs.Held.{Held, held};
@@ -52,7 +52,7 @@ pub fn read_start<I: Measured + Drop>(
     room: u64,
 ) -> Result<Beginning, RunFault>
     ensures read { IfOk result (λ beginning. OfStart I.remaining start (λ initial. IsBeginningOf initial room beginning)) }
-    ensures limited { OnOk result (IsStartWithinLimit I.remaining start) }
+    ensures limited { OnOk result (IsStartWellFormed I.remaining start) }
     ensures cause { IfErr result (IsStartCause I.remaining start) }
 {
     match start {
@@ -79,7 +79,7 @@ fn begin_image<I: Measured>(alloc: Global, image: &mut I, room: u64) -> Result<B
 fn begin_contents<I: Read>(alloc: Global, text: &mut I) -> Result<Beginning, RunFault>
     ensures read { IfOk result (λ beginning. (initial : Option definitions.Start) → IsStartText (I.remaining text.old) initial →
         (room : ℕ) → IsBeginningOf initial room beginning) }
-    ensures limited { OnOk result (IsWithinLimit (I.remaining text.old)) }
+    ensures limited { OnOk result (IsWithinLimit (I.remaining text.old) × IsContents (I.remaining text.old)) }
     ensures cause { IfErr result (IsContentsCause (I.remaining text.old)) }
 {
     let contents = read_contents(alloc, text)?;
@@ -98,6 +98,7 @@ fn read_contents<I: Read>(alloc: Global, text: &mut I) -> Result<Extents, RunFau
     ensures text { IfOk result (λ contents. IfSome (I.remaining text.old)
         (λ bytes. (read : Held) → IsContentsText bytes read → held contents ≡ read)) }
     ensures limited { OnOk result (IsWithinLimit (I.remaining text.old)) }
+    ensures formed { OnOk result (IsContents (I.remaining text.old)) }
     ensures cause { IfErr result (IsContentsCause (I.remaining text.old)) }
 {
     match read_whole(alloc, text) {

@@ -6,7 +6,7 @@ ghost use Rattle.nbd_wire.specs.declared.profile.Profile.TheVariants.{Base};
 ghost use Rattle.nbd_tool.specs.Runs.{AnswersExactly, IsCapture, IsOrder, IsCause, IsOrderCause, LeavesWritten, SaysYes, Tells};
 ghost use Rattle.nbd_files.specs.declared.fault.RunFault.TheVariants.{Write};
 ghost use Rattle.nbd_tool.specs.internal.Outcomes.{IsConcluded};
-ghost use Rattle.nbd_files.specs.Starts.{IsStartCause, IsStartWithinLimit, IsWithinLimit, OfStart};
+ghost use Rattle.nbd_files.specs.Starts.{IsStartCause, IsStartWellFormed, IsWithinLimit, OfStart};
 
 use crate::beginning::{read_start, room_of};
 use crate::capture::{Unseen, session_over};
@@ -45,7 +45,7 @@ pub fn run_check<C: BufRead + Drop, O: Read + Drop, I: Measured + Drop, W: Write
         (W.contents out.old) (W.contents out.new)) }
     ensures well_formed { OnOk result (IsCapture (C.remaining capture) × IsOrder (O.remaining order)) }
     ensures limited { OnOk result (IsWithinLimit (C.remaining capture) × IsWithinLimit (O.remaining order)
-        × IsStartWithinLimit I.remaining start) }
+        × IsStartWellFormed I.remaining start) }
     ensures cause { IfErr result (IsCause I.remaining (C.remaining capture) (O.remaining order) start) }
     ensures left { IfErr result (λ fault. OfStart I.remaining start (λ initial. LeavesWritten Base (C.remaining capture)
         (O.remaining order) initial (W.contents out.old) (W.contents out.new) fault)) }
@@ -77,7 +77,7 @@ pub fn run_check_of<C: BufRead + Drop, O: Read + Drop, I: Measured + Drop, W: Wr
         (W.contents out.old) (W.contents out.new)) }
     ensures well_formed { OnOk result (IsCapture (C.remaining capture) × IsOrder (O.remaining order)) }
     ensures limited { OnOk result (IsWithinLimit (C.remaining capture) × IsWithinLimit (O.remaining order)
-        × IsStartWithinLimit I.remaining start) }
+        × IsStartWellFormed I.remaining start) }
     ensures cause { IfErr result (IsCause I.remaining (C.remaining capture) (O.remaining order) start) }
     ensures left { IfErr result (λ fault. OfStart I.remaining start (λ initial. LeavesWritten profile (C.remaining capture)
         (O.remaining order) initial (W.contents out.old) (W.contents out.new) fault)) }
@@ -99,7 +99,7 @@ fn verdict_over<O: Read, I: Measured + Drop>(
         (λ text. IsOrderText text entries)
         × OfStart I.remaining start (λ initial. IsConcluded profile initial finished entries v)) }
     ensures well_formed { OnOk result (IsOrder (O.remaining order.old)) }
-    ensures limited { OnOk result (IsWithinLimit (O.remaining order.old) × IsStartWithinLimit I.remaining start) }
+    ensures limited { OnOk result (IsWithinLimit (O.remaining order.old) × IsStartWellFormed I.remaining start) }
     ensures cause { IfErr result (λ fault. (known : Option (List ℕ)) → IsCapture known →
         IsCause I.remaining known (O.remaining order.old) start fault) }
     ensures reading { IfErr result (λ fault. fault ≢ Write) }
@@ -117,7 +117,7 @@ fn verdict_from<I: Measured + Drop>(
     start: StartFrom<I>,
 ) -> Result<Verdict, RunFault>
     ensures verdict { IfOk result (λ v. OfStart I.remaining start (λ initial. IsConcluded profile initial finished order.now v)) }
-    ensures limited { OnOk result (IsStartWithinLimit I.remaining start) }
+    ensures limited { OnOk result (IsStartWellFormed I.remaining start) }
     ensures cause { IfErr result (IsStartCause I.remaining start) }
 {
     let start = read_start(alloc, start, room_of(&finished))?;
