@@ -1,5 +1,5 @@
 -- What an export holds, as a list, and bytes that are laid behind the first ones.
-use Rattle.nbd_capture.proofs.Common.{◌≡◌, ℕ, zero, suc, ◌+◌, ◌-◌, ◌<◌, ◌≤◌, List, [], ◌∷◌, ◌++◌, length, get_or, refl, sym, ap, ◌∙◌, arith, Option, Some, None, slice_get, Held, held_from, known, told, unknown, zeroes}
+use Rattle.nbd_capture.proofs.Common.{◌≡◌, ℕ, ◌+◌, ◌-◌, ◌<◌, ◌≤◌, List, ◌++◌, length, get_or, sym, ap, ◌∙◌, arith, Option, Some, None, slice_get, Held, held_from, known, told, unknown, zeroes}
 use Rattle.nbd_export.proofs.HeldLemmas.{held_from-append, held_from-list, held_from-same}
 use Rattle.nbd_export.proofs.ExtentLemmas.{changed_before, changed_inside}
 use Rattle.nbd_export.specs.Ranges as ranges

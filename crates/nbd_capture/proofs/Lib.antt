@@ -8,17 +8,12 @@ pub mod HeldLemmas
 pub mod NumeralLemmas
 pub mod OrderLineLemmas
 pub mod PieceLemmas
-pub mod PieceTextLemmas
-pub mod PrintedLemmas
 pub mod ProgressLemmas
 pub mod ReadToEndLemmas
 pub mod ReadingLemmas
 pub mod ReadingStepLemmas
-pub mod ShowingLemmas
 pub mod SizeLemmas
 pub mod SpellLemmas
 pub mod TotalLemmas
 pub mod TotalTextLemmas
-pub mod UnwrittenLemmas
 pub mod WriterLemmas
-pub mod WrittenLemmas

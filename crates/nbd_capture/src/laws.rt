@@ -1,18 +1,12 @@
 //! What holds of the grammars of the texts, as contracts of functions that do nothing.
 
-ghost use Rattle.std.specs.Prelude.{IfSome, length, ◌<◌, ◌≤◌, ◌^◌, ◌↔◌, ◌≡◌, ◌⊎◌, ◌∷◌, ◌++◌, [], ℕ, List, flat_map};
-ghost use Rattle.std.specs.List.{AllByRecursion};
-ghost use Rattle.hex.specs.Hex.{IsBytes};
+ghost use Rattle.std.specs.Prelude.{IfSome, length, ◌≤◌, ◌≡◌, ◌⊎◌, ◌++◌, ℕ, List};
 ghost use Rattle.nbd_wire.specs.declared.entry.Entry.{Entry};
-ghost use Rattle.nbd_export.specs.Extents.{byte_of, size_of};
-ghost use Rattle.nbd_export.specs.Ranges.{AreSameBelow};
-ghost use Rattle.nbd_export.specs.declared.extents.Extents.{Extents};
-ghost use Rattle.nbd_export.specs.Held.{AreHeld, Held, held};
-ghost use Rattle.nbd_capture.specs.Contents.{IsContentsText, IsFirstBadContentsLine, printed};
-ghost use Rattle.nbd_capture.specs.Lines.{line_feed};
-ghost use Rattle.nbd_capture.specs.Capture.{Chunk, chunk_line, IsCaptureText, IsFirstBadCaptureLine};
+ghost use Rattle.nbd_export.specs.Held.{Held};
+ghost use Rattle.nbd_capture.specs.Contents.{IsContentsText, IsFirstBadContentsLine};
+ghost use Rattle.nbd_capture.specs.Capture.{Chunk, IsCaptureText, IsFirstBadCaptureLine};
 ghost use Rattle.nbd_capture.specs.Reading.{Reading, Reads, ReadsToEnd, Refuses};
-ghost use Rattle.nbd_capture.specs.Order.{EntryFits, IsOrderText, IsFirstBadOrderLine, entry_text};
+ghost use Rattle.nbd_capture.specs.Order.{IsOrderText, IsFirstBadOrderLine};
 
 /// A text has one reading as a capture at most.
 pub fn one_capture_reading()
@@ -70,18 +64,6 @@ pub fn one_first_bad_order_line()
     ensures { (text : List ℕ) (m n : ℕ) → IsFirstBadOrderLine text m → IsFirstBadOrderLine text n → m ≡ n }
 {}
 
-/// The lines that `write_chunk` writes are read as their chunks.
-pub fn written_chunks_are_read()
-    ensures { (chunks : List Chunk) → AllByRecursion (λ c. IsBytes c.bytes) chunks
-        → IsCaptureText (flat_map (λ c. chunk_line c.side c.bytes) chunks) chunks }
-{}
-
-/// Entries as `{}` prints their numbers, one entry a line and one space between two numbers, are read as these entries.
-pub fn printed_entries_are_read()
-    ensures { (entries : List Entry) → AllByRecursion EntryFits entries
-        → IsOrderText (flat_map (λ e. entry_text e ++ line_feed ∷ []) entries) entries }
-{}
-
 /// Each text has a reading as a capture, or a first bad capture line.
 pub fn capture_or_bad_line()
     ensures { (text : List ℕ) → ((chunks : List Chunk) × IsCaptureText text chunks)
@@ -108,21 +90,4 @@ pub fn no_contents_with_a_bad_line()
 /// A text has one first bad contents line at most.
 pub fn one_first_bad_contents_line()
     ensures { (text : List ℕ) (m n : ℕ) → IsFirstBadContentsLine text m → IsFirstBadContentsLine text n → m ≡ n }
-{}
-
-/// What is printed of contents of a size below 2^63 is read as the same contents.
-pub fn printed_contents_are_read()
-    ensures { (bytes : Held) → length bytes < 2 ^ 63 → AreHeld bytes → IsContentsText (printed bytes) bytes }
-{}
-
-/// Two texts of one contents are printed alike, and texts of different contents are not.
-pub fn texts_of_one_contents_print_alike()
-    ensures { (s t : List ℕ) (a b : Held) → AreHeld a → AreHeld b → IsContentsText s a → IsContentsText t b
-        → (printed a ≡ printed b) ↔ (a ≡ b) }
-{}
-
-/// Where two contents have the same size and the same bytes, what they print is the same, whatever their ranges.
-pub fn same_contents_print_alike()
-    ensures { (e f : Extents) → size_of e ≡ size_of f → AreSameBelow (size_of e) (byte_of e) (byte_of f)
-        → printed (held e) ≡ printed (held f) }
 {}

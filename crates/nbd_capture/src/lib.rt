@@ -6,7 +6,6 @@
 pub mod capture;
 pub mod contents;
 mod contents_line;
-pub mod contents_writing;
 mod form;
 pub mod laws;
 mod lines;
@@ -17,8 +16,7 @@ pub mod writing;
 
 pub use capture::CaptureFault;
 pub use contents::{ContentsFault, parse_contents};
-pub use contents_writing::write_contents;
 pub use lines::first_line;
 pub use order::{OrderTextFault, parse_order};
 pub use reader::CaptureReader;
-pub use writing::{WriteFault, write_chunk, write_whole};
+pub use writing::{WriteFault, write_whole};

@@ -13,9 +13,10 @@ ghost use Rattle.nbd_files.specs.Starts.{IsStartWellFormed, IsWithinLimit, OfSta
 ghost use Rattle.nbd_explain.specs.Explained.{IsExplainCause, IsOrderWithinLimit};
 ghost use Rattle.nbd_explain.specs.Ordering.{LeavesOrdered};
 
-use nbd_capture::{write_contents, write_whole};
+use nbd_capture::write_whole;
 use nbd_export::{Contents, Extents, Kind, Start};
 use nbd_files::{Measured, PORTION, READ_LIMIT, RunFault, StartFrom};
+use nbd_lines::write_contents;
 use nbd_judge::{Verdict, laws};
 use nbd_order::{Left, left_by, left_by_each};
 use nbd_session::{SessionFault, Transcript};

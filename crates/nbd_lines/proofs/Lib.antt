@@ -6,8 +6,13 @@ pub mod MadeLineLemmas
 pub mod MakeLemmas
 pub mod MessageLineLemmas
 pub mod NumberLemmas
+pub mod PieceTextLemmas
 pub mod PrintableLemmas
+pub mod PrintedContentsLemmas
 pub mod PrintedLemmas
 pub mod ScriptLineLemmas
+pub mod ShowingLemmas
+pub mod UnwrittenLemmas
 pub mod WordLemmas
+pub mod WrittenLemmas
 pub mod WrittenLineLemmas

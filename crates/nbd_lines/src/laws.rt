@@ -1,15 +1,22 @@
-//! What holds of message lines and of scripts, as contracts of functions that do nothing.
+//! What holds of message lines, of scripts and of what is printed of captures, orders and contents, as contracts of functions that do nothing.
 
-ghost use Rattle.std.specs.Prelude.{◌≡◌, ◌⊎◌, ◌++◌, ℕ, List, codes, map};
+ghost use Rattle.std.specs.Prelude.{◌≡◌, ◌⊎◌, ◌++◌, ◌<◌, ◌^◌, ◌↔◌, ◌∷◌, [], ℕ, List, codes, flat_map, length, map};
 ghost use Rattle.std.specs.List.{AllByRecursion};
+ghost use Rattle.hex.specs.Hex.{IsBytes};
 ghost use Rattle.nbd_wire.specs.declared.message.Message.{Message};
 ghost use Rattle.nbd_wire.specs.codec.Fits.{FitsItsHead};
 ghost use Rattle.nbd_wire.specs.protocol.Sendable.{IsSendable};
-ghost use Rattle.nbd_capture.specs.Capture.{IsCaptureText};
+ghost use Rattle.nbd_wire.specs.declared.entry.Entry.{Entry};
+ghost use Rattle.nbd_export.specs.Extents.{byte_of, size_of};
+ghost use Rattle.nbd_export.specs.Ranges.{AreSameBelow};
+ghost use Rattle.nbd_export.specs.declared.extents.Extents.{Extents};
+ghost use Rattle.nbd_export.specs.Held.{AreHeld, Held, held};
+ghost use Rattle.nbd_capture.specs.Capture.{Chunk, IsCaptureText, chunk_line};
+ghost use Rattle.nbd_capture.specs.Contents.{IsContentsText, printed};
+ghost use Rattle.nbd_capture.specs.Lines.{line_feed};
+ghost use Rattle.nbd_capture.specs.Order.{EntryFits, IsOrderText, entry_text};
 ghost use Rattle.nbd_lines.specs.Line.{IsMessageLine, message_line};
 ghost use Rattle.nbd_lines.specs.Script.{IsFirstBadScriptLine, IsScript, chunk_lines, made_chunk, message_lines};
-
-use nbd_capture::laws::written_chunks_are_read;
 
 /// A line stands for one message at most.
 pub fn one_message_of_a_line()
@@ -63,3 +70,32 @@ pub fn made_lines_are_a_capture()
 {
     written_chunks_are_read();
 }
+
+/// The lines that `write_chunk` writes are read as their chunks.
+pub fn written_chunks_are_read()
+    ensures { (chunks : List Chunk) → AllByRecursion (λ c. IsBytes c.bytes) chunks
+        → IsCaptureText (flat_map (λ c. chunk_line c.side c.bytes) chunks) chunks }
+{}
+
+/// Entries as `{}` prints their numbers, one entry a line and one space between two numbers, are read as these entries.
+pub fn printed_entries_are_read()
+    ensures { (entries : List Entry) → AllByRecursion EntryFits entries
+        → IsOrderText (flat_map (λ e. entry_text e ++ line_feed ∷ []) entries) entries }
+{}
+
+/// What is printed of contents of a size below 2^63 is read as the same contents.
+pub fn printed_contents_are_read()
+    ensures { (bytes : Held) → length bytes < 2 ^ 63 → AreHeld bytes → IsContentsText (printed bytes) bytes }
+{}
+
+/// Two texts of one contents are printed alike, and texts of different contents are not.
+pub fn texts_of_one_contents_print_alike()
+    ensures { (s t : List ℕ) (a b : Held) → AreHeld a → AreHeld b → IsContentsText s a → IsContentsText t b
+        → (printed a ≡ printed b) ↔ (a ≡ b) }
+{}
+
+/// Where two contents have the same size and the same bytes, what they print is the same, whatever their ranges.
+pub fn same_contents_print_alike()
+    ensures { (e f : Extents) → size_of e ≡ size_of f → AreSameBelow (size_of e) (byte_of e) (byte_of f)
+        → printed (held e) ≡ printed (held f) }
+{}

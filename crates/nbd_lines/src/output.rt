@@ -9,8 +9,9 @@ ghost use Rattle.nbd_lines.specs.Script.{chunk_lines, message_lines};
 ghost use Rattle.nbd_lines.specs.Causes.{of_output};
 ghost use Rattle.nbd_lines.specs.declared.output.OutputFault.TheVariants.{Memory, Write};
 
+use crate::chunk_writing::write_chunk;
 use crate::printing::append_line;
-use nbd_capture::{WriteFault, write_chunk, write_whole};
+use nbd_capture::{WriteFault, write_whole};
 use nbd_files::RunFault;
 use nbd_wire::{Message, append, side_of};
 use std::alloc::{AllocError, Global};

@@ -1,5 +1,0 @@
-use Rattle.nbd_capture.proofs.Common.{◌≡◌, drop, are_zeroes}
-use Rattle.nbd_capture.proofs.contents_writing.are_zeroes.Given as goal
-
-abbrev pub invariant-loop-byte : goal.invariant-loop-byte
-invariant-loop-byte l = are_zeroes l.bytes ≡ are_zeroes (drop l.byte-index l.bytes)

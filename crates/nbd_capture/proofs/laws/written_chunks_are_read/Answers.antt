@@ -1,5 +1,0 @@
-use Rattle.nbd_capture.proofs.WrittenLemmas.{written_chunks}
-use Rattle.nbd_capture.proofs.laws.written_chunks_are_read.Goals as goal
-
-pub returns : goal.returns
-returns c = written_chunks

@@ -1,0 +1,22 @@
+use Rattle.nbd_lines.proofs.Common.{◌∷◌, ◌++◌, [], err_from_is_err_and, on_err_weaker, decimal, line_feed, AppendsPrefix, codes}
+use Rattle.nbd_capture.proofs.WriterLemmas.{prefix_then, then_prefix}
+use Rattle.nbd_lines.proofs.contents_writing.write_size.Goals as goal
+
+pub returns-in_err-write_whole-clause-err : goal.returns-in_err-write_whole-clause-err
+returns-in_err-write_whole-clause-err g c =
+    let p = err_from_is_err_and c.from_residual.result c.from_residual.ensures.1 in
+    rw p.1 (prefix_then _ _ (codes "size ") ((decimal c.args.size) ++ (line_feed ∷ [])) c.in_err-write_whole.ensures.err)
+
+pub returns-in_err-write_number-clause-err : goal.returns-in_err-write_number-clause-err
+returns-in_err-write_number-clause-err g c =
+    let p = err_from_is_err_and c.from_residual-in_err-write_number.result c.from_residual-in_err-write_number.ensures.1 in
+    rw p.1 (then_prefix _ (g.W.Write.contents c.write_whole.new.out) _ (codes "size ") ((decimal c.args.size) ++ (line_feed ∷ [])) c.in_ok-write_whole.ensures.ok
+    (prefix_then _ _ (decimal c.args.size) (line_feed ∷ []) c.in_err-write_number.ensures.err))
+
+pub returns-clause-err : goal.returns-clause-err
+returns-clause-err g c =
+    on_err_weaker c.write_whole-2.result
+    (λ (end : AppendsPrefix (g.W.Write.contents c.write_number.new.out) (g.W.Write.contents c.write_whole-2.new.out) (line_feed ∷ [])).
+    (then_prefix _ (g.W.Write.contents c.write_whole.new.out) _ (codes "size ") ((decimal c.args.size) ++ (line_feed ∷ [])) c.in_ok-write_whole.ensures.ok
+    (then_prefix _ (g.W.Write.contents c.write_number.new.out) _ (decimal c.args.size) (line_feed ∷ []) c.in_ok-write_number.ensures.ok end)))
+    c.write_whole-2.ensures.err
