@@ -1,14 +1,16 @@
 #!/usr/bin/env python3
-"""tools/edits.py [--over TREE] [--keep FOLDER] [CRATE..]: has the prover refuse the must-fail edits of these crates, or
+"""tools/edits.py [--over TREE] [--keep FOLDER] [--copies] [CRATE..]: has the prover refuse the must-fail edits of these crates, or
 of all. `rt check` proves each crate first, as it stands here. With --over `rt ci` does, in TREE: a crate is taken as soon
-as it says on standard input that the crate is proved. What was checked stands in FOLDER afterwards.
+as it says on standard input that the crate is proved. What was checked stands in FOLDER afterwards. With --copies the
+copies of functions, of which it says more below, are checked without their edits: each must be proved.
 
 `rt must-fail` checks a crate once for each edit, and most of that is the same every time: what the crate and its
-libraries hold is read. Here one check tries as many edits as stand in different functions, since whether a function
-meets its contract does not depend on the bodies of others. Of each edit the prover must say that the very function in
-which it stands is not proved, for a goal of its own and not because of what it calls; where it says less, the edit is
-tried once more without those of which enough was said, and then by itself. An edit outside of a body is tried by
-itself. If it says what it breaks (`breaks: module::function`, behind it the name of the clause if that has one), one
+libraries hold is read. Here one check tries the edits of all functions, since whether a function meets its contract does not depend on the
+bodies of others. Where a function has several, the first is made in it, and each other one in a copy of it with the same
+contract and proof, which stands at the end of the file; a method of a trait and a function that calls itself have no
+copies, and one edit of theirs goes into a check. Of each edit the prover must say that the very function in which it
+stands is not proved, for a goal of its own and not because of what it calls; where it says less, the edit is tried once
+more without those of which enough was said, and then by itself. An edit outside of a body is tried by itself. If it says what it breaks (`breaks: module::function`, behind it the name of the clause if that has one), one
 check tries as many as break different clauses of one function, and the prover must say that this clause is not proved.
 
 The last line is `N passed, M failed`.
@@ -48,8 +50,8 @@ LONG = 10
 EACH = 12
 
 # What an edit changes in which file; if it stands in the body of one function, that one's type and name, and its lines;
-# else, if it says so, a function and the clause of it that it breaks.
-Edit = namedtuple("Edit", "name file changes function lines breaks")
+# else, if it says so, a function and the clause of it that it breaks. With a number it is made in the copy with that number.
+Edit = namedtuple("Edit", "name file changes function lines breaks copy", defaults=[None])
 
 
 class Lanes:
@@ -122,13 +124,63 @@ def read_edit(crate, path):
 
 
 def path_of(crate, edit, told):
-    """The path of the function in which an edit stands, if the prover names exactly one."""
+    """The path of the function in which an edit is made, if the prover names exactly one such function."""
     of, name = edit.function
     module = edit.file[len("src/") : -len(".rt")].replace("/", "::")
     begin = f"{crate}::" if module in ("lib", "main") else f"{crate}::{module}::"
     # (a method is named by the place of its type)
     found = [it for it in told if (it.endswith(f"::{of}::{name}") if of else it == begin + name)]
-    return found[0] if len(found) == 1 else None
+    return copy_of(found[0], edit) if len(found) == 1 else None
+
+
+def copy_of(name, edit):
+    """The name of a function, or of the copy of it in which an edit is made."""
+    return f"{name}_copy{edit.copy}" if edit.copy else name
+
+
+def header_of(edit, lines):
+    """The header of the impl in which an edit's function is a method, in one line."""
+    top = next(it for it in range(edit.lines[0], -1, -1) if lines[it].startswith("impl"))
+    end = next(it for it in range(top, len(lines)) if lines[it].endswith("{"))
+    return " ".join(it.strip() for it in lines[top : end + 1])
+
+
+def can_be_copied(edit, text):
+    """Whether an edit can be made in a copy of its function: that is no method of a trait, and does not call itself."""
+    lines, (of, name) = text.split("\n"), edit.function
+    body = "\n".join(lines[edit.lines[0] + 1 : edit.lines[1] + 1])
+    if of and IMPL.match(header_of(edit, lines))[1]:
+        return False
+    return not re.search(rf"\b(?:self\.|Self::|{of}::){name}\(" if of else rf"(?<![.:\w]){name}\(", body)
+
+
+def copied(edit, text):
+    """The copy of an edit's function with the edit in it, behind an empty line."""
+    lines, name = text.split("\n"), edit.function[1]
+    top, end = edit.lines
+    while lines[top - 1].lstrip().startswith("#["):
+        top -= 1
+    body = "\n".join(lines[top : end + 1])
+    for old, new in edit.changes:
+        body = body.replace(old, new)
+    body = re.sub(rf"\bfn {name}\b", f"fn {copy_of(name, edit)}", body, count=1)
+    return f"\n{header_of(edit, lines)}\n{body}\n}}\n" if edit.function[0] else f"\n{body}\n"
+
+
+def with_edits(edits, text):
+    """The text of a file with edits in it, and behind it the copies in which the others are made; and those with their lines there."""
+    changes = [(text.index(old), old, new) for edit in edits if not edit.copy for old, new in edit.changes]
+    made, behind = text, []
+    # (from the last to the first, so that the others stay where they are)
+    for place, old, new in sorted(changes, reverse=True):
+        made = made[:place] + new + made[place + len(old) :]
+    for edit in edits:
+        if edit.copy:
+            begin = made.count("\n")
+            made += copied(edit, text)
+            edit = edit._replace(lines=(begin, made.count("\n")))
+        behind.append(edit)
+    return made, behind
 
 
 def refusals(edit, path, told, text):
@@ -137,7 +189,7 @@ def refusals(edit, path, told, text):
         return []
     notes = re.findall(rf"(?m)^note: ({re.escape(edit.file)}:(\d+):\d+: it is not proved that .*)$", text)
     first, last = edit.lines
-    # (an edit leaves each line where it was)
+    # (an edit leaves each line where it was, and a copy stands behind them)
     found = [note for note, line in notes if first < int(line) <= last + 1]
     proofs = "/".join(path.split("::")[1:])
     errors = re.findall(rf"(?m)^\./(proofs/{proofs}/\w+\.antt:\d+:\d+: error: .*)$", text)
@@ -181,15 +233,25 @@ class Crate:
         words += [word for name in self.below for word in ("-L", f"dependency={library(name).parent}")]
         return words + [word for path in only for word in ("--only", path.removeprefix(f"{self.name}::"))]
 
+    def copy_proofs(self, edit):
+        """Copies the proof of an edit's function for the copy in which the edit is made; answers its folder, if there is one."""
+        of, name = edit.function
+        parts = [it for it in edit.file[len("src/") : -len(".rt")].split("/") if it not in ("lib", "main")] + [of] * bool(of)
+        proof, folder = (self.place.joinpath("proofs", *parts, it) for it in (name, copy_of(name, edit)))
+        module = ".".join([f"Rattle.{self.name}.proofs", *parts, ""])
+        for path in sorted(proof.glob("*.antt")):
+            folder.mkdir(exist_ok=True)
+            (folder / path.name).write_text(path.read_text().replace(f"{module}{name}.", f"{module}{folder.name}."))
+        return [folder] * proof.is_dir()
+
     def check(self, edits, left, only=()):
-        """Checks the crate with these edits; answers what is said of each function, and all that is said."""
-        files = {edit.file: (self.place / edit.file).read_text() for edit in edits}
+        """Checks the crate with these edits; answers what is said of each function, all that is said, and where the edits stand."""
+        files, placed = {edit.file: (self.place / edit.file).read_text() for edit in edits}, []
         for file, text in files.items():
-            changes = [(text.index(old), old, new) for edit in edits if edit.file == file for old, new in edit.changes]
-            # (from the last to the first, so that the others stay where they are)
-            for place, old, new in sorted(changes, reverse=True):
-                text = text[:place] + new + text[place + len(old) :]
-            (self.place / file).write_text(text)
+            made, here = with_edits([edit for edit in edits if edit.file == file], text)
+            (self.place / file).write_text(made)
+            placed += here
+        proofs = [folder for edit in edits if edit.copy for folder in self.copy_proofs(edit)]
         behind = EACH * left + self.seconds_of_build * (not self.checks)
         how = {"cwd": self.place, "stdin": subprocess.DEVNULL, "stdout": subprocess.PIPE, "stderr": subprocess.STDOUT}
         with self.lanes.lane(behind):
@@ -208,9 +270,11 @@ class Crate:
         print(f"{self.name}: {len(edits)} edits in {seconds:.0f} s of processor time{longest}", flush=True)
         for file, text in files.items():
             (self.place / file).write_text(text)
+        for folder in proofs:
+            shutil.rmtree(folder)
         told = dict(FUNCTION_SAID.findall(said))
         self.told = {**told, **self.told}
-        return told, said
+        return told, said, placed
 
     def say(self, edit, is_refused, what):
         """Tells what an edit came to."""
@@ -224,33 +288,35 @@ class Crate:
 
     def try_alone(self, edit, left):
         """Tries an edit by itself: something is refused, and not for a name that is gone."""
-        told, text = self.check([edit], left, self.only([edit]))
+        told, text, _ = self.check([edit], left, self.only([edit]))
         found = [it for it in re.findall(r"(?m)^\./(proofs/\S+: error: .*)$", text) if not NAMES.search(it)]
         found += re.findall(r"(?m)^fn .* did not prove .*$|^note: src/\S+: it is not proved that .*$", text)
         is_refused = bool(told and found)
         self.say(edit, is_refused, found[0] if is_refused else f"it is proved, or was not read: {text}")
 
     def try_together(self, edits, left):
-        """Tries edits of different functions; answers those of which nothing is known yet."""
-        told, text = self.check(edits, left, self.only(edits))
+        """Tries edits of different functions and copies; answers those of which nothing is known yet."""
+        told, text, placed = self.check(edits, left, self.only(edits))
         unclear = []
-        for edit in edits:
-            path = path_of(self.name, edit, told)
-            if path and told[path] == "proved":
+        for edit in placed:
+            path = path_of(self.name, edit, self.told)
+            if told.get(path) == "proved":
                 self.say(edit, False, f"{path} is still proved")
-            elif path and (found := refusals(edit, path, told, text)):
+            elif path in told and (found := refusals(edit, path, told, text)):
                 self.say(edit, True, found[0])
             else:
-                unclear.append(edit)
+                unclear.append(next(it for it in edits if it.name == edit.name)._replace(copy=None))
         return unclear
 
     def try_in_rounds(self, edits):
-        """Tries edits, in each round one of each function; answers those of which nothing is known yet."""
+        """Tries edits, in each round all of each function that can have copies; answers those of which nothing is known yet."""
         unclear = []
         while edits:
             together = firsts(edits, lambda it: (it.file, it.function))
-            edits = [it for it in edits if it not in together]
-            unclear += self.try_together(together, len(edits) + len(together))
+            others = [it for it in edits if it not in together and can_be_copied(it, (self.place / it.file).read_text())]
+            edits = [it for it in edits if it not in together + others]
+            copies = [it._replace(copy=number) for number, it in enumerate(others, 2)]
+            unclear += self.try_together(together + copies, len(edits) + len(together + copies))
         return unclear
 
     def try_clauses(self, edits):
@@ -260,7 +326,7 @@ class Crate:
             # (two edits of one place would not both be in)
             together = firsts(firsts([it for it in edits if it.breaks[0] == function], lambda it: it.breaks), lambda it: it.changes[0][0])
             path, proofs = f"{self.name}::{function}", f"proofs/{function.replace('::', '/')}/"
-            told, text = self.check(together, len(edits), [path])
+            told, text, _ = self.check(together, len(edits), [path])
             is_proved = told.get(path, "proved") == "proved"
             for edit in together:
                 goal = rf"returns-clause-{edit.breaks[1]}" if edit.breaks[1:] else r"returns[\w-]*"
@@ -269,13 +335,28 @@ class Crate:
                 self.say(edit, bool(found), found[0] if found else f"its clause is proved, or was not read: {text}")
             edits = [it for it in edits if it not in together]
 
+    def try_copies(self, told):
+        """Checks the copies of functions in which edits are made, without these edits: each is proved."""
+        self.told = told
+        self.copy()
+        read = [read_edit(self.place, path) for path in sorted((self.home / "must-fail").glob("*.edit"))]
+        read = [it for it in read if it and it.function]
+        others = [it for it in read if it not in firsts(read, lambda it: (it.file, it.function))]
+        others = [it for it in others if can_be_copied(it, (self.place / it.file).read_text())]
+        copies = [it._replace(copy=number, changes=[]) for number, it in enumerate(others, 2)]
+        said = self.check(copies, len(copies), self.only(copies))[0] if copies else {}
+        for edit in copies:
+            is_proved = said.get(path_of(self.name, edit, self.told)) == "proved"
+            self.passed, self.failed = self.passed + is_proved, self.failed + (not is_proved)
+            print(f"copy for {self.name}/{edit.name}: {'proved' if is_proved else 'NOT PROVED'}", flush=True)
+
     def try_edits(self, told):
         """Tries all edits, given what was said of each function without them."""
         self.told = told
         self.copy()
         edits = {path: read_edit(self.place, path) for path in sorted((self.home / "must-fail").glob("*.edit"))}
         for path in (path for path, edit in edits.items() if not edit):
-            self.say(Edit(path.stem, *[None] * 5), False, "it cannot be applied")
+            self.say(Edit(path.stem, *[None] * 6), False, "it cannot be applied")
         read = [edit for edit in edits.values() if edit]
         of_bodies, of_clauses = [it for it in read if it.function], [it for it in read if not it.function and it.breaks]
         unclear = self.try_in_rounds(of_bodies)
@@ -334,8 +415,8 @@ def check_here(name):
     return None if run.returncode else dict(FUNCTION_SAID.findall(run.stdout))
 
 
-def run(crates, asked, tree, folder):
-    """Tries the edits of the crates that are asked for."""
+def run(crates, asked, tree, folder, copies):
+    """Tries the edits of the crates that are asked for, or the copies of functions without them."""
     lanes = Lanes(len(os.sched_getaffinity(0)))
     made = [Crate(name, crates, tree or TOP, folder, lanes) for name in asked]
     # (checks in one copy of the repository wait for one another)
@@ -345,6 +426,8 @@ def run(crates, asked, tree, folder):
         if (told := functions(crate.name)) is None:
             print(f"{crate.name} as it stands is not proved", flush=True)
             crate.failed += 1
+        elif copies:
+            crate.try_copies(told)
         else:
             crate.try_edits(told)
 
@@ -358,6 +441,7 @@ def main():
     words = argparse.ArgumentParser(usage=__doc__)
     words.add_argument("--over", metavar="TREE", type=Path)
     words.add_argument("--keep", metavar="FOLDER", type=Path)
+    words.add_argument("--copies", action="store_true")
     words.add_argument("crate", nargs="*")
     words = words.parse_args()
     crates, begun = read_crates(), time.monotonic()
@@ -365,7 +449,7 @@ def main():
         sys.exit(f"crates.txt has no crate {unknown[0]}")
     with contextlib.ExitStack() as stack:
         folder = words.keep or Path(stack.enter_context(tempfile.TemporaryDirectory(prefix="nbdcheck-edits-")))
-        tried = run(crates, words.crate or list(crates), words.over and words.over.resolve(), folder.resolve())
+        tried = run(crates, words.crate or list(crates), words.over and words.over.resolve(), folder.resolve(), words.copies)
     print(f"{time.monotonic() - begun:.0f} s, {sum(crate.seconds for crate in tried):.0f} s of processor time")
     passed, failed = sum(crate.passed for crate in tried), sum(crate.failed for crate in tried)
     print(f"{passed} passed, {failed} failed")

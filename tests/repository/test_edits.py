@@ -53,7 +53,8 @@ bad = limit == ["8"] or set(bodies.values()) - {"right", "same"}
 print("logic=not-proved" if bad else "logic=proved")
 sys.exit(1 if bad else 0)
 """
-LOW = "pub const LIMIT: u8 = 7;\n\n" + "\n".join(f"pub fn {name}() {{\n    right // {name}\n}}\n" for name in ("one", "two", "three"))
+BODIES = {"one": "one", "two": "two", "three": "three, which calls three()"}
+LOW = "pub const LIMIT: u8 = 7;\n\n" + "\n".join(f"pub fn {name}() {{\n    right // {said}\n}}\n" for name, said in BODIES.items())
 HIGH = "pub fn main() {\n    right\n}\n"
 # What rt ci says of the two crates.
 SAID = "fn low::one: proved\nfn low::two: proved\nfn low::three: proved\nrt: low proved\nfn high::main: proved\nrt: high proved\n"
@@ -109,8 +110,14 @@ RUNS = [
      {"a": "refused", "b": "refused", "c": "refused"}, ["by_hand searched searched; one three two"]),
     ("a name that is gone, and more", {"a": change("one", "noted"), "b": change("three", "noted")},
      {"a": "refused", "b": "refused"}, ["noted noted; one three"]),
-    ("one function", {"a": change("one", "searched"), "b": change("one", "by_hand")},
-     {"a": "refused", "b": "refused"}, ["searched; one", "by_hand; one"]),
+    ("one function", {"a": change("one", "searched"), "b": change("one", "by_hand"), "c": change("two", "searched")},
+     {"a": "refused", "b": "refused", "c": "refused"}, ["by_hand searched searched; one one_copy2 two"]),
+    ("one function, of which a copy is still proved", {"a": change("one", "searched"), "b": change("one", "same"), "c": change("one", "noted")},
+     {"a": "refused", "b": "NOT REFUSED", "c": "refused"}, ["noted same searched; one one_copy2 one_copy3"]),
+    ("one function, whose copy says too little", {"a": change("one", "searched"), "b": change("one", "hidden")},
+     {"a": "refused", "b": "refused"}, ["hidden searched; one one_copy2", "hidden; one"]),
+    ("one that calls itself", {"a": change("three", "searched"), "b": change("three", "by_hand"), "c": change("two", "searched")},
+     {"a": "refused", "b": "refused", "c": "refused"}, ["searched searched; three two", "by_hand; three"]),
     ("what it calls is refused", {"a": change("one", "hidden"), "b": change("two", "searched")},
      {"a": "refused", "b": "refused"}, ["hidden searched; one two", "hidden; one"]),
     ("what two call is refused", {"a": change("one", "hidden"), "b": change("two", "searched"), "c": change("three", "hidden")},
@@ -145,6 +152,16 @@ PLACES = [
     ("impl From<Refusal> for Fault {\n    fn from(it: Refusal) -> Self {\n        right\n    }\n}\n", 2, ("FaultFromRefusal", "from")),
     ("impl fmt::Display for Fault {\n    fn fmt(&self) {\n        right\n    }\n}\n\nconst LIMIT: u8 = 7;\n", 6, None),
 ]
+# A text in which the line `right` is changed to `wrong`: whether that can be made in a copy, and the copy.
+COPIES = [
+    ("#[tactic(auto)]\npub fn one()\n    ensures { a }\n{\n    right\n}\n", True, "\n#[tactic(auto)]\npub fn one_copy2()\n    ensures { a }\n{\n    wrong\n}\n"),
+    ("impl<'a> Pieces<'a>\nwhere\n    A: B,\n{\n    fn one(&self) {\n        right\n    }\n}\n", True,
+     "\nimpl<'a> Pieces<'a> where A: B, {\n    fn one_copy2(&self) {\n        wrong\n    }\n}\n"),
+    ("impl Drop for Pieces {\n    fn one(&self) {\n        right\n    }\n}\n", False, None),
+    ("impl Pieces {\n    fn one(&self) {\n        right\n        self.one();\n    }\n}\n", False, None),
+    ("impl Pieces {\n    fn one(&self) {\n        right\n        self.two.one();\n    }\n}\n", True,
+     "\nimpl Pieces {\n    fn one_copy2(&self) {\n        wrong\n        self.two.one();\n    }\n}\n"),
+]
 # A function, the functions that the prover names, and which of them it is; its file is src/low.rt.
 NAMED = [
     (("", "one"), ["low::low::one", "low::high::one"], "low::low::one"),
@@ -162,10 +179,25 @@ def run_of_names(tally, edits):
     for function, told, wanted in NAMED:
         edit = edits.Edit("a", "src/low.rt", [], function, (0, 1), None)
         tally.want(f"{function} of {told}", edits.path_of("low", edit, told), wanted)
+        copy = wanted and f"{wanted}_copy2"
+        tally.want(f"a copy of {function} of {told}", edits.path_of("low", edit._replace(copy=2), told), copy)
+
+
+def run_of_copies(tally, edits):
+    for text, can_be, wanted in COPIES:
+        lines = text.split("\n")
+        function, within = edits.function_at(lines, next(it for it, line in enumerate(lines) if line.strip() == "right"))
+        edit = edits.Edit("a", "src/low.rt", [("right", "wrong")], function, within, None, 2)
+        tally.want(f"whether {text} is copied", edits.can_be_copied(edit, text), can_be)
+        if can_be:
+            made, (placed,) = edits.with_edits([edit], text)
+            tally.want(f"the copy of {text}", made, text + wanted)
+            tally.holds(f"the lines of the copy of {text}", "wrong" in "\n".join(made.split("\n")[placed.lines[0] : placed.lines[1]]))
 
 
 def run(tally):
     run_of_names(tally, edits)
+    run_of_copies(tally, edits)
     for name, edits_of_low, wanted, checks in RUNS:
         failed = sum(it != "refused" for it in wanted.values())
         ends = (int(failed > 0), wanted, f"{len(wanted) - failed} passed, {failed} failed", checks)
@@ -182,6 +214,9 @@ def run(tally):
         kept = "rt: low is kept: an earlier run\nrt: high proved\n"
         tally.want("a crate that is kept", tree.over(kept), (0, refused, "1 passed, 0 failed", ["searched; "]))
         tally.want("a crate that rt ci does not prove", tree.over("rt: low NOT PROVED\n"), (1, {}, "0 passed, 2 failed", []))
+        two = {"a": change("one", "searched"), "b": change("one", "by_hand"), "c": change("three", "searched"), "d": change("three", "noted")}
+        with tempfile.TemporaryDirectory(prefix="nbdcheck-") as other:
+            tally.want("copies without their edits", Tree(other, two).run("--copies", "low"), (0, {}, "1 passed, 0 failed", ["; one_copy2"]))
         kept = Path(folder, "kept")
         tree.run("--keep", str(kept))
         tally.holds("what was checked is kept", (kept / "low/src/lib.rt").read_text() == LOW)
