@@ -139,10 +139,11 @@ def copy_of(name, edit):
 
 
 def header_of(edit, lines):
-    """The header of the impl in which an edit's function is a method, in one line."""
+    """The header of the impl in which an edit's function is a method, in one line, and behind it the names that the impl brings in."""
     top = next(it for it in range(edit.lines[0], -1, -1) if lines[it].startswith("impl"))
-    end = next(it for it in range(top, len(lines)) if lines[it].endswith("{"))
-    return " ".join(it.strip() for it in lines[top : end + 1])
+    body = next(it for it in range(top, len(lines)) if lines[it].endswith("{"))
+    names = re.findall(r"(?m)^    ghost use [^;]*;$", "\n".join(lines[body : lines.index("}", top)]))
+    return "\n".join([" ".join(it.strip() for it in lines[top : body + 1]), *names])
 
 
 def can_be_copied(edit, text):

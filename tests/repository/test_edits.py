@@ -157,6 +157,8 @@ COPIES = [
     ("#[tactic(auto)]\npub fn one()\n    ensures { a }\n{\n    right\n}\n", True, "\n#[tactic(auto)]\npub fn one_copy2()\n    ensures { a }\n{\n    wrong\n}\n"),
     ("impl<'a> Pieces<'a>\nwhere\n    A: B,\n{\n    fn one(&self) {\n        right\n    }\n}\n", True,
      "\nimpl<'a> Pieces<'a> where A: B, {\n    fn one_copy2(&self) {\n        wrong\n    }\n}\n"),
+    ("impl Pieces {\n    ghost use A.{\n        b,\n    };\n    ghost use C;\n\n    fn one(&self) {\n        right\n    }\n}\n", True,
+     "\nimpl Pieces {\n    ghost use A.{\n        b,\n    };\n    ghost use C;\n    fn one_copy2(&self) {\n        wrong\n    }\n}\n"),
     ("impl Drop for Pieces {\n    fn one(&self) {\n        right\n    }\n}\n", False, None),
     ("impl Pieces {\n    fn one(&self) {\n        right\n        self.one();\n    }\n}\n", False, None),
     ("impl Pieces {\n    fn one(&self) {\n        right\n        self.two.one();\n    }\n}\n", True,
