@@ -1,6 +1,6 @@
 //! The rules on answers to options (proto.md, "Option types", "Option reply types").
 
-use crate::asked::Asked;
+use crate::asked::{Asked, asks_export};
 use crate::contexts::judge_context;
 use crate::infos::{judge_acknowledged, judge_info, judge_refused_sizes};
 use crate::negotiation::Negotiation;
@@ -20,16 +20,18 @@ pub fn judge_answer(before: &Negotiation, kind: u32, answer: &[u8], notes: &mut 
     let asked = &before.asked;
     judge_answer_strings(kind, answer, notes);
     judge_tls(&before.tls, asked, kind, notes);
-    notes.note(
+    notes.note_three(
         Name::AnswerAfterShutdown,
         is_after_shutdown(before, kind),
-        &[asked.number(), u64::from(kind), before.shutdown],
+        u64::from(asked.id),
+        u64::from(kind),
+        before.shutdown,
     );
     match kind {
         answers::INFO => judge_info(before, answer, notes),
         answers::META_CONTEXT => judge_context(asked, answer, notes),
         answers::ACK => {
-            notes.note(Name::SetContextGrantedEarly, is_early(asked), &[]);
+            notes.note(Name::SetContextGrantedEarly, is_early(asked));
             judge_acknowledged(before, notes);
         }
         _ if is_error(kind) => judge_error(asked, kind, notes),
@@ -50,17 +52,17 @@ fn is_after_shutdown(before: &Negotiation, kind: u32) -> bool {
 fn judge_error(asked: &Asked, kind: u32, notes: &mut Notes) {
     judge_error_to(asked, kind, notes);
     judge_error_of_bad(asked, kind, notes);
-    let asks_export = asked.asks_export();
+    let asks_export = asks_export(asked.id);
     match kind {
-        ERR_UNSUP => notes.note(
+        ERR_UNSUP => notes.note_one(
             Name::BaselineUnsupported,
             asks_export || asked.id == options::LIST,
-            &[asked.number()],
+            u64::from(asked.id),
         ),
-        ERR_UNKNOWN => notes.note(
+        ERR_UNKNOWN => notes.note_one(
             Name::InfoBeforeUnknown,
             asks_export && asked.infos != 0,
-            &[asked.infos],
+            asked.infos,
         ),
         ERR_BLOCK_SIZE_REQD if asks_export => judge_refused_sizes(asked, notes),
         _ => {}
@@ -87,7 +89,7 @@ fn judge_error_to(asked: &Asked, kind: u32, notes: &mut Notes) {
         ),
         _ => return,
     };
-    notes.note(name, holds, &[u64::from(kind)]);
+    notes.note_one(name, holds, u64::from(kind));
 }
 
 // Whether an option is a SET_META_CONTEXT that came before structured replies. It is granted in spite of that.
@@ -95,19 +97,16 @@ fn is_early(asked: &Asked) -> bool {
     asked.id == options::SET_META_CONTEXT && !asked.was_structured
 }
 
-// Whether an option that has no data has some.
-fn is_with_data(asked: &Asked) -> bool {
-    matches!(asked.id, options::LIST | options::STRUCTURED_REPLY) && !asked.data().is_empty()
-}
-
 // An option that the client should not have sent gets another error than the one for that.
 fn judge_error_of_bad(asked: &Asked, kind: u32, notes: &mut Notes) {
     let is_early = is_early(asked);
-    if (is_early || is_with_data(asked)) && !is_open(kind) {
+    let takes_none = asked.id == options::LIST || asked.id == options::STRUCTURED_REPLY;
+    let is_bad = is_early || takes_none && !asked.data().is_empty();
+    if is_bad && !is_open(kind) {
         notes.tell(
             Name::ErrorOfBadOption,
             usize::from(is_early),
-            &[asked.number(), u64::from(kind)],
+            [u64::from(asked.id), u64::from(kind), 0],
         );
     }
 }
