@@ -42,10 +42,10 @@ pub fn judge_answer(before: &Negotiation, kind: u32, answer: &[u8], notes: &mut 
 // Whether behind ERR_SHUTDOWN the first answer to an option is another (proto.md, "Termination of the session during option
 // haggling").
 fn is_after_shutdown(before: &Negotiation, kind: u32) -> bool {
-    before.shutdown != 0
-        && kind != ERR_SHUTDOWN
-        && before.asked.answers == 0
-        && before.asked.id != options::ABORT
+    (before.shutdown != 0)
+        & (kind != ERR_SHUTDOWN)
+        & (before.asked.answers == 0)
+        & (before.asked.id != options::ABORT)
 }
 
 // Judges an error: by the option that it answers, by its kind, and by both.
@@ -56,12 +56,12 @@ fn judge_error(asked: &Asked, kind: u32, notes: &mut Notes) {
     match kind {
         ERR_UNSUP => notes.note_one(
             Name::BaselineUnsupported,
-            asks_export || asked.id == options::LIST,
+            asks_export | (asked.id == options::LIST),
             u64::from(asked.id),
         ),
         ERR_UNKNOWN => notes.note_one(
             Name::InfoBeforeUnknown,
-            asks_export && asked.infos != 0,
+            asks_export & (asked.infos != 0),
             asked.infos,
         ),
         ERR_BLOCK_SIZE_REQD if asks_export => judge_refused_sizes(asked, notes),
@@ -71,7 +71,7 @@ fn judge_error(asked: &Asked, kind: u32, notes: &mut Notes) {
 
 // Whether an error may answer any option, whatever the reason: all that proto.md names, but for two.
 fn is_open(kind: u32) -> bool {
-    kind != ERR_UNKNOWN && kind != ERR_BLOCK_SIZE_REQD && name_in(REPLIES, kind).is_some()
+    (kind != ERR_UNKNOWN) & (kind != ERR_BLOCK_SIZE_REQD) & name_in(REPLIES, kind).is_some()
 }
 
 // Judges an error by the option: ABORT gets one, but ERR_TLS_REQD is due to every option where TLS is forced; STARTTLS gets one that
@@ -81,11 +81,11 @@ fn judge_error_to(asked: &Asked, kind: u32, notes: &mut Notes) {
     let is_tls_reqd = kind == ERR_TLS_REQD;
     let (name, holds) = match asked.id {
         options::ABORT => (Name::AbortNotAcknowledged, !is_tls_reqd),
-        options::STARTTLS => (Name::StarttlsError, is_tls_reqd || !is_open(kind)),
+        options::STARTTLS => (Name::StarttlsError, is_tls_reqd | !is_open(kind)),
         options::LIST_META_CONTEXT if !asked.is_formed => (Name::ListContextError, !is_open(kind)),
         options::LIST_META_CONTEXT => (
             Name::TooBigWithoutQueries,
-            kind == ERR_TOO_BIG && asked.queries.is_empty,
+            (kind == ERR_TOO_BIG) & asked.queries.is_empty,
         ),
         _ => return,
     };
@@ -94,15 +94,15 @@ fn judge_error_to(asked: &Asked, kind: u32, notes: &mut Notes) {
 
 // Whether an option is a SET_META_CONTEXT that came before structured replies. It is granted in spite of that.
 fn is_early(asked: &Asked) -> bool {
-    asked.id == options::SET_META_CONTEXT && !asked.was_structured
+    (asked.id == options::SET_META_CONTEXT) & !asked.was_structured
 }
 
 // An option that the client should not have sent gets another error than the one for that.
 fn judge_error_of_bad(asked: &Asked, kind: u32, notes: &mut Notes) {
     let is_early = is_early(asked);
-    let takes_none = asked.id == options::LIST || asked.id == options::STRUCTURED_REPLY;
-    let is_bad = is_early || takes_none && !asked.data().is_empty();
-    if is_bad && !is_open(kind) {
+    let takes_none = (asked.id == options::LIST) | (asked.id == options::STRUCTURED_REPLY);
+    let is_bad = is_early | takes_none & !asked.data().is_empty();
+    if is_bad & !is_open(kind) {
         notes.tell(
             Name::ErrorOfBadOption,
             usize::from(is_early),

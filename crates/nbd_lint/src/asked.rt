@@ -45,19 +45,6 @@ pub struct Asked {
 }
 
 impl Asked {
-    /// An option with these data.
-    pub fn of(id: u32, payload: &Bytes, notes: &mut Notes) -> Asked {
-        let mut asked = Asked::none(notes.alloc);
-        asked.id = id;
-        asked.is_formed = is_formed(id, payload.as_slice());
-        asked.place = notes.place;
-        match payload.share() {
-            Ok(shared) => asked.payload = shared,
-            Err(_) => notes.is_refused = true,
-        }
-        asked
-    }
-
     /// Before the first option; takes no memory.
     pub fn none(alloc: Global) -> Asked {
         Asked {
@@ -84,12 +71,30 @@ impl Asked {
         self.payload.as_slice()
     }
 
-    /// Takes from the option before it what its answers are compared with.
-    pub fn compare(&mut self, before: &mut Asked, notes: &mut Notes) {
-        if self.id == options::GO && before.id == options::INFO && before.payload == self.payload {
-            self.earlier_at = before.granted;
-            std::mem::swap(&mut self.compared, &mut before.told);
+    /// Becomes the next option, with these data; keeps of the one before it what its answers are compared with.
+    pub fn renew(&mut self, id: u32, payload: &Bytes, notes: &mut Notes) {
+        let is_same = id == options::GO && self.id == options::INFO && self.payload == *payload;
+        self.earlier_at = 0;
+        self.compared = Texts::none(notes.alloc);
+        if is_same {
+            self.earlier_at = self.granted;
+            std::mem::swap(&mut self.compared, &mut self.told);
             self.compared.order(notes);
+        }
+        self.told = Texts::none(notes.alloc);
+        self.id = id;
+        self.is_formed = is_formed(id, payload.as_slice());
+        self.place = notes.place;
+        self.queries = NO_QUERIES;
+        self.answers = 0;
+        self.infos = 0;
+        self.kinds = 0;
+        self.size = None;
+        self.sizes = NOTHING;
+        self.granted = 0;
+        match payload.share() {
+            Ok(shared) => self.payload = shared,
+            Err(_) => notes.is_refused = true,
         }
     }
 

@@ -85,9 +85,9 @@ fn judge_head(reply: &Reply, before: &Transmission, chunk: Chunk<'_>, notes: &mu
     let bytes = carried(chunk);
     let largest = u64::from(before.sizes.largest);
     notes.speak_of(request);
-    if before.sizes.last.is_some() && bytes > largest {
-        let is_short = chunk.kind == OFFSET_DATA && request.length <= UNFRAGMENTED;
-        let is_due_whole = is_short && is_df_read(request);
+    if before.sizes.last.is_some() & (bytes > largest) {
+        let is_short = (chunk.kind == OFFSET_DATA) & (request.length <= UNFRAGMENTED);
+        let is_due_whole = is_short & is_df_read(request);
         notes.note_two(Name::ChunkOverLargest, !is_due_whole, bytes, largest);
     }
     if notes.are_hinting {
@@ -96,7 +96,7 @@ fn judge_head(reply: &Reply, before: &Transmission, chunk: Chunk<'_>, notes: &mu
         notes.note_one(Name::UnknownChunkFlag, !is_known, u64::from(flags));
         notes.note(
             Name::NeedlessNone,
-            chunk.kind == NONE && reply.is_behind_payload,
+            (chunk.kind == NONE) & reply.is_behind_payload,
         );
     }
 }
@@ -121,6 +121,6 @@ fn judge_content(reply: &Reply, piece: Piece, notes: &mut Notes) {
     }
     notes.note(
         Name::ContentBesideEoverflow,
-        reply.has_eoverflow && request.is_proper && is_df_read(request),
+        reply.has_eoverflow & request.is_proper & is_df_read(request),
     );
 }

@@ -19,7 +19,7 @@ pub fn name_in(answer: &[u8]) -> &[u8] {
 
 /// Whether a context is one of the namespace `base` with a leaf-name.
 pub fn is_base_leaf(name: &[u8]) -> bool {
-    name.starts_with(BASE) && name.len() > BASE.len()
+    name.starts_with(BASE) & (name.len() > BASE.len())
 }
 
 /// Judges a META_CONTEXT answer to an option.
@@ -43,7 +43,7 @@ fn judge_name(name: &[u8], notes: &mut Notes) {
     notes.note_named(Name::ContextName, !has_namespace, name, &[], 0);
     notes.note_named(
         Name::ContextNamespace,
-        has_namespace && !is_registered(namespace),
+        has_namespace & !is_registered(namespace),
         name,
         namespace,
         0,
@@ -61,7 +61,7 @@ fn judge_selected(asked: &Asked, name: &[u8], notes: &mut Notes) {
     let is_asked = name != BASE && asked.compared.has(name);
     notes.note_named(
         Name::ContextNotAsked,
-        asked.queries.are_base() && !is_asked,
+        asked.queries.are_base() & !is_asked,
         name,
         asked.data(),
         0,

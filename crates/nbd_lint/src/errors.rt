@@ -19,7 +19,7 @@ pub fn judge_error(reply: &Reply, before: &Transmission, errored: Errored, notes
     notes.note_one(Name::UnknownError, !is_known, number);
     notes.note_two(
         Name::ErrorAfterEshutdown,
-        request.is_late && request.is_proper && error != ESHUTDOWN,
+        request.is_late & request.is_proper & (error != ESHUTDOWN),
         number,
         before.eshutdown,
     );
@@ -36,9 +36,9 @@ pub fn judge_error(reply: &Reply, before: &Transmission, errored: Errored, notes
 fn judge_improper(reply: &Reply, error: u32, notes: &mut Notes) {
     let reasons = reply.request.reasons;
     let command = reply.request.head.command;
-    let is_any = reasons.is_forbidden || reasons.is_invalid;
-    let is_judged = reply.errors == 0 && is_any && !reasons.is_open;
-    if is_judged && !reasons.allow(command, error) {
+    let is_any = reasons.is_forbidden | reasons.is_invalid;
+    let is_judged = (reply.errors == 0) & is_any & !reasons.is_open;
+    if is_judged & !reasons.allow(command, error) {
         notes.tell(
             Name::ErrorOfImproper,
             reasons.sentence,
@@ -51,7 +51,7 @@ fn judge_improper(reply: &Reply, error: u32, notes: &mut Notes) {
 // it is another request, or that is not offered.
 fn judge_enotsup(request: &Request, before: &Transmission, notes: &mut Notes) {
     let is_zeroes = request.head.command == commands::WRITE_ZEROES;
-    if is_zeroes && has(before.export.flags, transmission::SEND_FAST_ZERO) {
+    if is_zeroes & has(before.export.flags, transmission::SEND_FAST_ZERO) {
         let is_slow = is_slow_zeroes(request);
         notes.note(Name::EnotsupWithoutFastZero, is_slow);
     } else {
@@ -68,11 +68,11 @@ fn judge_eoverflow(reply: &Reply, before: &Transmission, errored: Errored, notes
     let is_small = request.length <= UNFRAGMENTED;
     let is_over = is_over_announced(request, before);
     notes.note_one(Name::Eoverflow, is_surprising, request.length);
-    if errored.is_plain && request.is_proper && is_df_read(request) {
+    if errored.is_plain & request.is_proper & is_df_read(request) {
         notes.note(Name::ContentBesideEoverflow, has_content);
         notes.note_one(
             Name::EoverflowToSmallDfRead,
-            !has_content && request.is_aligned && is_small && !is_over,
+            !has_content & request.is_aligned & is_small & !is_over,
             request.length,
         );
     }
@@ -82,7 +82,7 @@ fn judge_eoverflow(reply: &Reply, before: &Transmission, errored: Errored, notes
 fn may_overflow(request: &Request, before: &Transmission) -> bool {
     match request.head.command {
         commands::READ => is_too_long_to_read(request, before),
-        commands::WRITE_ZEROES => is_slow_zeroes(request) && is_over_announced(request, before),
+        commands::WRITE_ZEROES => is_slow_zeroes(request) & is_over_announced(request, before),
         commands::TRIM | commands::CACHE | commands::BLOCK_STATUS => {
             is_over_announced(request, before)
         }
@@ -92,15 +92,15 @@ fn may_overflow(request: &Request, before: &Transmission) -> bool {
 
 // Whether a request is a WRITE_ZEROES that need not be fast.
 fn is_slow_zeroes(request: &Request) -> bool {
-    request.head.command == commands::WRITE_ZEROES
-        && !has(request.head.flags, command_flags::FAST_ZERO)
+    (request.head.command == commands::WRITE_ZEROES)
+        & !has(request.head.flags, command_flags::FAST_ZERO)
 }
 
 // Whether a READ may be too long for one piece, or for the server.
 fn is_too_long_to_read(request: &Request, before: &Transmission) -> bool {
     let usual = u64::from(USUAL_LARGEST);
-    is_df_read(request) && has(before.export.flags, transmission::SEND_DF)
-        || before.structured && before.sizes.is_over(request.length, usual)
+    is_df_read(request) & has(before.export.flags, transmission::SEND_DF)
+        | before.structured & before.sizes.is_over(request.length, usual)
 }
 
 // Whether a request is longer than a maximum payload that was announced.
@@ -110,7 +110,7 @@ fn is_over_announced(request: &Request, before: &Transmission) -> bool {
 
 /// Whether a request is a READ with DF.
 pub fn is_df_read(request: &Request) -> bool {
-    request.head.command == commands::READ && has(request.head.flags, command_flags::DF)
+    (request.head.command == commands::READ) & has(request.head.flags, command_flags::DF)
 }
 
 /// Judges an error chunk beside those before it: beside a chunk of type ERROR there is another; a FLUSH gets one with an offset; an
@@ -118,7 +118,7 @@ pub fn is_df_read(request: &Request) -> bool {
 pub fn judge_beside(reply: &Reply, errored: Errored, notes: &mut Notes) {
     notes.note(
         Name::ErrorNotAlone,
-        reply.errors != 0 && (errored.is_plain || reply.has_error),
+        (reply.errors != 0) & (errored.is_plain | reply.has_error),
     );
     if let Some(offset) = errored.offset {
         let is_flush = reply.request.head.command == commands::FLUSH;

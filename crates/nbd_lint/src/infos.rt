@@ -36,9 +36,9 @@ pub fn judge_info(before: &Negotiation, answer: &[u8], notes: &mut Notes) {
 /// Judges the transmission flags of an export: SEND_DF without structured replies, SEND_FAST_ZERO without SEND_WRITE_ZEROES.
 pub fn judge_flags(structured: bool, flags: u16, notes: &mut Notes) {
     let said = u64::from(flags);
-    let is_df_alone = has(flags, transmission::SEND_DF) && !structured;
+    let is_df_alone = has(flags, transmission::SEND_DF) & !structured;
     let is_fast_alone = has(flags, transmission::SEND_FAST_ZERO)
-        && !has(flags, transmission::SEND_WRITE_ZEROES);
+        & !has(flags, transmission::SEND_WRITE_ZEROES);
     notes.note_one(Name::DfWithoutStructuredReplies, is_df_alone, said);
     notes.note_one(Name::FastZeroWithoutWriteZeroes, is_fast_alone, said);
 }
@@ -60,7 +60,7 @@ pub fn judge_acknowledged(before: &Negotiation, notes: &mut Notes) {
 // small and the export is not.
 fn judge_sizes(size: u64, sizes: Sizes, notes: &mut Notes) {
     let least = u64::from(sizes.least);
-    let is_small = sizes.largest < SMALL_LARGEST && size >= u64::from(SMALL_LARGEST);
+    let is_small = (sizes.largest < SMALL_LARGEST) & (size >= u64::from(SMALL_LARGEST));
     let is_off = !size.is_multiple_of(least);
     notes.note_two(Name::SizeOffBlockSize, is_off, size, least);
     notes.note_two(
@@ -83,19 +83,15 @@ pub fn judge_refused_sizes(asked: &Asked, notes: &mut Notes) {
     );
     notes.note(Name::BlockSizeReqdWithoutSizes, !was_told);
     if let Some(sizes) = asked.sizes.last {
+        let are_kept = (sizes.preferred == USUAL_PREFERRED) & (sizes.largest >= USUAL_LARGEST);
         notes.note_three(
             Name::BlockSizeReqdWithDefaults,
-            are_usual(sizes),
+            (sizes.least == 1) & are_kept,
             u64::from(sizes.least),
             u64::from(sizes.preferred),
             u64::from(sizes.largest),
         );
     }
-}
-
-// Whether a client keeps to these sizes where none are announced.
-fn are_usual(sizes: Sizes) -> bool {
-    sizes.least == 1 && sizes.preferred == USUAL_PREFERRED && sizes.largest >= USUAL_LARGEST
 }
 
 // Judges the infos that GO got beside those that INFO with the same data got just before.

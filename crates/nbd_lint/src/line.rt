@@ -92,13 +92,6 @@ impl Line {
         self.is_refused |= self.text.push_str(words).is_err();
     }
 
-    /// Adds words one after the other.
-    pub fn say_each(&mut self, words: &[&str]) {
-        for one in words {
-            self.say(one);
-        }
-    }
-
     /// Adds words and a number.
     pub fn with(&mut self, words: &str, number: u64) {
         self.is_refused |= write!(self.text, "{words}{number}").is_err();
@@ -221,15 +214,11 @@ impl Line {
             let (form, later) = behind.split_once("}").unwrap_or((behind, ""));
             let brace = Brace::of(form);
             self.say(before);
-            self.put(brace, number_at(breach, next), breach);
+            let number = breach.numbers.get(next).copied().unwrap_or(0);
+            self.put(brace, number, breach);
             next = next.saturating_add(usize::from(brace.is_number()));
             rest = later;
         }
         self.say(rest);
     }
-}
-
-// The number in this place of a sentence; 0 where it has no more.
-fn number_at(breach: &Breach<'_, '_>, place: usize) -> u64 {
-    breach.numbers.get(place).copied().unwrap_or(0)
 }

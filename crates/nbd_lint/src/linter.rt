@@ -8,7 +8,7 @@ use crate::infos::judge_flags;
 use crate::negotiation::Negotiation;
 use crate::notes::Notes;
 use crate::numbers::ESHUTDOWN;
-use crate::places::{Places, Runs};
+use crate::places::{Runs, START};
 use crate::reply::{Errored, Reply};
 use crate::requests::{judge_disconnect, judge_request};
 use crate::sizes::{Announced, NOTHING};
@@ -35,7 +35,7 @@ impl Linter {
     pub fn of(alloc: Global, messages: &[Message], runs: &Runs, are_hinting: bool) -> Linter {
         let mut notes = Notes::none(alloc, are_hinting);
         let mut course = Course::none(alloc);
-        let mut places = Places::first();
+        let mut places = START;
         for (at, message) in messages.iter().enumerate() {
             let place = places.place_of(runs, message);
             notes.begin(side_of(message), place);

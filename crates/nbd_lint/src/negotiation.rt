@@ -72,18 +72,11 @@ impl Negotiation {
         } else {
             self.wildcards.forget();
         }
-        self.ask(id, payload, notes);
+        self.asked.renew(id, payload, notes);
+        self.asked.was_structured = self.structured;
         judge_listed(&mut self.asked, notes);
         judge_option(self, notes);
         self.forget_behind(id);
-    }
-
-    // An option with these data is the one that was chosen last.
-    fn ask(&mut self, id: u32, payload: &Bytes, notes: &mut Notes) {
-        let mut asked = Asked::of(id, payload, notes);
-        asked.was_structured = self.structured;
-        asked.compare(&mut self.asked, notes);
-        std::mem::swap(&mut self.asked, &mut asked);
     }
 
     // Notes what an option changes, and forgets what does not hold behind it.
@@ -119,7 +112,7 @@ impl Negotiation {
             self.asked.told.order(notes);
         }
         judge_answer(self, kind, answer, notes);
-        self.tls = self.tls.after(&self.asked, kind, notes.place);
+        self.tls.take(&self.asked, kind, notes.place);
         if kind == ERR_SHUTDOWN && self.shutdown == 0 {
             self.shutdown = notes.place;
         }

@@ -12,11 +12,11 @@ use nbd_wire::{name_in, options};
 pub fn judge_listed(asked: &mut Asked, notes: &mut Notes) {
     match asked.id {
         options::EXPORT_NAME => judge_name(asked.data(), notes),
-        id if asks_export(id) && asked.is_formed => {
+        id if asks_export(id) & asked.is_formed => {
             judge_name(name_in(asked.data()), notes);
             judge_infos_asked(asked, notes);
         }
-        id if asks_contexts(id) && asked.is_formed => {
+        id if asks_contexts(id) & asked.is_formed => {
             judge_name(name_in(asked.data()), notes);
             judge_queries(asked, notes);
         }
@@ -30,7 +30,7 @@ pub fn judge_option(before: &Negotiation, notes: &mut Notes) {
     let asked = &before.asked;
     let (option, data) = (u64::from(asked.id), asked.data().len() as u64);
     let granted = before.granted_before();
-    let has_needless = takes_no_data(asked.id) && data != 0;
+    let has_needless = takes_no_data(asked.id) & (data != 0);
     judge_state(asked, before, notes);
     notes.note_two(Name::OptionWithData, has_needless, option, data);
     notes.note_two(Name::OptionDataMalformed, !asked.is_formed, data, option);

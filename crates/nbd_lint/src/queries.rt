@@ -52,7 +52,7 @@ pub fn has_namespace(name: &[u8]) -> bool {
 
 // Whether a query ends with its first colon, so that it names no leaf.
 fn is_without_leaf(query: &[u8]) -> bool {
-    place_in(query, b':') == query.len() && !query.is_empty()
+    (place_in(query, b':') == query.len()) & !query.is_empty()
 }
 
 /// What the queries of LIST_META_CONTEXT or SET_META_CONTEXT have in common.
@@ -87,19 +87,19 @@ impl Common {
         self.is_wildcard |= is_base;
         self.begin_with_base &= query.starts_with(BASE);
         self.are_without_leaf &= is_without_leaf(query);
-        if !is_base && self.other == 0 {
+        if !is_base & (self.other == 0) {
             self.other = place;
         }
     }
 
     /// Whether there are some, and each begins with `base:`.
     pub fn are_base(self) -> bool {
-        self.begin_with_base && !self.is_empty
+        self.begin_with_base & !self.is_empty
     }
 
     /// Whether each ends with its first colon, and one is not `base:`.
     pub fn name_no_leaf(self) -> bool {
-        self.are_without_leaf && self.other != 0
+        self.are_without_leaf & (self.other != 0)
     }
 
     /// The first that is not `base:`, of these data.
@@ -121,12 +121,12 @@ pub fn judge_queries(asked: &mut Asked, notes: &mut Notes) {
         judge_query((before as u64).saturating_add(1), query, notes);
         let place = payload.len().saturating_sub(rest.len());
         asked.queries.take(query, place);
-        if is_setting && query.starts_with(BASE) {
+        if is_setting & query.starts_with(BASE) {
             asked.compared.add(query, notes);
         }
         rest = behind;
     }
-    if is_setting && asked.queries.are_base() {
+    if is_setting & asked.queries.are_base() {
         asked.compared.order(notes);
     }
 }

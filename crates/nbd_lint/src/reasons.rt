@@ -38,15 +38,15 @@ impl Reasons {
         is_aligned: bool,
     ) -> Reasons {
         let command = head.command;
-        if command == commands::BLOCK_STATUS && !asking.has_contexts {
+        if (command == commands::BLOCK_STATUS) & !asking.has_contexts {
             return Reasons::unanswerable(1);
         }
-        if command != commands::FLUSH && !has_range(command) {
+        if (command != commands::FLUSH) & !has_range(command) {
             return Reasons::unanswerable(0);
         }
         let is_past_end = is_past_end(export, head, asking.length);
         let has_other_flags = has_other_flags(alloc, export, asking, head);
-        let is_unaligned = has_range(command) && !is_aligned;
+        let is_unaligned = has_range(command) & !is_aligned;
         let is_forbidden = is_forbidden(export, command);
         let sentence = if is_past_end {
             2 + usize::from(is_fill(command))
@@ -59,8 +59,8 @@ impl Reasons {
         };
         Reasons {
             sentence,
-            is_invalid: is_past_end || has_other_flags || is_unaligned,
-            is_overfull: is_past_end && is_fill(command),
+            is_invalid: is_past_end | has_other_flags | is_unaligned,
+            is_overfull: is_past_end & is_fill(command),
             is_forbidden,
             is_open: is_open(export, head, asking.length),
         }
@@ -96,18 +96,18 @@ fn is_fill(command: u16) -> bool {
 }
 
 fn is_past_end(export: Export, head: &RequestHead, length: u64) -> bool {
-    has_range(head.command) && !ends_by(head.offset, length, export.size)
+    has_range(head.command) & !ends_by(head.offset, length, export.size)
 }
 
 fn is_forbidden(export: Export, command: u16) -> bool {
-    (is_fill(command) || command == commands::TRIM) && has(export.flags, transmission::READ_ONLY)
+    (is_fill(command) | (command == commands::TRIM)) & has(export.flags, transmission::READ_ONLY)
 }
 
 // Whether a request is not offered, or is a FLUSH of a range.
 fn is_open(export: Export, head: &RequestHead, length: u64) -> bool {
     match head.command {
         commands::FLUSH => {
-            !has(export.flags, transmission::SEND_FLUSH) || head.offset != 0 || length != 0
+            !has(export.flags, transmission::SEND_FLUSH) | (head.offset != 0) | (length != 0)
         }
         commands::TRIM => !has(export.flags, transmission::SEND_TRIM),
         commands::WRITE_ZEROES => !has(export.flags, transmission::SEND_WRITE_ZEROES),
@@ -142,7 +142,7 @@ fn has_other_flags(alloc: Global, export: Export, asking: &Asking, head: &Reques
 
 // The flags of a request that count.
 fn counted_flags(head: &RequestHead) -> u16 {
-    if head.extended && head.command == commands::BLOCK_STATUS {
+    if head.extended & (head.command == commands::BLOCK_STATUS) {
         head.flags & !command_flags::PAYLOAD_LEN
     } else {
         head.flags

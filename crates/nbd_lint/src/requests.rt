@@ -11,7 +11,7 @@ use nbd_wire::{RequestHead, command_flags, commands, transmission};
 /// Judges a request, behind what came before it: a request that writes nothing has FUA, one comes behind ESHUTDOWN, and others.
 pub fn judge_request(request: &Request, before: &Transmission, notes: &mut Notes) {
     let head = &request.head;
-    let has_needless_fua = is_reading(head.command) && has_fua(head.flags, before);
+    let has_needless_fua = is_reading(head.command) & has_fua(head.flags, before);
     notes.speak_of(request);
     notes.note(Name::WriteWithoutPayloadLen, lacks_payload_len(head));
     notes.note(Name::Length0, asks_for_nothing(request));
@@ -27,7 +27,7 @@ pub fn judge_request(request: &Request, before: &Transmission, notes: &mut Notes
 /// "Terminating the transmission phase").
 pub fn judge_disconnect(flags: u16, before: &Transmission, notes: &mut Notes) {
     let has_fua = has_fua(flags, before);
-    let has_others = flags != 0 && (flags != command_flags::FUA || !has_fua);
+    let has_others = (flags != 0) & ((flags != command_flags::FUA) | !has_fua);
     notes.note_one(Name::DiscWithFlags, has_others, u64::from(flags));
     if has_fua {
         notes.tell(Name::FuaOnReading, 1, [0; 3]);
@@ -38,15 +38,15 @@ pub fn judge_disconnect(flags: u16, before: &Transmission, notes: &mut Notes) {
 
 // Whether FUA is offered and set.
 fn has_fua(flags: u16, before: &Transmission) -> bool {
-    has(flags, command_flags::FUA) && has(before.export.flags, transmission::SEND_FUA)
+    has(flags, command_flags::FUA) & has(before.export.flags, transmission::SEND_FUA)
 }
 
 // Whether a WRITE with an extended header lacks the flag for its payload.
 fn lacks_payload_len(head: &RequestHead) -> bool {
     head.extended
-        && head.command == commands::WRITE
-        && head.length != 0
-        && !has(head.flags, command_flags::PAYLOAD_LEN)
+        & (head.command == commands::WRITE)
+        & (head.length != 0)
+        & !has(head.flags, command_flags::PAYLOAD_LEN)
 }
 
 // Whether a request asks for nothing.
@@ -77,12 +77,12 @@ fn judge_alignment(request: &Request, before: &Transmission, notes: &mut Notes) 
     };
     let command = request.head.command;
     let is_status = command == commands::BLOCK_STATUS;
-    if !request.is_proper || is_status || !has_range(command) {
+    if !request.is_proper | is_status | !has_range(command) {
         return;
     }
     if !is_aligned(request, before.export.size, size) {
         notes.tell(Name::RequestUnaligned, sentence, [offset, length, size]);
-    } else if sentence == 0 && is_long(request) {
+    } else if (sentence == 0) & is_long(request) {
         let most = u64::from(USUAL_LARGEST);
         notes.tell(Name::RequestUnaligned, 2, [offset, length, most]);
     }
@@ -97,5 +97,5 @@ fn is_aligned(request: &Request, end: u64, size: u64) -> bool {
 // Whether the payload is longer than is in order where no sizes were announced.
 fn is_long(request: &Request) -> bool {
     matches!(request.head.command, commands::READ | commands::WRITE)
-        && request.length > u64::from(USUAL_LARGEST)
+        & (request.length > u64::from(USUAL_LARGEST))
 }

@@ -37,11 +37,6 @@ impl Announced {
         }
     }
 
-    /// Whether an offset and a length are multiples of the minimum block size, if there is one.
-    pub fn are_aligned(self, offset: u64, length: u64) -> bool {
-        self.is_multiple(offset) && self.is_multiple(length)
-    }
-
     /// Whether a number of bytes is a multiple of the minimum block size, if there is one.
     pub fn is_multiple(self, bytes: u64) -> bool {
         self.last.is_none() || bytes.is_multiple_of(u64::from(self.least))

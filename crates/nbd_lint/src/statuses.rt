@@ -42,7 +42,7 @@ pub fn judge_status(
 ) {
     let length = if status.extended { 16 } else { 8 };
     let count = status.descriptors.len() as u64 / length;
-    let is_allocation = before.is_agreed && before.selection.is_allocation(status.id);
+    let is_allocation = before.is_agreed & before.selection.is_allocation(status.id);
     let mut rest = status.descriptors;
     let mut last = None;
     let mut end = u128::from(request.head.offset);
@@ -72,14 +72,14 @@ fn judge_extent(
     let reserved = extent.flags & !u64::from(states::HOLE | states::ZERO);
     notes.note_three(
         Name::ExtentOffBlockSize,
-        request.is_aligned && !before.sizes.is_multiple(extent.length),
+        request.is_aligned & !before.sizes.is_multiple(extent.length),
         number,
         extent.length,
         u64::from(before.sizes.least),
     );
     notes.note_one(
         Name::AllocationFlags,
-        is_allocation && reserved != 0,
+        is_allocation & (reserved != 0),
         extent.flags,
     );
 }
@@ -95,8 +95,8 @@ fn judge_end(
     notes: &mut Notes,
 ) {
     if let Ok(end) = u64::try_from(end) {
-        let is_excused = is_last && (end == request.end() || end == before.export.size);
-        let is_off = !is_sector(end) && !is_excused;
+        let is_excused = is_last & ((end == request.end()) | (end == before.export.size));
+        let is_off = !is_sector(end) & !is_excused;
         notes.note_two(Name::ExtentOff512, is_off, number, end);
     }
 }
@@ -112,7 +112,7 @@ fn judge_beside(
     if let Some(last) = last {
         notes.note_three(
             Name::ExtentsAlike,
-            last.flags == extent.flags && fit_together(extended, last, extent),
+            (last.flags == extent.flags) & fit_together(extended, last, extent),
             number.saturating_sub(1),
             number,
             extent.flags,
@@ -123,7 +123,7 @@ fn judge_beside(
 // Whether one descriptor could have the lengths of both.
 fn fit_together(extended: bool, first: Extent, second: Extent) -> bool {
     match first.length.checked_add(second.length) {
-        Some(sum) => extended || sum <= u64::from(u32::MAX),
+        Some(sum) => extended | (sum <= u64::from(u32::MAX)),
         None => false,
     }
 }

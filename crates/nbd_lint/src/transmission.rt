@@ -128,7 +128,8 @@ impl Transmission {
 
     // The same of one that asks this.
     fn asking(&self, alloc: Global, before: u64, head: &RequestHead, asking: &Asking) -> Request {
-        let is_aligned = self.sizes.are_aligned(head.offset, asking.length);
+        let sizes = self.sizes;
+        let is_aligned = sizes.is_multiple(head.offset) & sizes.is_multiple(asking.length);
         Request {
             number: before.saturating_add(1),
             head: *head,

@@ -91,7 +91,7 @@ impl Wildcards {
 
     /// Another LIST_META_CONTEXT or SET_META_CONTEXT comes behind an option: takes what this told, if it is one that was granted.
     pub fn take(&mut self, asked: &Asked, notes: &mut Notes) {
-        if asked.granted == 0 || !asks_contexts(asked.id) {
+        if (asked.granted == 0) | !asks_contexts(asked.id) {
             return;
         }
         let listings = self.known(asked, &[], notes).listings;
@@ -110,7 +110,7 @@ impl Wildcards {
         if known.first == 0 {
             known.first = first;
         }
-        if is_wildcard(asked) && known.listings == listings {
+        if is_wildcard(asked) & (known.listings == listings) {
             known.listings = listings.saturating_add(1);
         }
         let key = key_of(asked, context, notes);
@@ -136,7 +136,7 @@ fn key_of(asked: &Asked, context: &[u8], notes: &mut Notes) -> Vec<u8> {
 
 // Whether an option is a LIST_META_CONTEXT for `base:`.
 fn is_wildcard(asked: &Asked) -> bool {
-    asked.id == options::LIST_META_CONTEXT && asked.queries.is_wildcard
+    (asked.id == options::LIST_META_CONTEXT) & asked.queries.is_wildcard
 }
 
 // Tells of a context that a LIST_META_CONTEXT did not tell, and an option did.
