@@ -64,11 +64,11 @@ fn report_of(
     runs: &Runs,
     wanted: &Wanted,
 ) -> Result<Report, AllocError> {
-    let are_hinting = wanted.level == Level::Hint;
-    let linter = Linter::of(alloc, session.messages(), runs, are_hinting);
+    let are_hinting = Level::Hint.is_told(wanted.level);
+    let mut linter = Linter::of(alloc, session.messages(), runs, are_hinting);
     match session.finish() {
-        Ok(_) => accepted(alloc, linter, runs, wanted),
-        Err(SessionFault::Wire { at, fault }) => refused(alloc, linter, at, fault, wanted),
+        Ok(_) => accepted(alloc, &mut linter, runs, wanted),
+        Err(SessionFault::Wire { at, fault }) => refused(alloc, &linter, at, fault, wanted),
         Err(SessionFault::Memory) => Err(AllocError),
     }
 }
@@ -76,7 +76,7 @@ fn report_of(
 // The same of one that was accepted.
 fn accepted(
     alloc: Global,
-    mut linter: Linter,
+    linter: &mut Linter,
     runs: &Runs,
     wanted: &Wanted,
 ) -> Result<Report, AllocError> {
@@ -87,7 +87,7 @@ fn accepted(
 // The same of one that was refused at this place.
 fn refused(
     alloc: Global,
-    linter: Linter,
+    linter: &Linter,
     place: u64,
     fault: WireFault,
     wanted: &Wanted,

@@ -2,11 +2,12 @@
 
 use crate::contexts::{is_base_leaf, name_in};
 use crate::fields::number_in;
-use crate::queries::Common;
-use crate::sizes::Announced;
+use crate::notes::Notes;
+use crate::queries::{Common, NO_QUERIES};
+use crate::sizes::{Announced, NOTHING};
 use crate::texts::Texts;
 use nbd_wire::{Bytes, Info, answers, go_of, info_of, options, queries_of};
-use std::alloc::{AllocError, Global};
+use std::alloc::Global;
 
 /// An option that the client chose, and its answers so far.
 #[derive(Drop)]
@@ -20,16 +21,13 @@ pub struct Asked {
     pub was_structured: bool,
     /// Its data has its form, where it is one that lists something.
     pub is_formed: bool,
-    /// What it and its data are found by, where hints are looked for and it tells the same when it is sent again.
-    pub key: Vec<u8>,
-    /// Of a GO with the data of an INFO just before it, which was granted: the infos that this got, and the place of its ACK;
-    /// 0 of another option.
-    pub earlier: Texts,
+    /// What its answers are compared with, in order: of a GO with the data of an INFO just before it, which was granted, the infos
+    /// that this got; of a SET_META_CONTEXT its queries, where each begins with `base:`.
+    pub compared: Texts,
+    /// The place of the ACK to that INFO; 0 of another option.
     pub earlier_at: u64,
     /// What its queries have in common.
     pub queries: Common,
-    /// Its queries in their order, where they are asked for: of a SET_META_CONTEXT whose queries all begin with `base:`.
-    pub listed: Texts,
     /// How many answers came.
     pub answers: u64,
     /// How many of them are infos.
@@ -39,8 +37,8 @@ pub struct Asked {
     /// The size of the export in the last info that has it, in bytes.
     pub size: Option<u64>,
     pub sizes: Announced,
-    /// The infos as they came, of INFO and of such a GO; the contexts of the namespace `base` with a leaf-name, of
-    /// LIST_META_CONTEXT and SET_META_CONTEXT.
+    /// The infos, of INFO and of such a GO; the contexts of the namespace `base` with a leaf-name, of LIST_META_CONTEXT and
+    /// SET_META_CONTEXT. In their order once the option is granted and they are compared with others.
     pub told: Texts,
     /// The place of the ACK; 0 where none came.
     pub granted: u64,
@@ -49,41 +47,23 @@ pub struct Asked {
 impl Asked {
     /// Before the first option; takes no memory.
     pub fn none(alloc: Global) -> Asked {
-        Asked::of(alloc, 0, Bytes::none(), Texts::none(alloc))
-    }
-
-    /// An option with these data, and these queries in their order where they are asked for.
-    pub fn of(alloc: Global, id: u32, payload: Bytes, listed: Texts) -> Asked {
-        let is_formed = is_formed(id, payload.as_slice());
         Asked {
-            id,
-            payload,
+            id: 0,
+            is_formed: true,
+            payload: Bytes::none(),
             place: 0,
             was_structured: false,
-            is_formed,
-            key: Vec::new(alloc),
-            earlier: Texts::none(alloc),
+            compared: Texts::none(alloc),
             earlier_at: 0,
-            queries: Common::none(),
-            listed,
+            queries: NO_QUERIES,
             answers: 0,
             infos: 0,
             kinds: 0,
             size: None,
-            sizes: Announced::none(),
+            sizes: NOTHING,
             told: Texts::none(alloc),
             granted: 0,
         }
-    }
-
-    /// Whether it is INFO or GO.
-    pub fn asks_export(&self) -> bool {
-        matches!(self.id, options::INFO | options::GO)
-    }
-
-    /// Its number, as sentences have it.
-    pub fn number(&self) -> u64 {
-        u64::from(self.id)
     }
 
     /// Its data.
@@ -91,30 +71,51 @@ impl Asked {
         self.payload.as_slice()
     }
 
-    /// Takes from the option before it what its answers are compared with.
-    pub fn compare(&mut self, before: &mut Asked) {
-        if self.id == options::GO && before.id == options::INFO && before.data() == self.data() {
-            self.earlier_at = before.granted;
-            std::mem::swap(&mut self.earlier, &mut before.told);
+    /// Becomes the next option, with these data; keeps of the one before it what its answers are compared with.
+    pub fn renew(&mut self, id: u32, payload: &Bytes, notes: &mut Notes) {
+        let is_same = id == options::GO && self.id == options::INFO && self.payload == *payload;
+        self.earlier_at = 0;
+        self.compared = Texts::none(notes.alloc);
+        if is_same {
+            self.earlier_at = self.granted;
+            std::mem::swap(&mut self.compared, &mut self.told);
+            self.compared.order(notes);
+        }
+        self.told = Texts::none(notes.alloc);
+        self.id = id;
+        self.is_formed = is_formed(id, payload.as_slice());
+        self.place = notes.place;
+        self.queries = NO_QUERIES;
+        self.answers = 0;
+        self.infos = 0;
+        self.kinds = 0;
+        self.size = None;
+        self.sizes = NOTHING;
+        self.granted = 0;
+        match payload.share() {
+            Ok(shared) => self.payload = shared,
+            Err(_) => notes.is_refused = true,
         }
     }
 
-    /// Takes an answer, whose last byte is at this place.
-    pub fn take(&mut self, kind: u32, answer: &[u8], place: u64) -> Result<(), AllocError> {
+    /// Takes an answer to it.
+    pub fn take(&mut self, kind: u32, answer: &[u8], notes: &mut Notes) {
         self.answers = self.answers.saturating_add(1);
         match kind {
-            answers::INFO => self.take_info(answer),
-            answers::META_CONTEXT => self.take_context(name_in(answer)),
-            answers::ACK => {
-                self.granted = place;
-                Ok(())
+            answers::INFO => self.take_info(answer, notes),
+            answers::META_CONTEXT => {
+                let name = name_in(answer);
+                if is_base_leaf(name) {
+                    self.told.add(name, notes);
+                }
             }
-            _ => Ok(()),
+            answers::ACK => self.granted = notes.place,
+            _ => {}
         }
     }
 
     // Takes an info.
-    fn take_info(&mut self, answer: &[u8]) -> Result<(), AllocError> {
+    fn take_info(&mut self, answer: &[u8], notes: &mut Notes) {
         self.infos = self.infos.saturating_add(1);
         self.kinds |= bit_of(answer);
         self.sizes = self.sizes.with(answer);
@@ -122,25 +123,19 @@ impl Asked {
             self.size = Some(size);
         }
         if self.id == options::INFO || self.earlier_at != 0 {
-            self.told.add(answer)
-        } else {
-            Ok(())
-        }
-    }
-
-    // Takes a context.
-    fn take_context(&mut self, name: &[u8]) -> Result<(), AllocError> {
-        if is_base_leaf(name) {
-            self.told.add(name)
-        } else {
-            Ok(())
+            self.told.add(answer, notes);
         }
     }
 }
 
 /// Whether an option is LIST_META_CONTEXT or SET_META_CONTEXT.
 pub fn asks_contexts(id: u32) -> bool {
-    matches!(id, options::LIST_META_CONTEXT | options::SET_META_CONTEXT)
+    id == options::LIST_META_CONTEXT || id == options::SET_META_CONTEXT
+}
+
+/// Whether an option is INFO or GO.
+pub fn asks_export(id: u32) -> bool {
+    id == options::INFO || id == options::GO
 }
 
 /// The bit of an info's type, of those that proto.md has; 0 of another.
@@ -153,8 +148,9 @@ pub fn bit_of(answer: &[u8]) -> u64 {
 
 // Whether the data of an option has its form, where it is one that lists something.
 fn is_formed(id: u32, payload: &[u8]) -> bool {
-    match id {
-        options::INFO | options::GO => go_of(payload).is_some(),
-        _ => !asks_contexts(id) || queries_of(payload).is_some(),
+    if asks_contexts(id) {
+        queries_of(payload).is_some()
+    } else {
+        !asks_export(id) || go_of(payload).is_some()
     }
 }

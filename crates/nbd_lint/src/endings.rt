@@ -5,7 +5,7 @@ use crate::table::Name;
 use nbd_wire::Side;
 
 /// Where a session stands.
-#[derive(Clone, Copy, PartialEq, Eq, Drop)]
+#[derive(Clone, Copy, Drop)]
 pub enum Stage {
     /// No option may come yet, or ABORT was acknowledged.
     Apart,
@@ -25,18 +25,15 @@ pub fn judge_end(stage: Stage, outstanding: u64, place: u64, notes: &mut Notes) 
     notes.end(Side::Client, place);
     match stage {
         Stage::Apart => {}
-        Stage::Transmitting => notes.tell(Name::EndedWithoutDisconnect, 0, &[outstanding]),
-        Stage::Negotiating => notes.tell(Name::EndedWithoutDisconnect, 1, &[]),
-        Stage::Aborting | Stage::Disconnected => judge_server(stage, outstanding, place, notes),
-    }
-}
-
-// Judges what the server left undone.
-fn judge_server(stage: Stage, outstanding: u64, place: u64, notes: &mut Notes) {
-    notes.end(Side::Server, place);
-    if stage == Stage::Aborting {
-        notes.tell(Name::AbortUnanswered, 0, &[]);
-    } else {
-        notes.note(Name::DiscUnanswered, outstanding != 0, &[outstanding]);
+        Stage::Transmitting => notes.note_one(Name::EndedWithoutDisconnect, true, outstanding),
+        Stage::Negotiating => notes.tell(Name::EndedWithoutDisconnect, 1, [0; 3]),
+        Stage::Aborting => {
+            notes.end(Side::Server, place);
+            notes.note(Name::AbortUnanswered, true);
+        }
+        Stage::Disconnected => {
+            notes.end(Side::Server, place);
+            notes.note_one(Name::DiscUnanswered, outstanding != 0, outstanding);
+        }
     }
 }

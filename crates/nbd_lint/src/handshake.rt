@@ -9,5 +9,5 @@ use nbd_wire::handshake::{FIXED_NEWSTYLE, NO_ZEROES};
 pub fn judge_greeting(flags: u16, notes: &mut Notes) {
     let flags = u32::from(flags);
     let is_known = has_only(flags, u32::from(FIXED_NEWSTYLE | NO_ZEROES));
-    notes.note(Name::HandshakeFlags, !is_known, &[u64::from(flags)]);
+    notes.note_one(Name::HandshakeFlags, !is_known, u64::from(flags));
 }

@@ -3,7 +3,7 @@
 use crate::breach::Breach;
 use crate::queries::first_query;
 use nbd_wire::names::{COMMANDS, ERRORS, INFOS, Name, OPTIONS, REPLIES, name_in};
-use nbd_wire::{listed_of, queries_of};
+use nbd_wire::{bytes_in, listed_of, queries_of};
 use std::alloc::{AllocError, Global};
 use std::fmt::Write;
 
@@ -13,11 +13,60 @@ const NAMED: usize = 40;
 /// How many queries are listed.
 const LISTED: u32 = 4;
 
+/// What stands in place of braces: a number of the breach, one in hexadecimal, or the name of one; or what the breach speaks of
+/// beside its numbers.
+#[derive(Clone, Copy)]
+enum Brace {
+    Number,
+    Flags,
+    Option,
+    Reply,
+    Info,
+    Error,
+    Request,
+    String,
+    First,
+    Second,
+    Queries,
+}
+
+/// The words between braces.
+const BRACES: &[(&str, Brace)] = &[
+    ("", Brace::Number),
+    ("flags", Brace::Flags),
+    ("option", Brace::Option),
+    ("reply", Brace::Reply),
+    ("info", Brace::Info),
+    ("error", Brace::Error),
+    ("request", Brace::Request),
+    ("string", Brace::String),
+    ("name", Brace::First),
+    ("other", Brace::Second),
+    ("queries", Brace::Queries),
+];
+
+impl Brace {
+    // The one with these words.
+    fn of(words: &str) -> Brace {
+        for (known, brace) in BRACES {
+            if *known == words {
+                return *brace;
+            }
+        }
+        Brace::Number
+    }
+
+    // Whether it is a number of the breach.
+    fn is_number(self) -> bool {
+        self as u8 <= Brace::Error as u8
+    }
+}
+
 /// A text that grows by what is said. Once memory was refused it is not handed out.
 #[derive(Drop)]
 pub struct Line {
-    text: String,
-    is_refused: bool,
+    pub text: String,
+    pub is_refused: bool,
 }
 
 impl Line {
@@ -43,48 +92,26 @@ impl Line {
         self.is_refused |= self.text.push_str(words).is_err();
     }
 
-    /// Adds words one after the other.
-    pub fn say_each(&mut self, words: &[&str]) {
-        for one in words {
-            self.say(one);
-        }
-    }
-
-    /// Adds a number.
-    pub fn number(&mut self, number: u64) {
-        self.is_refused |= write!(self.text, "{number}").is_err();
-    }
-
     /// Adds words and a number.
     pub fn with(&mut self, words: &str, number: u64) {
-        self.say(words);
-        self.number(number);
+        self.is_refused |= write!(self.text, "{words}{number}").is_err();
     }
 
-    /// Notes that memory was refused for what it would say, where that is so.
-    pub fn refused_if(&mut self, is_refused: bool) {
-        self.is_refused |= is_refused;
-    }
-
-    // Adds a number in hexadecimal, with four digits or more.
-    fn hexadecimal(&mut self, number: u64) {
-        self.is_refused |= write!(self.text, "0x{number:04x}").is_err();
-    }
-
-    // Adds a byte as it stands between quotation marks.
-    fn byte(&mut self, byte: u8) {
-        self.is_refused |= if byte.is_ascii_graphic() && byte != b'"' && byte != b'\\' {
-            self.text.push(char::from(byte)).is_err()
-        } else {
-            write!(self.text, "\\x{byte:02x}").is_err()
-        };
+    // Adds words and a number in hexadecimal, with so many digits or more.
+    fn hexadecimal(&mut self, words: &str, digits: usize, number: u64) {
+        self.is_refused |= write!(self.text, "{words}{number:0digits$x}").is_err();
     }
 
     // Adds a name between quotation marks; of a longer one the first bytes.
     fn quoted(&mut self, name: &[u8]) {
         self.say("\"");
-        for byte in name.get(..NAMED).unwrap_or(name) {
-            self.byte(*byte);
+        for byte in bytes_in(name, 0, NAMED.min(name.len())) {
+            match *byte {
+                plain @ (b'!' | b'#'..=b'[' | b']'..=b'~') => {
+                    self.is_refused |= self.text.push(char::from(plain)).is_err();
+                }
+                other => self.hexadecimal("\\x", 2, u64::from(other)),
+            }
         }
         self.say("\"");
     }
@@ -124,8 +151,7 @@ impl Line {
         } else if name_in(REPLIES, (kind & 0xffff_ffff) as u32).is_some() {
             self.name(REPLIES, "NBD_REP_", "", kind);
         } else {
-            self.say("error ");
-            self.hexadecimal(kind);
+            self.hexadecimal("error 0x", 4, kind);
         }
     }
 
@@ -157,30 +183,22 @@ impl Line {
         }
     }
 
-    // Adds what stands for braces with these words and no number.
-    fn put(&mut self, form: &str, breach: &Breach<'_, '_>) {
+    // Adds what a breach says in the place of braces, whose number this is where they ask for one.
+    fn put(&mut self, brace: Brace, number: u64, breach: &Breach<'_, '_>) {
         let [first, second] = breach.names;
-        match form {
-            "request" => self.request(breach),
-            "string" => self.string(breach),
-            "name" => self.quoted(first),
-            "other" => self.quoted(second),
-            _ => self.queries(second),
+        match brace {
+            Brace::Number => self.with("", number),
+            Brace::Flags => self.hexadecimal("0x", 4, number),
+            Brace::Option => self.name(OPTIONS, "NBD_OPT_", "option ", number),
+            Brace::Reply => self.reply(number),
+            Brace::Info => self.name(INFOS, "NBD_INFO_", "type ", number),
+            Brace::Error => self.error(number),
+            Brace::Request => self.request(breach),
+            Brace::String => self.string(breach),
+            Brace::First => self.quoted(first),
+            Brace::Second => self.quoted(second),
+            Brace::Queries => self.queries(second),
         }
-    }
-
-    // Adds a number as its braces ask; where they ask for none, returns false.
-    fn put_number(&mut self, form: &str, number: u64) -> bool {
-        match form {
-            "" => self.number(number),
-            "flags" => self.hexadecimal(number),
-            "option" => self.name(OPTIONS, "NBD_OPT_", "option ", number),
-            "reply" => self.reply(number),
-            "info" => self.name(INFOS, "NBD_INFO_", "type ", number),
-            "error" => self.error(number),
-            _ => return false,
-        }
-        true
     }
 
     /// Adds a sentence, with what a breach says in the places of its braces: `{}` is a number, `{flags}` one in hexadecimal,
@@ -188,25 +206,19 @@ impl Line {
     /// `{queries}` what the breach speaks of beside its numbers.
     pub fn sentence(&mut self, words: &str, breach: &Breach<'_, '_>) {
         let mut rest = words;
-        let mut next = 0;
+        let mut next = 0usize;
         for _ in 0..words.len() {
             let Some((before, behind)) = rest.split_once("{") else {
                 break;
             };
             let (form, later) = behind.split_once("}").unwrap_or((behind, ""));
+            let brace = Brace::of(form);
             self.say(before);
-            if self.put_number(form, number_at(breach, next)) {
-                next = next.saturating_add(1);
-            } else {
-                self.put(form, breach);
-            }
+            let number = breach.numbers.get(next).copied().unwrap_or(0);
+            self.put(brace, number, breach);
+            next = next.saturating_add(usize::from(brace.is_number()));
             rest = later;
         }
         self.say(rest);
     }
-}
-
-// The number in this place of a sentence; 0 where it has no more.
-fn number_at(breach: &Breach<'_, '_>, place: usize) -> u64 {
-    breach.numbers.get(place).copied().unwrap_or(0)
 }

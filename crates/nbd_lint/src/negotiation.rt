@@ -1,15 +1,24 @@
 //! What was negotiated so far.
 
-use crate::asked::{Asked, asks_contexts};
+use crate::answers::judge_answer;
+use crate::asked::{Asked, asks_contexts, asks_export};
+use crate::notes::Notes;
 use crate::numbers::ERR_SHUTDOWN;
-use crate::queries::{Common, queries_in};
-use crate::texts::Texts;
-use crate::tls::Tls;
+use crate::options::{judge_listed, judge_option};
+use crate::tls::{Tls, UNKNOWN};
 use crate::wildcards::Wildcards;
 use nbd_wire::answers::is_error;
 use nbd_wire::{Bytes, answers, options};
-use std::alloc::{AllocError, Global};
+use std::alloc::Global;
 use std::collections::BTreeMap;
+
+/// The places of the ACKs to options with the same data; 0 where none came.
+#[derive(Clone, Copy, Drop)]
+struct Granted {
+    list: u64,
+    info: u64,
+    list_contexts: u64,
+}
 
 /// What was negotiated so far.
 #[derive(Drop)]
@@ -29,12 +38,12 @@ pub struct Negotiation {
     pub tls: Tls,
     /// The option that was chosen last.
     pub asked: Asked,
-    /// The places of the ACKs to options that tell the same when they are sent again, by these options and their data.
-    granted: BTreeMap<Vec<u8>, u64>,
-    /// The same of the last SET_META_CONTEXT; 0 where none came.
+    /// Where hints are looked for, by their data the options that tell the same when they are sent again, but for
+    granted: BTreeMap<Vec<u8>, Granted>,
+    /// the last SET_META_CONTEXT: its data, and the place of its ACK; 0 where none came.
     selected: Vec<u8>,
     selected_at: u64,
-    pub wildcards: Wildcards,
+    wildcards: Wildcards,
 }
 
 impl Negotiation {
@@ -47,7 +56,7 @@ impl Negotiation {
             shutdown: 0,
             was_refused: false,
             undone_by_tls: (0, 0),
-            tls: Tls::unknown(),
+            tls: UNKNOWN,
             asked: Asked::none(alloc),
             granted: BTreeMap::new(alloc),
             selected: Vec::new(alloc),
@@ -56,76 +65,66 @@ impl Negotiation {
         }
     }
 
-    /// An option with these data and these queries, whose last byte is at this place, as it stands behind what was negotiated.
-    pub fn asking(
-        &self,
-        alloc: Global,
-        id: u32,
-        payload: &Bytes,
-        queries: Common,
-        key: Vec<u8>,
-        place: u64,
-    ) -> Result<Asked, AllocError> {
-        let listed = listed_by(alloc, id, queries, payload.as_slice())?;
-        let mut asked = Asked::of(alloc, id, payload.share()?, listed);
-        asked.place = place;
-        asked.was_structured = self.structured;
-        asked.queries = queries;
-        asked.key = key;
-        Ok(asked)
-    }
-
-    /// Takes an option.
-    pub fn choose(&mut self, alloc: Global, mut asked: Asked) -> Result<(), AllocError> {
-        let id = asked.id;
-        if is_undone_by_tls(id) && self.undone_by_tls.1 == 0 {
-            self.undone_by_tls = (id, asked.place);
-        }
-        self.forget_behind(id);
-        asked.compare(&mut self.asked);
-        let taken = self.take_contexts(alloc, id);
-        self.asked = asked;
-        taken
-    }
-
-    // Takes what the last option was told of contexts, where another option that asks for some comes behind it.
-    fn take_contexts(&mut self, alloc: Global, id: u32) -> Result<(), AllocError> {
+    /// Takes an option, and judges it.
+    pub fn choose(&mut self, id: u32, payload: &Bytes, notes: &mut Notes) {
         if asks_contexts(id) {
-            self.wildcards.take(alloc, &self.asked)
+            self.wildcards.take(&self.asked, notes);
         } else {
-            Ok(())
-        }
-    }
-
-    // Forgets what an option changes.
-    fn forget_behind(&mut self, id: u32) {
-        let changes_answers = changes_answers(id);
-        if !asks_contexts(id) {
             self.wildcards.forget();
         }
-        if changes_answers {
-            self.granted.clear();
-        }
-        if changes_answers || id == options::SET_META_CONTEXT {
-            self.selected_at = 0;
+        self.asked.renew(id, payload, notes);
+        self.asked.was_structured = self.structured;
+        judge_listed(&mut self.asked, notes);
+        judge_option(self, notes);
+        self.forget_behind(id);
+    }
+
+    // Notes what an option changes, and forgets what does not hold behind it.
+    fn forget_behind(&mut self, id: u32) {
+        match id {
+            options::STRUCTURED_REPLY | options::EXTENDED_HEADERS => {
+                self.note_undone(id);
+                self.granted.clear();
+                self.selected_at = 0;
+            }
+            options::STARTTLS => {
+                self.granted.clear();
+                self.selected_at = 0;
+            }
+            options::SET_META_CONTEXT => {
+                self.note_undone(id);
+                self.selected_at = 0;
+            }
+            _ => {}
         }
     }
 
-    /// Takes an answer to the last option, whose last byte is at this place.
-    pub fn answer(&mut self, kind: u32, answer: &[u8], place: u64) -> Result<(), AllocError> {
-        self.tls = self.tls.after(&self.asked, kind, place);
+    // Notes the first option whose outcome TLS undoes.
+    fn note_undone(&mut self, id: u32) {
+        if self.undone_by_tls.1 == 0 {
+            self.undone_by_tls = (id, self.asked.place);
+        }
+    }
+
+    /// Judges an answer to the last option, and takes it.
+    pub fn answer(&mut self, kind: u32, answer: &[u8], notes: &mut Notes) {
+        if kind == answers::ACK && (self.asked.earlier_at != 0 || !self.wildcards.is_empty()) {
+            self.asked.told.order(notes);
+        }
+        judge_answer(self, kind, answer, notes);
+        self.tls.take(&self.asked, kind, notes.place);
         if kind == ERR_SHUTDOWN && self.shutdown == 0 {
-            self.shutdown = place;
+            self.shutdown = notes.place;
         }
-        self.was_refused |= is_error(kind) && self.asked.asks_export();
+        self.was_refused |= is_error(kind) && asks_export(self.asked.id);
+        self.asked.take(kind, answer, notes);
         if kind == answers::ACK {
-            self.grant();
+            self.grant(notes);
         }
-        self.asked.take(kind, answer, place)
     }
 
     // The last option is granted.
-    fn grant(&mut self) {
+    fn grant(&mut self, notes: &mut Notes) {
         match self.asked.id {
             options::STRUCTURED_REPLY => {
                 self.structured = true;
@@ -135,78 +134,63 @@ impl Negotiation {
                 self.structured = true;
                 self.has_extended_headers = true;
             }
+            id if asks_contexts(id) => self.wildcards.judge(&self.asked, notes),
             _ => {}
         }
-    }
-
-    /// Notes that the last option was granted, where it tells the same when it is sent again.
-    pub fn remember(&mut self, alloc: Global) -> Result<(), AllocError> {
-        let asked = &mut self.asked;
-        if asked.key.is_empty() {
-            return Ok(());
-        }
-        let key = std::mem::replace(&mut asked.key, Vec::new(alloc));
-        if asked.id == options::SET_META_CONTEXT {
-            self.selected = key;
-            self.selected_at = asked.granted;
-        } else {
-            self.granted.insert(key, asked.granted)?;
-        }
-        Ok(())
-    }
-
-    /// The place at which an option was granted before, with the same data; 0 where it was not, or nothing tells that its answers
-    /// are the same.
-    pub fn granted_at(&self, asked: &Asked) -> u64 {
-        if asked.id != options::SET_META_CONTEXT {
-            self.granted.get(&asked.key).copied().unwrap_or(0)
-        } else if self.selected == asked.key {
-            self.selected_at
-        } else {
-            0
+        if notes.are_hinting {
+            self.remember(notes);
         }
     }
-}
 
-// The queries of an option in their order, where its answers are judged by them.
-fn listed_by(alloc: Global, id: u32, queries: Common, data: &[u8]) -> Result<Texts, AllocError> {
-    if id == options::SET_META_CONTEXT && queries.are_base() {
-        queries_in(alloc, data)
-    } else {
-        Ok(Texts::none(alloc))
+    // Notes that the last option was granted, where it tells the same when it is sent again.
+    fn remember(&mut self, notes: &mut Notes) {
+        let place = self.asked.granted;
+        let mut granted = self.granted_with_data();
+        match self.asked.id {
+            options::LIST => granted.list = place,
+            options::INFO => granted.info = place,
+            options::LIST_META_CONTEXT => granted.list_contexts = place,
+            options::SET_META_CONTEXT => {
+                self.selected.clear();
+                notes.keep(self.selected.extend_from_slice(self.asked.data()));
+                self.selected_at = place;
+                return;
+            }
+            _ => return,
+        }
+        self.insert(granted, notes);
     }
-}
 
-/// What an option and its data are found by, where that is asked for and it tells the same when it is sent again; else nothing.
-pub fn key_of(alloc: Global, id: u32, data: &[u8], is_asked: bool) -> Result<Vec<u8>, AllocError> {
-    let mut key = Vec::new(alloc);
-    if is_asked && tells_same(id) {
-        key.push((id & 0xff) as u8)?;
-        key.extend_from_slice(data)?;
+    // Notes where options with the data of the last one were granted.
+    fn insert(&mut self, granted: Granted, notes: &mut Notes) {
+        let mut data = Vec::new(notes.alloc);
+        notes.keep(data.extend_from_slice(self.asked.data()));
+        notes.keep(self.granted.insert(data, granted));
     }
-    Ok(key)
-}
 
-// Whether TLS undoes what an option does.
-fn is_undone_by_tls(id: u32) -> bool {
-    matches!(
-        id,
-        options::STRUCTURED_REPLY | options::SET_META_CONTEXT | options::EXTENDED_HEADERS
-    )
-}
+    // Where options with the data of the last one were granted.
+    fn granted_with_data(&self) -> Granted {
+        match self.granted.get(self.asked.data()) {
+            Some(granted) => *granted,
+            None => Granted {
+                list: 0,
+                info: 0,
+                list_contexts: 0,
+            },
+        }
+    }
 
-// Whether behind an option others may be answered otherwise than before it.
-fn changes_answers(id: u32) -> bool {
-    matches!(
-        id,
-        options::STARTTLS | options::STRUCTURED_REPLY | options::EXTENDED_HEADERS
-    )
-}
-
-// Whether an option that was granted tells the same when it is sent again.
-fn tells_same(id: u32) -> bool {
-    matches!(
-        id,
-        options::LIST | options::INFO | options::LIST_META_CONTEXT | options::SET_META_CONTEXT
-    )
+    /// The place at which the last option was granted before, with the same data; 0 where it was not, or nothing tells that its
+    /// answers are the same.
+    pub fn granted_before(&self) -> u64 {
+        match self.asked.id {
+            options::LIST => self.granted_with_data().list,
+            options::INFO => self.granted_with_data().info,
+            options::LIST_META_CONTEXT => self.granted_with_data().list_contexts,
+            options::SET_META_CONTEXT if self.selected.as_slice() == self.asked.data() => {
+                self.selected_at
+            }
+            _ => 0,
+        }
+    }
 }

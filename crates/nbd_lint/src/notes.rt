@@ -4,8 +4,8 @@ use crate::breach::{Breach, Label, UNLABELLED};
 use crate::line::Line;
 use crate::table::{Name, Rule};
 use crate::transmission::Request;
-use nbd_wire::{Side, commands};
-use std::alloc::{AllocError, Global};
+use nbd_wire::Side;
+use std::alloc::Global;
 use std::collections::{BTreeMap, BTreeSet};
 
 /// The first message of a side that broke a rule, and how many more did.
@@ -28,11 +28,13 @@ pub struct Finding {
 /// What was found so far, by rule and side; and the message that is judged.
 #[derive(Drop)]
 pub struct Notes {
-    alloc: Global,
+    /// What takes the memory for what is found, and for what the rules ask of earlier messages.
+    pub alloc: Global,
     pub found: BTreeMap<u64, Finding>,
     /// The places of what was found, each with its key.
     pub places: BTreeSet<(u64, u64)>,
-    place: u64,
+    /// The place of the last byte of the message that is judged.
+    pub place: u64,
     message: u64,
     side: Side,
     /// The request that is spoken of, from 1, and its type; 0 where none is.
@@ -40,7 +42,7 @@ pub struct Notes {
     command: u16,
     /// Hints are looked for.
     pub are_hinting: bool,
-    /// Memory was refused for something of it.
+    /// Memory was refused for something of it, or for what the rules ask of earlier messages.
     pub is_refused: bool,
 }
 
@@ -55,7 +57,7 @@ impl Notes {
             message: 0,
             side: Side::Server,
             request: 0,
-            command: commands::DISC,
+            command: 0,
             are_hinting,
             is_refused: false,
         }
@@ -80,50 +82,61 @@ impl Notes {
         self.command = request.head.command;
     }
 
-    /// The place of the message that is judged.
-    pub fn place(&self) -> u64 {
-        self.place
+    /// Takes what came of something that takes memory: notes where that was refused.
+    pub fn keep<T: Drop, E: Drop>(&mut self, kept: Result<T, E>) {
+        self.is_refused |= kept.is_err();
     }
 
-    /// What takes the memory for what is found.
-    pub fn alloc(&self) -> Global {
-        self.alloc
+    /// Notes that the message breaks a rule, where it does. Of a message that breaks it more than once the first is told.
+    pub fn note(&mut self, name: Name, holds: bool) {
+        self.note_three(name, holds, 0, 0, 0);
     }
 
-    /// Notes that memory was refused, where that is so.
-    pub fn refused_if(&mut self, is_refused: bool) {
-        self.is_refused |= is_refused;
+    /// The same of a rule whose sentence has a number.
+    pub fn note_one(&mut self, name: Name, holds: bool, number: u64) {
+        self.note_three(name, holds, number, 0, 0);
     }
 
-    /// Notes that the message breaks a rule, where it does, with the numbers of the rule's sentence. Of a message that breaks it
-    /// more than once the first is told.
-    pub fn note(&mut self, name: Name, holds: bool, numbers: &[u64]) {
+    /// The same of one with two numbers.
+    pub fn note_two(&mut self, name: Name, holds: bool, first: u64, second: u64) {
+        self.note_three(name, holds, first, second, 0);
+    }
+
+    /// The same of one with three.
+    pub fn note_three(&mut self, name: Name, holds: bool, first: u64, second: u64, third: u64) {
         if holds {
-            self.tell(name, 0, numbers);
+            self.tell(name, 0, [first, second, third]);
         }
     }
 
     /// Notes that the message breaks a rule, with one of its sentences, from 0, and the numbers of that.
-    pub fn tell(&mut self, name: Name, sentence: usize, numbers: &[u64]) {
-        self.add(name, sentence, UNLABELLED, [&[], &[]], numbers);
+    pub fn tell(&mut self, name: Name, sentence: usize, numbers: [u64; 3]) {
+        self.add(name, sentence, UNLABELLED, [&[], &[]], &numbers);
     }
 
-    /// The same as `note`, of a sentence that names something beside its numbers.
-    pub fn note_named(&mut self, name: Name, holds: bool, names: [&[u8]; 2], numbers: &[u64]) {
+    /// The same as `note_one`, of a sentence that names something beside its number.
+    pub fn note_named(
+        &mut self,
+        name: Name,
+        holds: bool,
+        first: &[u8],
+        second: &[u8],
+        number: u64,
+    ) {
         if holds {
-            self.add(name, 0, UNLABELLED, names, numbers);
+            self.add(name, 0, UNLABELLED, [first, second], &[number]);
         }
     }
 
-    /// The same of a sentence that speaks of a string.
+    /// The same as `note_one`, of a sentence that speaks of a string.
     pub fn note_string(&mut self, name: Name, holds: bool, string: Label, number: usize) {
         if holds {
             self.add(name, 0, string, [&[], &[]], &[number as u64]);
         }
     }
 
-    // Notes how the message breaks a rule.
-    fn add(
+    /// Notes how the message breaks a rule.
+    pub fn add(
         &mut self,
         name: Name,
         sentence: usize,
@@ -150,22 +163,23 @@ impl Notes {
 
     // Notes the first breach of a rule by a side.
     fn insert(&mut self, key: u64, breach: &Breach<'_, '_>) {
-        match sentence_of(self.alloc, row_of(key), breach) {
-            Ok(text) => {
-                let finding = Finding {
-                    place: self.place,
-                    message: self.message,
-                    request: breach.request,
-                    side: self.side,
-                    text,
-                    more: 0,
-                    last: self.place,
-                };
-                self.is_refused |= self.found.insert(key, finding).is_err();
-            }
-            Err(_) => self.is_refused = true,
-        }
-        self.is_refused |= self.places.insert((self.place, key)).is_err();
+        let sentence = Rule::in_row(row_of(key)).sentence(breach.sentence);
+        let mut line = Line::new(self.alloc);
+        line.sentence(sentence, breach);
+        self.is_refused |= line.is_refused;
+        let finding = Finding {
+            place: self.place,
+            message: self.message,
+            request: breach.request,
+            side: self.side,
+            text: line.text,
+            more: 0,
+            last: self.place,
+        };
+        let found = self.found.insert(key, finding);
+        self.keep(found);
+        let placed = self.places.insert((self.place, key));
+        self.keep(placed);
     }
 }
 
@@ -189,11 +203,4 @@ fn key_of(row: usize, side: Side) -> u64 {
 /// The row of the rule that is found by this key.
 pub fn row_of(key: u64) -> usize {
     (key / 2) as usize
-}
-
-// The sentence of a breach of the rule in this row.
-fn sentence_of(alloc: Global, row: usize, breach: &Breach<'_, '_>) -> Result<String, AllocError> {
-    let mut line = Line::new(alloc);
-    line.sentence(Rule::in_row(row).sentence(breach.sentence), breach);
-    line.finish()
 }

@@ -29,8 +29,8 @@ impl Object {
 
     /// Begins a member, whose value is put behind that.
     pub fn begin_member(&mut self, key: &str) {
-        let named = self.writer.key(key);
-        self.note(named);
+        let written = self.writer.key(key);
+        self.note(written);
     }
 
     /// Adds a member that is a text.
@@ -78,27 +78,27 @@ impl Object {
     /// Begins a member that is an object.
     pub fn begin(&mut self, key: &str) {
         self.begin_member(key);
-        let begun = self.writer.begin_object();
-        self.note(begun);
+        let written = self.writer.begin_object();
+        self.note(written);
     }
 
     /// Ends the object that was begun last.
     pub fn end(&mut self) {
-        let ended = self.writer.end_object();
-        self.note(ended);
+        let written = self.writer.end_object();
+        self.note(written);
     }
 
     /// Begins a member that is a list.
     pub fn begin_list(&mut self, key: &str) {
         self.begin_member(key);
-        let begun = self.writer.begin_array();
-        self.note(begun);
+        let written = self.writer.begin_array();
+        self.note(written);
     }
 
     /// Ends that list.
     pub fn end_list(&mut self) {
-        let ended = self.writer.end_array();
-        self.note(ended);
+        let written = self.writer.end_array();
+        self.note(written);
     }
 
     /// The object on a line of its own, with its line feed.
@@ -119,9 +119,9 @@ fn put(object: Object, line: &mut Line) {
     match object.line() {
         Ok(bytes) => match str::from_utf8(bytes.as_slice()) {
             Ok(text) => line.say(text),
-            Err(_) => line.refused_if(true),
+            Err(_) => line.is_refused = true,
         },
-        Err(_) => line.refused_if(true),
+        Err(_) => line.is_refused = true,
     }
 }
 
@@ -133,17 +133,12 @@ pub fn json_finding(alloc: Global, rule: Rule, finding: &Finding, line: &mut Lin
     object.number("message", finding.message);
     object.number_if("request", finding.request);
     object.text("side", word_of(finding.side));
-    add_rule(rule, finding, &mut object);
-    put(object, line);
-}
-
-// Adds what is said of a finding, and how often it was made.
-fn add_rule(rule: Rule, finding: &Finding, object: &mut Object) {
     object.text("rule", rule.column(NAME));
     object.text("text", finding.text.as_str());
     object.text("section", rule.column(SECTION));
     object.text("lines", rule.column(LINES));
     object.number("more", finding.more);
+    put(object, line);
 }
 
 /// Adds the object of a refusal.
@@ -155,15 +150,16 @@ pub fn json_refusal(alloc: Global, refusal: Refusal<'_>, line: &mut Line) {
 }
 
 /// Adds how many lines of each level there are.
-pub fn json_last(alloc: Global, counts: Counts, level: Level, line: &mut Line) {
+pub fn json_last(alloc: Global, counts: Counts, least: Level, line: &mut Line) {
+    let [musts, shoulds, hints] = counts;
     let mut object = Object::new(alloc);
     object.begin("lint");
-    object.number("must", counts.musts);
-    if level != Level::Must {
-        object.number("should", counts.shoulds);
+    object.number("must", musts);
+    if Level::Should.is_told(least) {
+        object.number("should", shoulds);
     }
-    if level == Level::Hint {
-        object.number("hint", counts.hints);
+    if Level::Hint.is_told(least) {
+        object.number("hint", hints);
     }
     object.end();
     put(object, line);

@@ -1,62 +1,45 @@
 //! The rules on options (proto.md, "Option types").
 
-use crate::asked::{Asked, asks_contexts};
+use crate::asked::{Asked, asks_contexts, asks_export};
 use crate::negotiation::Negotiation;
 use crate::notes::Notes;
-use crate::queries::{Common, asked_twice, judge_queries};
+use crate::queries::{judge_infos_asked, judge_queries};
 use crate::strings::judge_name;
 use crate::table::Name;
 use nbd_wire::{name_in, options};
 
-/// Judges the strings of an option, which are the export's name and the queries, and returns what the queries have in common.
-pub fn judge_listed(id: u32, payload: &[u8], notes: &mut Notes) -> Common {
-    match id {
-        options::EXPORT_NAME => judge_name(payload, notes),
-        options::INFO | options::GO if nbd_wire::go_of(payload).is_some() => {
-            judge_name(name_in(payload), notes);
-        }
-        id if asks_contexts(id) && nbd_wire::queries_of(payload).is_some() => {
-            judge_name(name_in(payload), notes);
-            return judge_queries(payload, notes);
-        }
-        _ => {}
-    }
-    Common::none()
-}
-
-/// Judges an option, behind what was negotiated before it. Where the same was granted before, and nothing since then changes its
-/// answers, it is a round trip that tells nothing new.
-pub fn judge_option(asked: &Asked, before: &Negotiation, notes: &mut Notes) {
-    let (option, data) = (asked.number(), asked.data().len() as u64);
-    judge_state(asked, before, notes);
-    notes.note(
-        Name::OptionWithData,
-        takes_no_data(asked.id) && data != 0,
-        &[option, data],
-    );
-    notes.note(Name::OptionDataMalformed, !asked.is_formed, &[data, option]);
+/// Judges what an option lists: the export's name, the infos that are asked for, and the queries; takes what these have in common.
+pub fn judge_listed(asked: &mut Asked, notes: &mut Notes) {
     match asked.id {
-        options::ABORT => notes.note(Name::AbortWithData, data != 0, &[data]),
-        options::INFO | options::GO if asked.is_formed => judge_infos_asked(asked, notes),
+        options::EXPORT_NAME => judge_name(asked.data(), notes),
+        id if asks_export(id) & asked.is_formed => {
+            judge_name(name_in(asked.data()), notes);
+            judge_infos_asked(asked, notes);
+        }
+        id if asks_contexts(id) & asked.is_formed => {
+            judge_name(name_in(asked.data()), notes);
+            judge_queries(asked, notes);
+        }
         _ => {}
     }
-    if asked.id != options::ABORT {
-        notes.note(
-            Name::OptionAfterShutdown,
-            before.shutdown != 0,
-            &[option, before.shutdown],
-        );
-    }
-    let granted = before.granted_at(asked);
-    notes.note(Name::OptionRepeated, granted != 0, &[option, granted]);
 }
 
-// Judges which infos are asked for: one is twice.
-fn judge_infos_asked(asked: &Asked, notes: &mut Notes) {
-    match asked_twice(notes.alloc(), asked.data()) {
-        Ok(Some(kind)) => notes.tell(Name::InfoAskedTwice, 0, &[asked.number(), kind]),
-        Ok(None) => {}
-        Err(_) => notes.refused_if(true),
+/// Judges the option that was chosen last, behind what was negotiated before it. Where the same was granted before, and nothing
+/// since then changes its answers, it is a round trip that tells nothing new.
+pub fn judge_option(before: &Negotiation, notes: &mut Notes) {
+    let asked = &before.asked;
+    let (option, data) = (u64::from(asked.id), asked.data().len() as u64);
+    let granted = before.granted_before();
+    let has_needless = takes_no_data(asked.id) & (data != 0);
+    judge_state(asked, before, notes);
+    notes.note_two(Name::OptionWithData, has_needless, option, data);
+    notes.note_two(Name::OptionDataMalformed, !asked.is_formed, data, option);
+    notes.note_two(Name::OptionRepeated, granted != 0, option, granted);
+    if asked.id == options::ABORT {
+        notes.note_one(Name::AbortWithData, data != 0, data);
+    } else {
+        let shutdown = before.shutdown;
+        notes.note_two(Name::OptionAfterShutdown, shutdown != 0, option, shutdown);
     }
 }
 
@@ -73,7 +56,6 @@ fn takes_no_data(id: u32) -> bool {
 // or INFO was not refused.
 fn judge_state(asked: &Asked, before: &Negotiation, notes: &mut Notes) {
     let is_early = !asked.was_structured;
-    let (undone, undone_at) = before.undone_by_tls;
     let (name, holds) = match asked.id {
         options::SET_META_CONTEXT => (Name::SetContextWithoutStructuredReplies, is_early),
         options::LIST_META_CONTEXT => (Name::ListContextWithoutStructuredReplies, is_early),
@@ -81,14 +63,11 @@ fn judge_state(asked: &Asked, before: &Negotiation, notes: &mut Notes) {
         options::EXTENDED_HEADERS => (Name::StateOptionRepeated, before.has_extended_headers),
         options::EXPORT_NAME => (Name::ExportNameWithoutGo, !before.was_refused),
         options::STARTTLS => {
-            notes.note(
-                Name::StarttlsLate,
-                undone_at != 0,
-                &[u64::from(undone), undone_at],
-            );
+            let (undone, place) = before.undone_by_tls;
+            notes.note_two(Name::StarttlsLate, place != 0, u64::from(undone), place);
             return;
         }
         _ => return,
     };
-    notes.note(name, holds, &[asked.number()]);
+    notes.note_one(name, holds, u64::from(asked.id));
 }

@@ -30,7 +30,11 @@ impl Runs {
     pub fn add(&mut self, side: Side, count: u64) -> Result<(), AllocError> {
         match self.runs.last_mut() {
             Some(run) if run.side == side => run.count = run.count.saturating_add(count),
-            _ => self.runs.push(Run { side, count })?,
+            _ => {
+                if self.runs.push(Run { side, count }).is_err() {
+                    return Err(AllocError);
+                }
+            }
         }
         self.count = self.count.saturating_add(count);
         Ok(())
@@ -56,16 +60,6 @@ struct Walk {
 }
 
 impl Walk {
-    fn of(side: Side) -> Walk {
-        Walk {
-            side,
-            taken: 0,
-            next: 0,
-            own: 0,
-            all: 0,
-        }
-    }
-
     // Goes over so many bytes more of the side, and returns the place of the last of them.
     fn place_behind(&mut self, runs: &Runs, length: u64) -> u64 {
         self.taken = self.taken.saturating_add(length);
@@ -91,21 +85,31 @@ impl Walk {
 
 /// A walk over the messages of a capture, in the order of their completion, which finds the place of each last byte. Each run
 /// is looked at once a side.
-#[derive(Drop)]
+#[derive(Clone, Copy, Drop)]
 pub struct Places {
     client: Walk,
     server: Walk,
 }
 
-impl Places {
-    /// Before the first message.
-    pub fn first() -> Places {
-        Places {
-            client: Walk::of(Side::Client),
-            server: Walk::of(Side::Server),
-        }
-    }
+/// Before the first message of a side.
+const CLIENT: Walk = Walk {
+    side: Side::Client,
+    taken: 0,
+    next: 0,
+    own: 0,
+    all: 0,
+};
 
+/// Before the first message.
+pub const START: Places = Places {
+    client: CLIENT,
+    server: Walk {
+        side: Side::Server,
+        ..CLIENT
+    },
+};
+
+impl Places {
     /// The place of the last byte of the next message, from 1.
     pub fn place_of(&mut self, runs: &Runs, message: &Message) -> u64 {
         let length = length_of(message);

@@ -1,18 +1,15 @@
 //! What the data of options list: queries, and the infos that are asked for (proto.md, "Option types").
 
+use crate::asked::Asked;
 use crate::fields::{bytes_behind, number_in};
 use crate::notes::Notes;
 use crate::strings::judge_string;
 use crate::table::Name;
-use crate::texts::Texts;
-use nbd_wire::{listed_of, queries_of};
-use std::alloc::{AllocError, Global};
+use nbd_wire::{listed_of, options};
+use std::collections::BTreeSet;
 
 /// What contexts of the namespace `base` begin with; as a query it asks for all of them.
 pub const BASE: &[u8] = b"base:";
-
-/// How many types of info there are, a bit each in words of 64.
-const KIND_WORDS: usize = 1024;
 
 /// The queries in the data of LIST_META_CONTEXT or SET_META_CONTEXT: each behind its length of four bytes, as `listed_of`
 /// reads it.
@@ -23,58 +20,39 @@ pub fn first_query(payload: &[u8]) -> &[u8] {
     }
 }
 
-/// The first type of info that data of INFO or GO ask for a second time: each has two bytes.
-pub fn asked_twice(alloc: Global, payload: &[u8]) -> Result<Option<u64>, AllocError> {
-    let Some((_, infos)) = listed_of(payload) else {
-        return Ok(None);
-    };
-    let mut rest = bytes_behind(infos, 2);
-    if rest.len() < 4 {
-        return Ok(None);
-    }
-    let mut seen = vec![in alloc; 0; KIND_WORDS]?;
+/// Judges which infos INFO or GO asks for, of two bytes each: one is twice.
+pub fn judge_infos_asked(asked: &Asked, notes: &mut Notes) {
+    let name = nbd_wire::name_in(asked.data()).len();
+    let mut rest = bytes_behind(asked.data(), name.saturating_add(6));
+    let mut seen = BTreeSet::new(notes.alloc);
     for _ in 0..rest.len() / 2 {
         let kind = number_in(rest, 0, 2);
-        if is_set(seen.as_mut_slice(), kind) {
-            return Ok(Some(kind));
+        match seen.insert(kind) {
+            Ok(is_new) => notes.note_two(Name::InfoAskedTwice, !is_new, u64::from(asked.id), kind),
+            Err(_) => notes.is_refused = true,
         }
         rest = bytes_behind(rest, 2);
     }
-    Ok(None)
 }
 
-// Sets a bit, and returns whether it was set before.
-fn is_set(words: &mut [u64], bit: u64) -> bool {
-    let Some(word) = words.get_mut((bit / 64) as usize) else {
-        return false;
-    };
-    let mask = 1 << (bit % 64);
-    let was_set = *word & mask != 0;
-    *word |= mask;
-    was_set
-}
-
-/// Where a byte stands first.
-pub fn place_in(bytes: &[u8], wanted: u8) -> Option<usize> {
+/// The place at which a byte stands first, from 1; 0 where it does not.
+pub fn place_in(bytes: &[u8], wanted: u8) -> usize {
     for (place, byte) in bytes.iter().enumerate() {
         if *byte == wanted {
-            return Some(place);
+            return place.saturating_add(1);
         }
     }
-    None
+    0
 }
 
 /// Whether a query or a context's name begins with a namespace and a colon.
 pub fn has_namespace(name: &[u8]) -> bool {
-    place_in(name, b':').unwrap_or(0) != 0
+    place_in(name, b':') > 1
 }
 
 // Whether a query ends with its first colon, so that it names no leaf.
 fn is_without_leaf(query: &[u8]) -> bool {
-    match place_in(query, b':') {
-        Some(place) => place.saturating_add(1) == query.len(),
-        None => false,
-    }
+    (place_in(query, b':') == query.len()) & !query.is_empty()
 }
 
 /// What the queries of LIST_META_CONTEXT or SET_META_CONTEXT have in common.
@@ -92,42 +70,36 @@ pub struct Common {
     other: usize,
 }
 
-impl Common {
-    /// Of no queries.
-    pub fn none() -> Common {
-        Common {
-            is_empty: true,
-            is_wildcard: false,
-            begin_with_base: true,
-            are_without_leaf: true,
-            other: 0,
-        }
-    }
+/// Of no queries.
+pub const NO_QUERIES: Common = Common {
+    is_empty: true,
+    is_wildcard: false,
+    begin_with_base: true,
+    are_without_leaf: true,
+    other: 0,
+};
 
-    // With one more query, which stands at this place of the data.
-    fn with(self, query: &[u8], place: usize) -> Common {
+impl Common {
+    // Takes one more query, which stands at this place of the data.
+    fn take(&mut self, query: &[u8], place: usize) {
         let is_base = query == BASE;
-        Common {
-            is_empty: false,
-            is_wildcard: self.is_wildcard || is_base,
-            begin_with_base: self.begin_with_base && query.starts_with(BASE),
-            are_without_leaf: self.are_without_leaf && is_without_leaf(query),
-            other: if is_base || self.other != 0 {
-                self.other
-            } else {
-                place
-            },
+        self.is_empty = false;
+        self.is_wildcard |= is_base;
+        self.begin_with_base &= query.starts_with(BASE);
+        self.are_without_leaf &= is_without_leaf(query);
+        if !is_base & (self.other == 0) {
+            self.other = place;
         }
     }
 
     /// Whether there are some, and each begins with `base:`.
     pub fn are_base(self) -> bool {
-        self.begin_with_base && !self.is_empty
+        self.begin_with_base & !self.is_empty
     }
 
     /// Whether each ends with its first colon, and one is not `base:`.
     pub fn name_no_leaf(self) -> bool {
-        self.are_without_leaf && self.other != 0
+        self.are_without_leaf & (self.other != 0)
     }
 
     /// The first that is not `base:`, of these data.
@@ -136,46 +108,32 @@ impl Common {
     }
 }
 
-/// Judges the queries in the data of LIST_META_CONTEXT or SET_META_CONTEXT, and returns what they have in common; of data
-/// that have not their form the same as of no queries.
-pub fn judge_queries(payload: &[u8], notes: &mut Notes) -> Common {
-    let mut common = Common::none();
-    let Some((_, count)) = queries_of(payload) else {
-        return common;
-    };
+/// Judges the queries in the data of LIST_META_CONTEXT or SET_META_CONTEXT, and takes what they have in common; those of
+/// SET_META_CONTEXT in their order, where its answers are judged by them.
+pub fn judge_queries(asked: &mut Asked, notes: &mut Notes) {
+    let payload = asked.payload.as_slice();
+    let is_setting = asked.id == options::SET_META_CONTEXT;
     let mut rest = first_query(payload);
-    for before in 0..count {
+    for before in 0..payload.len() {
         let Some((query, behind)) = listed_of(rest) else {
             break;
         };
-        judge_query(u64::from(before).saturating_add(1), query, notes);
-        common = common.with(query, payload.len().saturating_sub(rest.len()));
+        judge_query((before as u64).saturating_add(1), query, notes);
+        let place = payload.len().saturating_sub(rest.len());
+        asked.queries.take(query, place);
+        if is_setting & query.starts_with(BASE) {
+            asked.compared.add(query, notes);
+        }
         rest = behind;
     }
-    common
+    if is_setting & asked.queries.are_base() {
+        asked.compared.order(notes);
+    }
 }
 
 // Judges a query: it does not begin with a namespace and a colon.
 fn judge_query(number: u64, query: &[u8], notes: &mut Notes) {
+    let is_bare = !has_namespace(query);
     judge_string("query", number, query, notes);
-    notes.note_named(
-        Name::QueryNamespace,
-        !has_namespace(query),
-        [query, &[]],
-        &[number],
-    );
-}
-
-/// The queries in the data of SET_META_CONTEXT, in their order.
-pub fn queries_in(alloc: Global, payload: &[u8]) -> Result<Texts, AllocError> {
-    let mut queries = Texts::none(alloc);
-    let mut rest = first_query(payload);
-    for _ in 0..payload.len() {
-        let Some((query, behind)) = listed_of(rest) else {
-            break;
-        };
-        queries.add(query)?;
-        rest = behind;
-    }
-    queries.sorted(alloc)
+    notes.note_named(Name::QueryNamespace, is_bare, query, &[], number);
 }

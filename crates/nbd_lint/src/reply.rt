@@ -2,9 +2,11 @@
 
 ghost use Rattle.std.specs.Prelude.{◌≤◌};
 
+use crate::notes::Notes;
 use crate::numbers::{EOVERFLOW, SECTOR};
+use crate::transmission::Request;
 use nbd_wire::Content;
-use std::alloc::{AllocError, Global};
+use std::alloc::Global;
 use std::collections::{BTreeMap, BTreeSet};
 
 /// A range of the export with content: its first offset and its last.
@@ -25,9 +27,10 @@ pub struct Errored {
     pub is_plain: bool,
 }
 
-/// What came of a reply.
+/// A request whose reply has begun, and what came of this.
 #[derive(Drop)]
 pub struct Reply {
+    pub request: Request,
     /// How many errors.
     pub errors: u64,
     /// A chunk of type ERROR.
@@ -38,24 +41,26 @@ pub struct Reply {
     pub has_content: bool,
     /// The last chunk is content or a status.
     pub is_behind_payload: bool,
-    /// The first offset at which content is cut where it should not be.
-    pub cut: Option<u64>,
+    /// The first offset at which content is cut where it should not be; 0 where it is nowhere.
+    pub cut: u64,
     /// The offsets of errors.
     pub offsets: BTreeSet<u64>,
-    /// The pieces of content, by their first offsets.
-    pub pieces: BTreeMap<u64, Piece>,
+    /// How far it is from the first offset of a piece of content to its last, by the first. A piece of one byte, which has no two
+    /// errors, is not asked for.
+    pieces: BTreeMap<u64, u64>,
 }
 
 impl Reply {
-    /// Nothing; takes no memory.
-    pub fn none(alloc: Global) -> Reply {
+    /// Nothing came; takes no memory.
+    pub fn none(alloc: Global, request: Request) -> Reply {
         Reply {
+            request,
             errors: 0,
             has_error: false,
             has_eoverflow: false,
             has_content: false,
             is_behind_payload: false,
-            cut: None,
+            cut: 0,
             offsets: BTreeSet::new(alloc),
             pieces: BTreeMap::new(alloc),
         }
@@ -66,35 +71,41 @@ impl Reply {
         self.offsets.range(piece.first..=piece.last).next().copied()
     }
 
-    /// The piece that has an offset, if there is one.
-    pub fn piece_at(&self, offset: u64) -> Option<Piece> {
+    /// The piece of two bytes or more that begins at an offset or last before it, if there is one.
+    pub fn piece_before(&self, offset: u64) -> Option<Piece> {
         match self.pieces.range(..=offset).next_back() {
-            Some((_, piece)) if piece.last >= offset => Some(*piece),
-            _ => None,
+            Some((first, far)) => Some(Piece {
+                first: *first,
+                last: first.saturating_add(*far),
+            }),
+            None => None,
         }
     }
 
     /// Takes content, which is cut here where it should not be. The last piece of a reply is not asked for later.
-    pub fn add(&mut self, piece: Piece, cut: Option<u64>, is_last: bool) -> Result<(), AllocError> {
+    pub fn add(&mut self, piece: Piece, is_last: bool, notes: &mut Notes) {
         self.has_content = true;
         self.is_behind_payload = true;
-        self.cut = self.cut.or(cut);
-        if !is_last {
-            self.pieces.insert(piece.first, piece)?;
+        if self.cut == 0 {
+            self.cut = cut_of(piece, self.request.head.offset, self.request.length);
         }
-        Ok(())
+        let far = piece.last - piece.first;
+        if far != 0 && !is_last {
+            notes.keep(self.pieces.insert(piece.first, far));
+        }
     }
 
     /// Takes an error.
-    pub fn fail(&mut self, errored: Errored) -> Result<(), AllocError> {
+    pub fn fail(&mut self, errored: Errored, notes: &mut Notes) {
         self.errors = self.errors.saturating_add(1);
         self.is_behind_payload = false;
-        self.has_error |= errored.is_plain;
-        self.has_eoverflow |= errored.is_plain && errored.error == EOVERFLOW;
-        if let Some(offset) = errored.offset {
-            self.offsets.insert(offset)?;
+        if errored.is_plain {
+            self.has_error = true;
+            self.has_eoverflow |= errored.error == EOVERFLOW;
         }
-        Ok(())
+        if let Some(offset) = errored.offset {
+            notes.keep(self.offsets.insert(offset));
+        }
     }
 }
 
@@ -115,14 +126,14 @@ pub fn is_sector(offset: u64) -> bool {
     offset.is_multiple_of(SECTOR)
 }
 
-/// Where a piece begins or ends at no multiple of 512, nor where a range does of this offset and length.
-pub fn cut_of(piece: Piece, offset: u64, length: u64) -> Option<u64> {
+// Where a piece begins or ends at no multiple of 512, nor where a range does of this offset and length; 0 where neither.
+fn cut_of(piece: Piece, offset: u64, length: u64) -> u64 {
     let end = piece.last.saturating_add(1);
     if !is_sector(piece.first) && piece.first != offset {
-        Some(piece.first)
+        piece.first
     } else if !is_sector(end) && end != offset.saturating_add(length) {
-        Some(end)
+        end
     } else {
-        None
+        0
     }
 }

@@ -6,12 +6,13 @@ use crate::line::Line;
 use crate::linter::Linter;
 use crate::notes::{Finding, Notes, row_of};
 use crate::objects::{json_finding, json_last, json_refusal};
-use crate::table::{COUNT, LEVEL, LINES, Level, NAME, Rule, SECTION, WHO};
+use crate::table::{COUNT, LEVEL, LINES, Level, NAME, Rule, SECTION};
 use nbd_wire::Side;
 use std::alloc::{AllocError, Global};
+use std::fmt::Write;
 
 /// In which form a report is written.
-#[derive(Clone, Copy, PartialEq, Eq, Drop)]
+#[derive(Clone, Copy, Drop)]
 pub enum Form {
     Text,
     Json,
@@ -45,49 +46,17 @@ impl Wanted {
         }
         wanted
     }
-
-    /// Whether a rule is told of.
-    fn has(&self, row: usize) -> bool {
-        let is_allowed = self.allowed.get(row).copied().unwrap_or(false);
-        !is_allowed && Rule::in_row(row).level().is_told(self.level)
-    }
-}
-
-/// How many lines of each level stand in a report.
-#[derive(Clone, Copy, Drop)]
-pub struct Counts {
-    pub musts: u64,
-    pub shoulds: u64,
-    pub hints: u64,
-}
-
-impl Counts {
-    fn none() -> Counts {
-        Counts {
-            musts: 0,
-            shoulds: 0,
-            hints: 0,
-        }
-    }
-
-    // With one more line.
-    fn with(self, level: Level) -> Counts {
-        match level {
-            Level::Must => Counts {
-                musts: self.musts.saturating_add(1),
-                ..self
-            },
-            Level::Should => Counts {
-                shoulds: self.shoulds.saturating_add(1),
-                ..self
-            },
-            Level::Hint => Counts {
-                hints: self.hints.saturating_add(1),
-                ..self
-            },
+    // Whether the rule of this row and level is told of.
+    fn has(&self, row: usize, level: Level) -> bool {
+        match self.allowed.get(row) {
+            Some(true) => false,
+            _ => level.is_told(self.level),
         }
     }
 }
+
+/// How many lines of each level stand in a report, in the order of the levels.
+pub type Counts = [u64; 3];
 
 /// A refusal: its line as `check` prints it, and its place.
 #[derive(Clone, Copy)]
@@ -127,47 +96,35 @@ impl Report {
     /// What is printed of a session of which this was found, and which was refused or not.
     pub fn of(
         alloc: Global,
-        linter: Linter,
+        linter: &Linter,
         refusal: Option<Refusal<'_>>,
         wanted: &Wanted,
     ) -> Result<Report, AllocError> {
-        report_of(alloc, &linter.notes, refusal, wanted)
+        let mut line = Line::new(alloc);
+        line.is_refused = linter.notes.is_refused;
+        let counts = say_all(&linter.notes, wanted, &mut line);
+        say_end(alloc, refusal, counts, wanted, &mut line);
+        Ok(Report {
+            text: line.finish()?,
+            musts: counts[0],
+            is_refused: refusal.is_some(),
+        })
     }
-}
-
-// The same of what was found.
-fn report_of(
-    alloc: Global,
-    notes: &Notes,
-    refusal: Option<Refusal<'_>>,
-    wanted: &Wanted,
-) -> Result<Report, AllocError> {
-    let mut line = Line::new(alloc);
-    line.refused_if(notes.is_refused);
-    let counts = say_all(alloc, notes, wanted, &mut line);
-    match wanted.form {
-        Form::Text => say_end(refusal, counts, wanted.level, &mut line),
-        Form::Json => json_end(alloc, refusal, counts, wanted.level, &mut line),
-    }
-    Ok(Report {
-        text: line.finish()?,
-        musts: counts.musts,
-        is_refused: refusal.is_some(),
-    })
 }
 
 // Adds the line of each finding that is told, by their places, and at one place by the rows of their rules; returns how many there are.
-fn say_all(alloc: Global, notes: &Notes, wanted: &Wanted, line: &mut Line) -> Counts {
-    let mut counts = Counts::none();
+fn say_all(notes: &Notes, wanted: &Wanted, line: &mut Line) -> Counts {
+    let mut counts: Counts = [0; 3];
     for (_, key) in &notes.places {
-        let row = row_of(*key);
-        if wanted.has(row) {
+        let rule = Rule::in_row(row_of(*key));
+        let level = rule.level();
+        if wanted.has(row_of(*key), level) {
+            let count = &mut counts[level as usize];
+            *count = count.saturating_add(1);
             if let Some(finding) = notes.found.get(key) {
-                let rule = Rule::in_row(row);
-                counts = counts.with(rule.level());
                 match wanted.form {
                     Form::Text => say_finding(rule, finding, line),
-                    Form::Json => json_finding(alloc, rule, finding, line),
+                    Form::Json => json_finding(notes.alloc, rule, finding, line),
                 }
             }
         }
@@ -185,53 +142,48 @@ pub fn word_of(side: Side) -> &'static str {
 
 // Adds the line of a finding.
 fn say_finding(rule: Rule, finding: &Finding, line: &mut Line) {
-    line.say(rule.column(LEVEL));
-    line.with(" at byte ", finding.place);
-    line.say_each(&[": ", word_of(finding.side), ": ", rule.column(NAME), ": "]);
-    line.say(finding.text.as_str());
-    line.say_each(&[" (\"", rule.column(SECTION), "\")"]);
-    say_more(finding.more, line);
+    let (level, name, section) = (rule.column(LEVEL), rule.column(NAME), rule.column(SECTION));
+    let (place, side, text) = (finding.place, word_of(finding.side), finding.text.as_str());
+    line.is_refused |= write!(
+        line.text,
+        "{level} at byte {place}: {side}: {name}: {text} (\"{section}\")"
+    )
+    .is_err();
+    if finding.more != 0 {
+        line.with(" (", finding.more);
+        line.say(" more)");
+    }
     line.say("\n");
 }
 
-// Adds how many more messages broke the rule, where some did.
-fn say_more(more: u64, line: &mut Line) {
-    if more != 0 {
-        line.with(" (", more);
-        line.say(" more)");
-    }
-}
-
-// Adds the line of a refusal, if there is one, and the last line.
-fn say_end(refusal: Option<Refusal<'_>>, counts: Counts, level: Level, line: &mut Line) {
-    if let Some(refusal) = refusal {
-        line.say(refusal.line);
-    }
-    say_last(counts, level, line);
-}
-
-// The same as objects.
-fn json_end(
+// Adds the line of a refusal, if there is one, and the last line; or the objects of both.
+fn say_end(
     alloc: Global,
     refusal: Option<Refusal<'_>>,
     counts: Counts,
-    level: Level,
+    wanted: &Wanted,
     line: &mut Line,
 ) {
-    if let Some(refusal) = refusal {
-        json_refusal(alloc, refusal, line);
+    match (wanted.form, refusal) {
+        (Form::Text, Some(refusal)) => line.say(refusal.line),
+        (Form::Json, Some(refusal)) => json_refusal(alloc, refusal, line),
+        _ => {}
     }
-    json_last(alloc, counts, level, line);
+    match wanted.form {
+        Form::Text => say_last(counts, wanted.level, line),
+        Form::Json => json_last(alloc, counts, wanted.level, line),
+    }
 }
 
 // Adds how many lines of each level there are.
-fn say_last(counts: Counts, level: Level, line: &mut Line) {
-    line.with("lint must ", counts.musts);
-    if level != Level::Must {
-        line.with(" should ", counts.shoulds);
+fn say_last(counts: Counts, least: Level, line: &mut Line) {
+    let [musts, shoulds, hints] = counts;
+    line.with("lint must ", musts);
+    if Level::Should.is_told(least) {
+        line.with(" should ", shoulds);
     }
-    if level == Level::Hint {
-        line.with(" hint ", counts.hints);
+    if Level::Hint.is_told(least) {
+        line.with(" hint ", hints);
     }
     line.say("\n");
 }
@@ -240,21 +192,11 @@ fn say_last(counts: Counts, level: Level, line: &mut Line) {
 pub fn listed(alloc: Global) -> Result<String, AllocError> {
     let mut line = Line::new(alloc);
     for row in 0..COUNT {
-        say_rule(Rule::in_row(row), &mut line);
+        let rule = Rule::in_row(row);
+        for column in LEVEL..=LINES {
+            line.say(rule.column(column));
+            line.say(if column == LINES { "\n" } else { " " });
+        }
     }
     line.finish()
-}
-
-// Adds the line of a rule.
-fn say_rule(rule: Rule, line: &mut Line) {
-    line.say_each(&[
-        rule.column(LEVEL),
-        " ",
-        rule.column(WHO),
-        " ",
-        rule.column(NAME),
-        " ",
-        rule.column(LINES),
-        "\n",
-    ]);
 }

@@ -15,42 +15,26 @@ pub struct Announced {
     pub largest: u32,
 }
 
-impl Announced {
-    /// Nothing.
-    pub fn none() -> Announced {
-        Announced {
-            last: None,
-            least: 1,
-            smallest: u32::MAX,
-            largest: 0,
-        }
-    }
+/// Nothing.
+pub const NOTHING: Announced = Announced {
+    last: None,
+    least: u32::MAX,
+    smallest: u32::MAX,
+    largest: 0,
+};
 
+impl Announced {
     /// With what the payload of an INFO answer announces; sizes that a server may not announce count for nothing.
     pub fn with(self, answer: &[u8]) -> Announced {
         match sizes_of(answer) {
-            Some(sizes) if sizes.are_allowed() => self.after(sizes),
+            Some(sizes) if sizes.are_allowed() => Announced {
+                last: Some(sizes),
+                least: self.least.min(sizes.least),
+                smallest: self.smallest.min(sizes.largest),
+                largest: self.largest.max(sizes.largest),
+            },
             _ => self,
         }
-    }
-
-    // With these sizes.
-    fn after(self, sizes: Sizes) -> Announced {
-        let least = match self.last {
-            Some(_) => self.least.min(sizes.least),
-            None => sizes.least,
-        };
-        Announced {
-            last: Some(sizes),
-            least,
-            smallest: self.smallest.min(sizes.largest),
-            largest: self.largest.max(sizes.largest),
-        }
-    }
-
-    /// Whether an offset and a length are multiples of the minimum block size, if there is one.
-    pub fn are_aligned(self, offset: u64, length: u64) -> bool {
-        self.is_multiple(offset) && self.is_multiple(length)
     }
 
     /// Whether a number of bytes is a multiple of the minimum block size, if there is one.

@@ -16,26 +16,21 @@ pub struct Status<'a> {
     pub descriptors: &'a [u8],
 }
 
-impl Status<'_> {
-    // How many extents there are.
-    fn count(&self) -> u64 {
-        let length = if self.extended { 16 } else { 8 };
-        self.descriptors.len() as u64 / length
-    }
-}
-
 /// The status that a chunk of this type is, if it is one.
 pub fn status_in(kind: u16, payload: &[u8]) -> Option<Status<'_>> {
-    let (id, descriptors) = match kind {
-        BLOCK_STATUS => status_of(payload)?,
-        BLOCK_STATUS_EXT => status_ext_of(payload)?,
-        _ => return None,
+    let read = match kind {
+        BLOCK_STATUS => status_of(payload),
+        BLOCK_STATUS_EXT => status_ext_of(payload),
+        _ => None,
     };
-    Some(Status {
-        extended: kind == BLOCK_STATUS_EXT,
-        id,
-        descriptors,
-    })
+    match read {
+        Some((id, descriptors)) => Some(Status {
+            extended: kind == BLOCK_STATUS_EXT,
+            id,
+            descriptors,
+        }),
+        None => None,
+    }
 }
 
 /// Judges a status chunk.
@@ -45,67 +40,64 @@ pub fn judge_status(
     status: Status<'_>,
     notes: &mut Notes,
 ) {
-    let count = status.count();
-    let is_allocation = before.is_allocation(status.id);
+    let length = if status.extended { 16 } else { 8 };
+    let count = status.descriptors.len() as u64 / length;
+    let is_allocation = before.is_agreed & before.selection.is_allocation(status.id);
     let mut rest = status.descriptors;
     let mut last = None;
-    let mut end = Some(request.head.offset);
-    notes.note(Name::TooManyExtents, count > MOST_EXTENTS, &[count]);
+    let mut end = u128::from(request.head.offset);
+    notes.note_one(Name::TooManyExtents, count > MOST_EXTENTS, count);
     for number in 1..=count {
         let Some((extent, behind)) = first_extent(status.extended, rest) else {
             return;
         };
-        end = behind_extent(end, extent);
-        judge_length(request, before, number, extent, notes);
+        end = end.saturating_add(u128::from(extent.length));
+        judge_extent(request, before, number, extent, is_allocation, notes);
         judge_end(request, before, number, end, behind.is_empty(), notes);
         judge_beside(status.extended, last, number, extent, notes);
-        if is_allocation {
-            judge_flags(extent, notes);
-        }
         last = Some(extent);
         rest = behind;
     }
 }
 
-// Where an extent ends that begins here. What ends at 2^64 or behind it is not looked at.
-fn behind_extent(begin: Option<u64>, extent: Extent) -> Option<u64> {
-    match begin {
-        Some(begin) => begin.checked_add(extent.length),
-        None => None,
-    }
-}
-
-// An extent is no multiple of the minimum block size.
-fn judge_length(
+// An extent is no multiple of the minimum block size; one of `base:allocation` has a flag that is reserved.
+fn judge_extent(
     request: &Request,
     before: &Transmission,
     number: u64,
     extent: Extent,
+    is_allocation: bool,
     notes: &mut Notes,
 ) {
-    notes.note(
+    let reserved = extent.flags & !u64::from(states::HOLE | states::ZERO);
+    notes.note_three(
         Name::ExtentOffBlockSize,
-        request.is_aligned && !before.sizes.is_multiple(extent.length),
-        &[number, extent.length, u64::from(before.sizes.least)],
+        request.is_aligned & !before.sizes.is_multiple(extent.length),
+        number,
+        extent.length,
+        u64::from(before.sizes.least),
+    );
+    notes.note_one(
+        Name::AllocationFlags,
+        is_allocation & (reserved != 0),
+        extent.flags,
     );
 }
 
-// An extent ends at no multiple of 512; the last one also not with the request or the export.
+// An extent ends at no multiple of 512; the last one also not with the request or the export. What ends at 2^64 or behind it is not
+// looked at.
 fn judge_end(
     request: &Request,
     before: &Transmission,
     number: u64,
-    end: Option<u64>,
+    end: u128,
     is_last: bool,
     notes: &mut Notes,
 ) {
-    if let Some(end) = end {
-        let is_excused = is_last && (end == request.end() || end == before.export.size);
-        notes.note(
-            Name::ExtentOff512,
-            !is_sector(end) && !is_excused,
-            &[number, end],
-        );
+    if let Ok(end) = u64::try_from(end) {
+        let is_excused = is_last & ((end == request.end()) | (end == before.export.size));
+        let is_off = !is_sector(end) & !is_excused;
+        notes.note_two(Name::ExtentOff512, is_off, number, end);
     }
 }
 
@@ -118,10 +110,12 @@ fn judge_beside(
     notes: &mut Notes,
 ) {
     if let Some(last) = last {
-        notes.note(
+        notes.note_three(
             Name::ExtentsAlike,
-            last.flags == extent.flags && fit_together(extended, last, extent),
-            &[number.saturating_sub(1), number, extent.flags],
+            (last.flags == extent.flags) & fit_together(extended, last, extent),
+            number.saturating_sub(1),
+            number,
+            extent.flags,
         );
     }
 }
@@ -129,17 +123,7 @@ fn judge_beside(
 // Whether one descriptor could have the lengths of both.
 fn fit_together(extended: bool, first: Extent, second: Extent) -> bool {
     match first.length.checked_add(second.length) {
-        Some(sum) => extended || sum <= u64::from(u32::MAX),
+        Some(sum) => extended | (sum <= u64::from(u32::MAX)),
         None => false,
     }
-}
-
-// An extent of `base:allocation` has a flag that is reserved.
-fn judge_flags(extent: Extent, notes: &mut Notes) {
-    let known = u64::from(states::HOLE | states::ZERO);
-    notes.note(
-        Name::AllocationFlags,
-        extent.flags & !known != 0,
-        &[extent.flags],
-    );
 }

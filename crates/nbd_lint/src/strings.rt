@@ -17,9 +17,8 @@ pub fn judge_string(words: &'static str, number: u64, bytes: &[u8], notes: &mut 
     let string = Label { words, number };
     let length = bytes.len();
     let is_too_long = length > LONGEST_STRING;
-    if let Some(place) = place_in(bytes, 0) {
-        notes.note_string(Name::StringWithNul, true, string, place.saturating_add(1));
-    }
+    let nul = place_in(bytes, 0);
+    notes.note_string(Name::StringWithNul, nul != 0, string, nul);
     if let Err(error) = str::from_utf8(bytes) {
         let place = error.valid_up_to().saturating_add(1);
         notes.note_string(Name::StringNotUtf8, true, string, place);
@@ -71,10 +70,6 @@ fn judge_info(answer: &[u8], notes: &mut Notes) {
 
 /// Judges the message of an error chunk.
 pub fn judge_message(error: u32, payload: &[u8], notes: &mut Notes) {
-    judge_string(
-        "the message of error",
-        u64::from(error),
-        message_of(payload),
-        notes,
-    );
+    let message = message_of(payload);
+    judge_string("the message of error", u64::from(error), message, notes);
 }

@@ -1,7 +1,7 @@
 //! The rules: a name, a level, who is bound, and what is said of a breach.
 
 /// What a line says.
-#[derive(Clone, Copy, PartialEq, Eq, Drop)]
+#[derive(Clone, Copy, Drop)]
 pub enum Level {
     /// A MUST of proto.md is broken. A right client or server never breaks one.
     Must,
@@ -381,28 +381,28 @@ impl Rule {
     /// The one in this row, from 0.
     pub fn in_row(row: usize) -> Rule {
         Rule {
-            text: RULES.split("\n\n").nth(row).unwrap_or(""),
+            text: part(RULES, "\n\n", row),
         }
-    }
-
-    // What stands in this line of it, from 0.
-    fn line(self, number: usize) -> &'static str {
-        self.text.split("\n").nth(number).unwrap_or("")
     }
 
     /// What stands in a column of its first line.
     pub fn column(self, number: usize) -> &'static str {
-        self.line(0).split(" | ").nth(number).unwrap_or("")
+        part(part(self.text, "\n", 0), " | ", number)
     }
 
     /// The sentence with this number, from 0.
     pub fn sentence(self, number: usize) -> &'static str {
-        self.line(number.saturating_add(1))
+        part(self.text, "\n", number.saturating_add(1))
     }
 
     pub fn level(self) -> Level {
         Level::of(self.column(LEVEL)).unwrap_or(Level::Hint)
     }
+}
+
+// The part with this number, from 0, of what a separator parts.
+fn part(text: &'static str, separator: &str, number: usize) -> &'static str {
+    text.split(separator).nth(number).unwrap_or("")
 }
 
 /// The row of the rule with this name, from 0, if there is one.

@@ -1,6 +1,8 @@
 //! Texts one behind the other.
 
-use std::alloc::{AllocError, Global};
+use crate::notes::Notes;
+use nbd_wire::bytes_in;
+use std::alloc::Global;
 use std::cmp::Ordering;
 
 /// Texts one behind the other, in little memory.
@@ -21,13 +23,10 @@ impl Texts {
     }
 
     /// Adds one.
-    pub fn add(&mut self, text: &[u8]) -> Result<(), AllocError> {
+    pub fn add(&mut self, text: &[u8], notes: &mut Notes) {
         let begin = self.bytes.len();
-        self.bytes.extend_from_slice(text)?;
-        if self.bounds.push((begin, self.bytes.len())).is_err() {
-            return Err(AllocError);
-        }
-        Ok(())
+        notes.keep(self.bytes.extend_from_slice(text));
+        notes.keep(self.bounds.push((begin, self.bytes.len())));
     }
 
     pub fn count(&self) -> usize {
@@ -37,25 +36,29 @@ impl Texts {
     /// The one in this place, from 0.
     pub fn at(&self, place: usize) -> &[u8] {
         match self.bounds.get(place) {
-            Some((begin, end)) => self.bytes.get(*begin..*end).unwrap_or(&[]),
+            Some((begin, end)) => bytes_in(&self.bytes, *begin, end.saturating_sub(*begin)),
             None => &[],
         }
     }
 
-    /// The same texts, in their order.
-    pub fn sorted(&self, alloc: Global) -> Result<Texts, AllocError> {
-        let mut texts = self.listed(alloc)?;
-        texts.sort_unstable();
-        joined(alloc, texts.as_slice())
+    /// Puts them in their order.
+    pub fn order(&mut self, notes: &mut Notes) {
+        let mut ordered = self.ordered(notes);
+        std::mem::swap(self, &mut ordered);
     }
 
-    // Each of them.
-    fn listed(&self, alloc: Global) -> Result<Vec<&[u8]>, AllocError> {
-        let mut texts = Vec::new(alloc);
+    // The same texts, in their order.
+    fn ordered(&self, notes: &mut Notes) -> Texts {
+        let mut ordered = Texts::none(notes.alloc);
+        let mut texts = Vec::new(notes.alloc);
         for place in 0..self.count() {
-            texts.push(self.at(place))?;
+            notes.keep(texts.push(self.at(place)));
         }
-        Ok(texts)
+        texts.sort_unstable();
+        for text in &texts {
+            ordered.add(text, notes);
+        }
+        ordered
     }
 
     /// Whether one of them is this, where they stand in their order.
@@ -89,13 +92,4 @@ impl Texts {
         }
         None
     }
-}
-
-// Copies of these texts.
-fn joined(alloc: Global, texts: &[&[u8]]) -> Result<Texts, AllocError> {
-    let mut joined = Texts::none(alloc);
-    for text in texts {
-        joined.add(text)?;
-    }
-    Ok(joined)
 }

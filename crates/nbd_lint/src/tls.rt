@@ -1,6 +1,7 @@
 //! The rule on modes of TLS: a server keeps one for the whole connection (proto.md, "Server-side requirements").
 
-use crate::asked::Asked;
+use crate::asked::{Asked, asks_export};
+use crate::breach::UNLABELLED;
 use crate::notes::Notes;
 use crate::numbers::{ERR_PLATFORM, ERR_TLS_REQD, ERR_UNSUP};
 use crate::table::Name;
@@ -51,65 +52,45 @@ pub struct Tls {
     signs: [Sign; 4],
 }
 
+/// Before the first answer.
+pub const UNKNOWN: Tls = Tls {
+    left: ALL,
+    signs: [NO_SIGN; 4],
+};
+
 impl Tls {
-    /// Before the first answer.
-    pub fn unknown() -> Tls {
-        Tls {
-            left: ALL,
-            signs: [NO_SIGN; 4],
+    /// Takes an answer to an option; where it leaves no mode, what it leaves alone. The first answer that leaves the same modes
+    /// stays.
+    pub fn take(&mut self, asked: &Asked, kind: u32, place: u64) {
+        let leaves = left_by(asked, kind);
+        if self.left & leaves == 0 {
+            *self = UNKNOWN;
         }
-    }
-
-    /// After an answer to an option; where it leaves no mode, what it leaves alone.
-    pub fn after(self, asked: &Asked, kind: u32, place: u64) -> Tls {
-        let sign = sign_of(asked, kind, place);
-        let left = self.left & sign.leaves;
-        if left != 0 {
-            Tls {
-                left,
-                signs: with(self.signs, sign),
-            }
-        } else {
-            Tls {
-                left: sign.leaves,
-                signs: with([NO_SIGN; 4], sign),
-            }
+        self.left &= leaves;
+        let row = match leaves {
+            OPEN => 0,
+            WITHOUT_TLS => 1,
+            WITH_TLS => 2,
+            FORCED => 3,
+            _ => return,
+        };
+        if self.signs[row].place == 0 {
+            self.signs[row] = Sign {
+                option: asked.id,
+                kind,
+                place,
+                leaves,
+            };
         }
-    }
-}
-
-// The signs with one more, unless the same modes are left by an earlier one, or it leaves all.
-fn with(signs: [Sign; 4], sign: Sign) -> [Sign; 4] {
-    let mut signs = signs;
-    let place = match sign.leaves {
-        OPEN => 0,
-        WITHOUT_TLS => 1,
-        WITH_TLS => 2,
-        FORCED => 3,
-        _ => return signs,
-    };
-    if signs[place].place == 0 {
-        signs[place] = sign;
-    }
-    signs
-}
-
-// What an answer leaves.
-fn sign_of(asked: &Asked, kind: u32, place: u64) -> Sign {
-    Sign {
-        option: asked.id,
-        kind,
-        place,
-        leaves: left_by(asked, kind),
     }
 }
 
 // The modes that an answer leaves.
 fn left_by(asked: &Asked, kind: u32) -> Modes {
     match asked.id {
-        options::STARTTLS if asked.data().is_empty() && is_without_tls(kind) => WITHOUT_TLS,
+        options::STARTTLS if asked.data().is_empty() & is_without_tls(kind) => WITHOUT_TLS,
         options::STARTTLS => ALL,
-        options::INFO | options::GO if kind == ERR_TLS_REQD => WITH_TLS,
+        id if (kind == ERR_TLS_REQD) & asks_export(id) => WITH_TLS,
         _ if kind == ERR_TLS_REQD => FORCED,
         options::ABORT => ALL,
         _ if is_error(kind) => ALL,
@@ -127,17 +108,14 @@ pub fn judge_tls(before: &Tls, asked: &Asked, kind: u32, notes: &mut Notes) {
     let leaves = left_by(asked, kind);
     if before.left & leaves == 0 {
         let first = first_against(before, leaves);
-        notes.tell(
-            Name::TlsMode,
-            0,
-            &[
-                asked.number(),
-                u64::from(kind),
-                first.place,
-                u64::from(first.option),
-                u64::from(first.kind),
-            ],
-        );
+        let numbers = [
+            u64::from(asked.id),
+            u64::from(kind),
+            first.place,
+            u64::from(first.option),
+            u64::from(first.kind),
+        ];
+        notes.add(Name::TlsMode, 0, UNLABELLED, [&[], &[]], &numbers);
     }
 }
 
@@ -145,8 +123,8 @@ pub fn judge_tls(before: &Tls, asked: &Asked, kind: u32, notes: &mut Notes) {
 fn first_against(before: &Tls, leaves: Modes) -> Sign {
     let mut first = NO_SIGN;
     for sign in &before.signs {
-        let is_against = sign.place != 0 && sign.leaves & leaves == 0;
-        if is_against && (first.place == 0 || sign.place < first.place) {
+        let is_against = (sign.place != 0) & (sign.leaves & leaves == 0);
+        if is_against & ((first.place == 0) | (sign.place < first.place)) {
             first = *sign;
         }
     }

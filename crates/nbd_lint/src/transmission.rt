@@ -1,14 +1,14 @@
 //! What was requested and answered so far.
 
+use crate::notes::Notes;
 use crate::reasons::Reasons;
-use crate::reply::Reply;
-use crate::sizes::Announced;
+use crate::sizes::{Announced, NOTHING};
 use nbd_state::{Asking, Export, Outstanding, Selection, is_proper};
 use nbd_wire::{Message, RequestHead};
-use std::alloc::{AllocError, Global};
+use std::alloc::Global;
 
-/// A request under way.
-#[derive(Drop)]
+/// A request.
+#[derive(Clone, Copy, Drop)]
 pub struct Request {
     /// From 1, in the order of their arrival.
     pub number: u64,
@@ -24,7 +24,6 @@ pub struct Request {
     pub reasons: Reasons,
     /// It came behind an ESHUTDOWN.
     pub is_late: bool,
-    pub reply: Reply,
 }
 
 impl Request {
@@ -61,7 +60,7 @@ impl Transmission {
     pub fn none(alloc: Global) -> Transmission {
         Transmission {
             export: Export { size: 0, flags: 0 },
-            sizes: Announced::none(),
+            sizes: NOTHING,
             structured: false,
             selection: Selection::none(alloc),
             is_agreed: false,
@@ -73,37 +72,64 @@ impl Transmission {
         }
     }
 
-    /// The next request, with this head and payload, as it stands behind what came before it.
-    pub fn asking(
+    /// The outstanding request with this cookie among the messages so far, as it stood behind what had come before it; None where
+    /// there is none, or memory is refused.
+    pub fn outstanding(
         &self,
-        alloc: Global,
-        head: &RequestHead,
-        payload: &[u8],
-    ) -> Result<Request, AllocError> {
-        self.asked(alloc, self.places.len(), head, payload)
+        cookie: u64,
+        messages: &[Message],
+        notes: &mut Notes,
+    ) -> Option<Request> {
+        match self.outstanding.get(cookie) {
+            Some(before) => match messages.get(self.place_of(before)) {
+                Some(message) => self.asked(before, message, notes),
+                None => None,
+            },
+            None => None,
+        }
     }
 
-    /// The request behind so many others, with this head and payload, as it stood behind what had come before it.
-    pub fn asked(
+    // The place among the messages of the request behind so many others; one behind them all where there is none.
+    fn place_of(&self, before: usize) -> usize {
+        match self.places.get(before) {
+            Some(place) => *place as usize,
+            None => usize::MAX,
+        }
+    }
+
+    // The request behind so many others that a message is.
+    fn asked(&self, before: usize, message: &Message, notes: &mut Notes) -> Option<Request> {
+        match request_of(message) {
+            Some((head, payload)) => self.request(before, &head, payload, notes),
+            None => None,
+        }
+    }
+
+    // The same of a head and a payload.
+    fn request(
         &self,
-        alloc: Global,
         before: usize,
         head: &RequestHead,
         payload: &[u8],
-    ) -> Result<Request, AllocError> {
-        let flags = self.export.flags;
+        notes: &mut Notes,
+    ) -> Option<Request> {
+        let (alloc, flags) = (notes.alloc, self.export.flags);
         match self
             .selection
             .asking(alloc, self.is_agreed, flags, head, payload)
         {
-            Ok(asking) => Ok(self.request(alloc, before as u64, head, &asking)),
-            Err(_) => Err(AllocError),
+            Ok(asking) => Some(self.asking(alloc, before as u64, head, &asking)),
+            Err(_) => {
+                notes.is_refused = true;
+                None
+            }
         }
     }
 
     // The same of one that asks this.
-    fn request(&self, alloc: Global, before: u64, head: &RequestHead, asking: &Asking) -> Request {
-        let is_aligned = self.sizes.are_aligned(head.offset, asking.length);
+    fn asking(&self, alloc: Global, before: u64, head: &RequestHead, asking: &Asking) -> Request {
+        let sizes = self.sizes;
+        let is_aligned = sizes.is_multiple(head.offset) & sizes.is_multiple(asking.length);
         Request {
             number: before.saturating_add(1),
             head: *head,
@@ -113,30 +139,17 @@ impl Transmission {
             is_aligned,
             reasons: Reasons::of(alloc, self.export, asking, head, is_aligned),
             is_late: self.eshutdown != 0 && before >= self.before_eshutdown,
-            reply: Reply::none(alloc),
         }
     }
 
     /// Takes a request with this cookie, which is the message at this place of all.
-    pub fn ask(&mut self, cookie: u64, place: usize) -> Result<(), AllocError> {
-        self.outstanding.insert(cookie, self.places.len())?;
+    pub fn ask(&mut self, cookie: u64, place: usize, notes: &mut Notes) {
+        let before = self.places.len();
+        notes.keep(self.outstanding.insert(cookie, before));
         self.open = self.open.saturating_add(1);
         match u32::try_from(place) {
-            Ok(place) if self.places.push(place).is_ok() => Ok(()),
-            _ => Err(AllocError),
-        }
-    }
-
-    /// The outstanding request with this cookie among the messages so far, and how many came before it.
-    pub fn outstanding<'a>(
-        &self,
-        cookie: u64,
-        messages: &'a [Message],
-    ) -> Option<(usize, &'a Message)> {
-        let before = self.outstanding.get(cookie)?;
-        match self.places.get(before) {
-            Some(place) => Some((before, messages.get(*place as usize)?)),
-            None => None,
+            Ok(place) => notes.keep(self.places.push(place)),
+            Err(_) => notes.is_refused = true,
         }
     }
 
@@ -152,11 +165,6 @@ impl Transmission {
             self.eshutdown = place;
             self.before_eshutdown = self.places.len() as u64;
         }
-    }
-
-    /// Whether the context with this id is in force and is `base:allocation`.
-    pub fn is_allocation(&self, id: u32) -> bool {
-        self.is_agreed && self.selection.is_allocation(id)
     }
 }
 
