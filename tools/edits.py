@@ -234,16 +234,19 @@ class Crate:
         words += [word for name in self.below for word in ("-L", f"dependency={library(name).parent}")]
         return words + [word for path in only for word in ("--only", path.removeprefix(f"{self.name}::"))]
 
+    def can_be_copied(self, edit):
+        """Whether an edit can be made in a copy of its function, whose path is known."""
+        return path_of(self.name, edit, self.told) is not None and can_be_copied(edit, (self.place / edit.file).read_text())
+
     def copy_proofs(self, edit):
         """Copies the proof of an edit's function for the copy in which the edit is made; answers its folder, if there is one."""
-        of, name = edit.function
-        parts = [it for it in edit.file[len("src/") : -len(".rt")].split("/") if it not in ("lib", "main")] + [of] * bool(of)
-        proof, folder = (self.place.joinpath("proofs", *parts, it) for it in (name, copy_of(name, edit)))
+        *parts, copy = path_of(self.name, edit, self.told).split("::")[1:]
+        proof, folder = (self.place.joinpath("proofs", *parts, it) for it in (edit.function[1], copy))
         module = ".".join([f"Rattle.{self.name}.proofs", *parts, ""])
-        for path in sorted(proof.glob("*.antt")):
+        for file in sorted(proof.glob("*.antt")):
             folder.mkdir(exist_ok=True)
-            (folder / path.name).write_text(path.read_text().replace(f"{module}{name}.", f"{module}{folder.name}."))
-        return [folder] * proof.is_dir()
+            (folder / file.name).write_text(file.read_text().replace(f"{module}{edit.function[1]}.", f"{module}{copy}."))
+        return [folder] * folder.is_dir()
 
     def check(self, edits, left, only=()):
         """Checks the crate with these edits; answers what is said of each function, all that is said, and where the edits stand."""
@@ -314,7 +317,7 @@ class Crate:
         unclear = []
         while edits:
             together = firsts(edits, lambda it: (it.file, it.function))
-            others = [it for it in edits if it not in together and can_be_copied(it, (self.place / it.file).read_text())]
+            others = [it for it in edits if it not in together and self.can_be_copied(it)]
             edits = [it for it in edits if it not in together + others]
             copies = [it._replace(copy=number) for number, it in enumerate(others, 2)]
             unclear += self.try_together(together + copies, len(edits) + len(together + copies))
@@ -343,7 +346,7 @@ class Crate:
         read = [read_edit(self.place, path) for path in sorted((self.home / "must-fail").glob("*.edit"))]
         read = [it for it in read if it and it.function]
         others = [it for it in read if it not in firsts(read, lambda it: (it.file, it.function))]
-        others = [it for it in others if can_be_copied(it, (self.place / it.file).read_text())]
+        others = [it for it in others if self.can_be_copied(it)]
         copies = [it._replace(copy=number, changes=[]) for number, it in enumerate(others, 2)]
         said = self.check(copies, len(copies), self.only(copies))[0] if copies else {}
         for edit in copies:

@@ -215,6 +215,10 @@ def run(tally):
         # (where rt ci has proved it earlier it names no function, so all are asked for)
         kept = "rt: low is kept: an earlier run\nrt: high proved\n"
         tally.want("a crate that is kept", tree.over(kept), (0, refused, "1 passed, 0 failed", ["searched; "]))
+        with tempfile.TemporaryDirectory(prefix="nbdcheck-") as other:
+            two = {"a": change("one", "searched"), "b": change("one", "by_hand"), "c": change("one", "noted")}
+            wanted = (0, dict.fromkeys(two, "refused"), "3 passed, 0 failed", ["searched; ", "by_hand noted; one one_copy2"])
+            tally.want("a crate that is kept, with several edits of a function", Tree(other, two).over(kept), wanted)
         tally.want("a crate that rt ci does not prove", tree.over("rt: low NOT PROVED\n"), (1, {}, "0 passed, 2 failed", []))
         two = {"a": change("one", "searched"), "b": change("one", "by_hand"), "c": change("three", "searched"), "d": change("three", "noted")}
         with tempfile.TemporaryDirectory(prefix="nbdcheck-") as other:
