@@ -3,17 +3,11 @@
 use nbd_wire::{Message, Side, head_lengths, side_of};
 use std::alloc::{AllocError, Global};
 
-/// So many bytes that a side sent one after the other.
-#[derive(Clone, Copy)]
-struct Run {
-    side: Side,
-    count: u64,
-}
-
 /// Which side sent how many bytes, one after the other.
 #[derive(Drop)]
 pub struct Runs {
-    runs: Vec<Run>,
+    /// How many bytes each run has: the client's and the server's in turn, of which the first may have none.
+    runs: Vec<u64>,
     count: u64,
 }
 
@@ -26,15 +20,15 @@ impl Runs {
         }
     }
 
-    /// The next bytes are so many of this side. After an `Err`, that memory ran out, all is as it was.
+    /// The next bytes are so many of this side. An `Err`, that memory ran out, adds none.
     pub fn add(&mut self, side: Side, count: u64) -> Result<(), AllocError> {
+        if side == Side::Server && self.runs.is_empty() {
+            self.runs.push(0)?;
+        }
+        let next = sender_of(self.runs.len());
         match self.runs.last_mut() {
-            Some(run) if run.side == side => run.count = run.count.saturating_add(count),
-            _ => {
-                if self.runs.push(Run { side, count }).is_err() {
-                    return Err(AllocError);
-                }
-            }
+            Some(last) if next != side => *last = last.saturating_add(count),
+            _ => self.runs.push(count)?,
         }
         self.count = self.count.saturating_add(count);
         Ok(())
@@ -43,6 +37,15 @@ impl Runs {
     /// How many bytes there are.
     pub fn count(&self) -> u64 {
         self.count
+    }
+}
+
+// Whose run is in this place, from 0.
+fn sender_of(place: usize) -> Side {
+    if place.is_multiple_of(2) {
+        Side::Client
+    } else {
+        Side::Server
     }
 }
 
@@ -73,13 +76,13 @@ impl Walk {
         self.all.saturating_sub(self.own.saturating_sub(self.taken))
     }
 
-    // Goes over a run.
-    fn pass(&mut self, run: Run) {
-        self.next = self.next.saturating_add(1);
-        self.all = self.all.saturating_add(run.count);
-        if run.side == self.side {
-            self.own = self.own.saturating_add(run.count);
+    // Goes over a run of so many bytes.
+    fn pass(&mut self, count: u64) {
+        if sender_of(self.next) == self.side {
+            self.own = self.own.saturating_add(count);
         }
+        self.next = self.next.saturating_add(1);
+        self.all = self.all.saturating_add(count);
     }
 }
 
