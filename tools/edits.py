@@ -1,17 +1,19 @@
 #!/usr/bin/env python3
-"""tools/edits.py [--over TREE] [--keep FOLDER] [--copies] [CRATE..]: has the prover refuse the must-fail edits of these crates, or
-of all. `rt check` proves each crate first, as it stands here. With --over `rt ci` does, in TREE: a crate is taken as soon
-as it says on standard input that the crate is proved. What was checked stands in FOLDER afterwards. With --copies the
-copies of functions, of which it says more below, are checked without their edits: each must be proved.
+"""tools/edits.py [--over TREE] [--keep FOLDER] [--copies] [CRATE..]: has the prover refuse the must-fail edits of these
+crates, or of all. `rt check` proves each crate first, as it stands here. With --over `rt ci` does, in TREE: a crate is
+taken as soon as it says on standard input that the crate is proved. What was checked stands in FOLDER afterwards. With
+--copies the copies of functions, of which it says more below, are checked without their edits: each must be proved.
 
 `rt must-fail` checks a crate once for each edit, and most of that is the same every time: what the crate and its
-libraries hold is read. Here one check tries the edits of all functions, since whether a function meets its contract does not depend on the
-bodies of others. Where a function has several, the first is made in it, and each other one in a copy of it with the same
-contract and proof, which stands at the end of the file; a method of a trait and a function that calls itself have no
-copies, and one edit of theirs goes into a check. Of each edit the prover must say that the very function in which it
-stands is not proved, for a goal of its own and not because of what it calls; where it says less, the edit is tried once
-more without those of which enough was said, and then by itself. An edit outside of a body is tried by itself. If it says what it breaks (`breaks: module::function`, behind it the name of the clause if that has one), one
-check tries as many as break different clauses of one function, and the prover must say that this clause is not proved.
+libraries hold is read. Here one check tries the edits of all functions, since whether a function meets its contract
+does not depend on the bodies of others. Where a function has several, the first is made in it, and each other one in a
+copy of it with the same contract and proof, which stands at the end of the file; a method of a trait and a function
+that calls itself have no copies, and one edit of theirs goes into a check. Of each edit the prover must say that the
+very function in which it stands is not proved, for a goal of its own and not because of what it calls; where it says
+less, the edit is tried once more without those of which enough was said, and then by itself. An edit outside of a body
+is tried by itself. If it says what it breaks (`breaks: module::function`, behind it the name of the clause if that has
+one), one check tries as many as break different clauses of one function, and the prover must say that this clause is
+not proved.
 
 The last line is `N passed, M failed`.
 """
