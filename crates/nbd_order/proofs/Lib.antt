@@ -1,3 +1,4 @@
+pub mod ChainLemmas
 pub mod Common
 pub mod DueLemmas
 pub mod FoundLemmas
@@ -6,5 +7,9 @@ pub mod NumberLemmas
 pub mod OffsetLemmas
 pub mod RefutationLemmas
 pub mod ServiceLemmas
+pub mod SplitCoreLemmas
+pub mod SplitLawLemmas
+pub mod SplitLemmas
+pub mod SplitOrderLemmas
 pub mod StateLemmas
 pub mod TouchLemmas

@@ -1,4 +1,6 @@
+pub mod Chains
 pub mod Finding
 pub mod Leaving
+pub mod Splits
 pub mod Unexplained
 pub mod internal

@@ -1,5 +1,5 @@
 -- A verdict depends on the bytes at first only below the export's size.
-use Rattle.nbd_judge.proofs.Common.{◌≡◌, ℕ, ◌+◌, ◌<◌, ◌≤◌, List, refl, sym, ◌∙◌, ap, arith, Option, Some, None, Result, Ok, Err, IfOk, take, subst, inl, inr, ◌⊎◌, and_parts, Profile, Entry, in_part, is_in, Effect, IsWrong, effect, effect_if, effects, last_touch, byte_or_start, byte_before, FitsImage, Start, start_byte, Asked, Report, asked_at, Exporting, AreSameBelow, IsSoundReport, size_and_flags, Verdict, given_length, initial_of, size_of, HasWrongFrom, IsJudged, IsVerdict, FirstWrongFrom}
+use Rattle.nbd_judge.proofs.Common.{◌≡◌, ℕ, ◌+◌, ◌<◌, ◌≤◌, List, refl, sym, ◌∙◌, ap, arith, Option, Some, None, Result, Ok, Err, IfOk, take, subst, inl, inr, ◌⊎◌, and_parts, Profile, Entry, Part, in_part, is_in, Effect, IsWrong, IsWrongIn, effect, effect_if, effects, last_touch, byte_or_start, byte_before, FitsImage, Start, start_byte, Asked, Report, asked_at, Exporting, AreSameBelow, IsSoundReport, size_and_flags, Verdict, given_length, initial_of, size_of, HasWrongFrom, IsJudged, IsVerdict, FirstWrongFrom}
 use Rattle.nbd_wire.specs.declared.commands.TheConstants as commands
 use Rattle.nbd_wire.specs.protocol.Explains.{Held, known}
 use Rattle.nbd_export.specs.Starts as contents
@@ -10,7 +10,7 @@ use Rattle.std.specs.Prelude.{[], ◌∷◌, zero, suc, map, length, slice_get}
 use Rattle.std.proofs.lemmas.List.{length-map}
 use Rattle.nbd_export.specs.Extents.{byte_of, size_of as extent_size}
 use Rattle.nbd_export.proofs.HeldLemmas.{length-held_from, slice_get-held_from}
-use Rattle.nbd_judge.proofs.contents.CompareLemmas.{from_in, wrong_of, wrong_there}
+use Rattle.nbd_judge.proofs.contents.CompareLemmas.{from_in, wrong_of}
 use Rattle.nbd_judge.proofs.orders.FirstLemmas.{first_of}
 use Rattle.nbd_judge.proofs.verdicts.SoundLemmas.{servable}
 
@@ -22,9 +22,19 @@ pub left_same : (l : Option Effect) (f g : ℕ → Option ℕ) (x : ℕ) → f x
 left_same None f g x e = e
 left_same (Some l) f g x e = refl
 
-module _ (r : Report) (sound : IsSoundReport r) (order : List Entry) (f g : ℕ → Option ℕ) (same : AreSameBelow (size_of r.export) f g) where
-  wrong_same : (i x : ℕ) → IsWrong (effects r) order f i x → IsWrong (effects r) order g i x
-  wrong_same i x v =
+-- a wrong byte stays one where what was known there still is
+there_too : (p : Option Part) (e : Effect) (byte other : ℕ → Option ℕ) (x : ℕ) → IsWrongIn p e byte x → ((b : ℕ) → byte x ≡ Some b → other x ≡ Some b) → IsWrongIn p e other x
+there_too p e byte other x w more = (w.0, w.1, w.2, (w.3.0, more w.3.0 w.3.1, w.3.2))
+
+-- a byte that was known at first is known as the same
+known_more : (l : Option Effect) (f g : ℕ → Option ℕ) (x b : ℕ) → (f x ≡ Some b → g x ≡ Some b) → byte_or_start l f x ≡ Some b → byte_or_start l g x ≡ Some b
+known_more None f g x b more e = more e
+known_more (Some l) f g x b more e = e
+
+module _ (r : Report) (sound : IsSoundReport r) (order : List Entry) (f g : ℕ → Option ℕ) where
+  -- where more is known below the export's size, what was wrong is wrong
+  pub wrong_more : ((x b : ℕ) → x < size_of r.export → f x ≡ Some b → g x ≡ Some b) → (i x : ℕ) → IsWrong (effects r) order f i x → IsWrong (effects r) order g i x
+  wrong_more more i x v =
       let entry = v.0 in
       let w = v.2 in
       let a = request_of (asked_at entry.request r.asked) w.0 w.1 in
@@ -37,8 +47,20 @@ module _ (r : Report) (sound : IsSoundReport r) (order : List Entry) (f g : ℕ 
       let hi : x < w.0.offset + w.0.length = lies.1 in
       let offset : a.0.offset ≡ w.0.offset = ap (λ (e : Effect). e.offset) a.2 in
       let len : a.0.length ≡ w.0.length = ap (λ (e : Effect). e.length) a.2 in
-      let inside : x < size_of r.export = omega arith in
-      (entry, v.1, (w.0, w.1, wrong_there entry.part w.0 (byte_before (effects r) order f i) (byte_before (effects r) order g i) x w.2 (sym (left_same (last_touch (effects r) x (take i order)) f g x (same x inside)))))
+      let inside : x < size_of r.export = omega arith in (
+        entry,
+        v.1,
+        (
+          w.0,
+          w.1,
+          there_too entry.part w.0 (byte_before (effects r) order f i) (byte_before (effects r) order g i) x w.2
+              (λ b. known_more (last_touch (effects r) x (take i order)) f g x b (more x b inside)),
+        ),
+      )
+
+module _ (r : Report) (sound : IsSoundReport r) (order : List Entry) (f g : ℕ → Option ℕ) (same : AreSameBelow (size_of r.export) f g) where
+  wrong_same : (i x : ℕ) → IsWrong (effects r) order f i x → IsWrong (effects r) order g i x
+  wrong_same = wrong_more r sound order f g (λ x b inside e. sym (same x inside) ∙ e)
 
   has_wrong_same : (i : ℕ) → HasWrongFrom r order f i → HasWrongFrom r order g i
   has_wrong_same i h = (h.0, wrong_same i h.0 h.1)

@@ -1,0 +1,178 @@
+-- Starts that know less, and sessions one after another.
+use Rattle.nbd_order.proofs.Common.{◌≡◌, ℕ, ◌+◌, ◌<◌, ◌==◌, ◌&&◌, ◌||◌, List, [], ◌∷◌, refl, sym, ap, subst, ◌∙◌, Bool, true, false, IsTrue, Option, Some, None, arith, take, slice_get, if◌then◌else◌, and_from, and_parts, Profile, Entry, Part, FitsImage, Start, start_byte, Effect, IsWrong, byte_before, byte_or_start, effect, effect_byte, effects, last_touch, later, touch_of, touches, Item, Asked, Report, report, is_change, is_in, IsRunOf, IsFaultless, Passes, ExplainedPasses, PassingIsExplained, size_of}
+use Rattle.std.specs.Prelude.{◌++◌, ◌↔◌, length}
+use Rattle.nbd_wire.specs.protocol.ExportBytes.{IsWrongOf}
+use Rattle.nbd_wire.specs.protocol.Explains.{IsExplainedOf}
+use Rattle.nbd_wire.specs.protocol.Marks.{pairs}
+use Rattle.nbd_export.specs.Ranges.{AreSameBelow}
+use Rattle.nbd_laws.specs.Soundness.{ReportsAreSound}
+use Rattle.nbd_judge.proofs.contents.CompareLemmas.{wrong_there}
+use Rattle.nbd_judge.proofs.contents.StartLemmas.{wrong_more}
+use Rattle.nbd_order.specs.Chains.{ChainsAreOneHistory, ExplainedFromLess, HasNoneWrongInChain, KnowsLess, LeavesLess, Link, byte_in_chain, last_served, left_by_chain, served_by_chain, served_of, trim_of, trims}
+use Rattle.nbd_order.specs.Leaving.{are_open_at, forgotten, is_open, is_open_at, left}
+
+pub explained_from_less : ReportsAreSound → PassingIsExplained → ExplainedPasses → ExplainedFromLess
+explained_from_less sound passing only profile items order less more is_run fits knows explained =
+    let p : Passes profile (report items) order more = only profile items order more is_run explained in
+    passing profile items order less is_run record {
+      faultless = p.faultless;
+      fits_image = fits;
+      reads = λ i x w. p.reads i x (wrong_more (report items) (sound profile items is_run) order (start_byte less) (start_byte more) (λ y b inside e. knows y b inside e) i x w);
+    }
+
+-- what a change left is known as before, and what stood there at first as far as it was known
+less_touched : (l : Option Effect) (f g : ℕ → Option ℕ) (x b : ℕ) → (f x ≡ Some b → g x ≡ Some b) → byte_or_start l f x ≡ Some b → byte_or_start l g x ≡ Some b
+less_touched None f g x b more e = more e
+less_touched (Some l) f g x b more e = e
+
+less_if : (p : Bool) (u v : Option ℕ) (b : ℕ) → (u ≡ Some b → v ≡ Some b) → (if p then None else u) ≡ Some b → (if p then None else v) ≡ Some b
+less_if true u v b more e = e
+less_if false u v b more e = more e
+
+pub leaves_less : LeavesLess
+leaves_less r order n less more knows x b inside =
+    let touch = last_touch (effects r) x (take (length order) order) in
+    less_if (are_open_at r.asked x) (byte_or_start touch less x) (byte_or_start touch more x) b (less_touched touch less more x b (knows x b inside))
+
+later_assoc : (a b c : Option Effect) → later (later a b) c ≡ later a (later b c)
+later_assoc (Some a) b c = refl
+later_assoc None b c = refl
+
+abbrev Served : Type 0
+Served = List (Option Part × Option Effect)
+
+-- of two lists the last is looked up in the second one first
+last_append : (x : ℕ) (served more : Served) → last_served x (served ++ more) ≡ later (last_served x more) (last_served x served)
+last_append x [] more = none_later (last_served x more)
+  where
+    none_later : (o : Option Effect) → o ≡ later o None
+    none_later None = refl
+    none_later (Some e) = refl
+last_append x (one ∷ served) more =
+    ap (λ l. later l (touch_of one.0 one.1 x)) (last_append x served more)
+    ∙ later_assoc (last_served x more) (last_served x served) (touch_of one.0 one.1 x)
+
+-- what was left by two lists, one after the other
+pub left_behind : (a b : Option Effect) (initial : ℕ → Option ℕ) (x : ℕ) → byte_or_start a (λ y. byte_or_start b initial y) x ≡ byte_or_start (later a b) initial x
+left_behind (Some a) b initial x = refl
+left_behind None b initial x = refl
+
+-- the entries of an order touch x as what it serves does
+last_of_order : (requests : ℕ → Option Effect) (x : ℕ) (order : List Entry) → last_touch requests x order ≡ last_served x (served_of requests order)
+last_of_order requests x [] = refl
+last_of_order requests x (entry ∷ order) = ap (λ l. later l (touch_of entry.part (requests entry.request) x)) (last_of_order requests x order)
+
+pub take_whole : (order : List Entry) → take (length order) order ≡ order
+take_whole [] = refl
+take_whole (e ∷ order) = ap (λ l. e ∷ l) (take_whole order)
+
+-- a touch that is there or not
+touched_if : (l : Option Effect) (p : Bool) (t : Effect) (f : ℕ → Option ℕ) (x : ℕ) → byte_or_start (later l (if p then Some t else None)) f x ≡ (if p then byte_or_start (later l (Some t)) f x else byte_or_start l f x)
+touched_if l true t f x = refl
+touched_if (Some e) false t f x = refl
+touched_if None false t f x = refl
+
+-- behind changes that leave an unknown byte nothing is known
+unknown_behind : (l : Option Effect) (t : Effect) (f : ℕ → Option ℕ) (x : ℕ) → byte_or_start l (λ y. None) x ≡ None → effect_byte t x ≡ None → byte_or_start (later l (Some t)) f x ≡ None
+unknown_behind (Some e) t f x l_none t_none = l_none
+unknown_behind None t f x l_none t_none = t_none
+
+-- a TRIM of a request touches its range
+trim_touches : (a : Asked) (x : ℕ) → touches None (trim_of a) x ≡ is_in a.offset a.length x
+trim_touches a x = and_true (is_in a.offset a.length x)
+  where
+    and_true : (b : Bool) → (b && true) ≡ b
+    and_true true = refl
+    and_true false = refl
+
+one_trim : (a : Asked) (l : Option Effect) (f : ℕ → Option ℕ) (x : ℕ) →
+    byte_or_start (later l (touch_of None (Some (trim_of a)) x)) f x ≡ (if is_in a.offset a.length x then byte_or_start (later l (Some (trim_of a))) f x else byte_or_start l f x)
+one_trim a l f x = touched_if l (touches None (trim_of a) x) (trim_of a) f x
+    ∙ ap (λ p. if p then byte_or_start (later l (Some (trim_of a))) f x else byte_or_start l f x) (trim_touches a x)
+
+-- where nothing was known at first, nothing is known behind TRIMs
+trims_leave_none : (asked : List Asked) (x : ℕ) → byte_or_start (last_served x (trims asked)) (λ y. None) x ≡ None
+trims_leave_none [] x = refl
+trims_leave_none (a ∷ asked) x = go (is_open a) (trims_leave_none asked x)
+  where
+    both : (p : Bool) → byte_or_start (last_served x (trims asked)) (λ y. None) x ≡ None → (if p then byte_or_start (later (last_served x (trims asked)) (Some (trim_of a))) (λ y. None) x else byte_or_start (last_served x (trims asked)) (λ y. None) x) ≡ None
+    both true ih = unknown_behind (last_served x (trims asked)) (trim_of a) (λ y. None) x ih refl
+    both false ih = ih
+
+    go : (o : Bool) → byte_or_start (last_served x (trims asked)) (λ y. None) x ≡ None → byte_or_start (last_served x (if o then (None, Some (trim_of a)) ∷ trims asked else trims asked)) (λ y. None) x ≡ None
+    go true ih = one_trim a (last_served x (trims asked)) (λ y. None) x ∙ both (is_in a.offset a.length x) ih
+    go false ih = ih
+
+-- TRIMs of what is open forget it
+trims_forget : (asked : List Asked) (f : ℕ → Option ℕ) (x : ℕ) → byte_or_start (last_served x (trims asked)) f x ≡ (if are_open_at asked x then None else f x)
+trims_forget [] f x = refl
+trims_forget (a ∷ asked) f x = go (is_open a) (trims_forget asked f x)
+  where
+    both : (p : Bool) → byte_or_start (last_served x (trims asked)) f x ≡ (if are_open_at asked x then None else f x) → (if p then byte_or_start (later (last_served x (trims asked)) (Some (trim_of a))) f x else byte_or_start (last_served x (trims asked)) f x) ≡ (if p || are_open_at asked x then None else f x)
+    both true ih = unknown_behind (last_served x (trims asked)) (trim_of a) f x (trims_leave_none asked x) refl
+    both false ih = ih
+
+    go : (o : Bool) → byte_or_start (last_served x (trims asked)) f x ≡ (if are_open_at asked x then None else f x) → byte_or_start (last_served x (if o then (None, Some (trim_of a)) ∷ trims asked else trims asked)) f x ≡ (if (o && is_in a.offset a.length x) || are_open_at asked x then None else f x)
+    go true ih = one_trim a (last_served x (trims asked)) f x ∙ both (is_in a.offset a.length x) ih
+    go false ih = ih
+
+-- what a session leaves is what the last of all that it serves does, with its TRIMs
+left_served : (r : Report) (order : List Entry) (initial : ℕ → Option ℕ) (x : ℕ) → left r order initial x ≡ byte_or_start (last_served x (served_of (effects r) order ++ trims r.asked)) initial x
+left_served r order initial x =
+    ap (λ l. if are_open_at r.asked x then None else byte_or_start l initial x) (ap (last_touch (effects r) x) (take_whole order) ∙ last_of_order (effects r) x order)
+    ∙ sym (trims_forget r.asked (λ y. byte_or_start (last_served x (served_of (effects r) order)) initial y) x)
+    ∙ same_there (last_served x (trims r.asked)) (last_served x (served_of (effects r) order)) initial x
+    ∙ ap (λ l. byte_or_start l initial x) (sym (last_append x (served_of (effects r) order) (trims r.asked)))
+  where
+    same_there : (a b : Option Effect) (initial : ℕ → Option ℕ) (x : ℕ) → byte_or_start a (λ y. byte_or_start b initial y) x ≡ byte_or_start (later a b) initial x
+    same_there (Some a) b initial x = refl
+    same_there None b initial x = refl
+
+-- the byte at first counts only there
+pub first_there : (l : Option Effect) (f g : ℕ → Option ℕ) (x : ℕ) → f x ≡ g x → byte_or_start l f x ≡ byte_or_start l g x
+first_there None f g x same = same
+first_there (Some e) f g x same = refl
+
+-- a chain leaves what the last of all that it serves does
+chain_served : (links : List Link) (initial : ℕ → Option ℕ) (x : ℕ) → left_by_chain links initial x ≡ byte_or_start (last_served x (served_by_chain links)) initial x
+chain_served [] initial x = refl
+chain_served (link ∷ links) initial x =
+    let served = served_of (effects link.report) link.order ++ trims link.report.asked in
+    chain_served links (left link.report link.order initial) x
+    ∙ first_there (last_served x (served_by_chain links)) (left link.report link.order initial) (λ y. byte_or_start (last_served x served) initial y) x (left_served link.report link.order initial x)
+    ∙ left_behind (last_served x (served_by_chain links)) (last_served x served) initial x
+    ∙ ap (λ l. byte_or_start l initial x) (sym (last_append x served (served_by_chain links)))
+
+-- the byte at an entry, from what the chain left
+in_chain : (links : List Link) (r : Report) (order : List Entry) (initial : ℕ → Option ℕ) (i x : ℕ) → byte_before (effects r) order (left_by_chain links initial) i x ≡ byte_in_chain links r order initial i x
+in_chain links r order initial i x =
+    let served = served_of (effects r) (take i order) in
+    ap (λ l. byte_or_start l (left_by_chain links initial) x) (last_of_order (effects r) x (take i order))
+    ∙ first_there (last_served x served) (left_by_chain links initial) (λ y. byte_or_start (last_served x (served_by_chain links)) initial y) x (chain_served links initial x)
+    ∙ left_behind (last_served x served) (last_served x (served_by_chain links)) initial x
+    ∙ ap (λ l. byte_or_start l initial x) (sym (last_append x (served_by_chain links) served))
+
+wrong_as : (requests : ℕ → Option Effect) (entry : Entry) (byte other : ℕ → Option ℕ) (x : ℕ) → other x ≡ byte x → IsWrongOf requests entry byte x → IsWrongOf requests entry other x
+wrong_as requests entry byte other x same w = (w.0, w.1, wrong_there entry.part w.0 byte other x w.2 same)
+
+pub chains_are_one_history : ReportsAreSound → PassingIsExplained → ExplainedPasses → ChainsAreOneHistory
+chains_are_one_history sound passing only profile items order links initial start is_run fits same = (to, from)
+  where
+    to : IsExplainedOf profile (pairs items) order start → IsFaultless profile (report items) order × HasNoneWrongInChain links (report items) order initial
+    to explained =
+        let p : Passes profile (report items) order start = only profile items order start is_run explained in (
+          p.faultless,
+          λ i x entry at w.
+              p.reads i x
+              (wrong_more (report items) (sound profile items is_run) order (left_by_chain links initial) (start_byte start) (λ y b inside e. same y inside ∙ e) i x
+              (entry, at, wrong_as (effects (report items)) entry (byte_in_chain links (report items) order initial i) (byte_before (effects (report items)) order (left_by_chain links initial) i) x (in_chain links (report items) order initial i x) w)),
+        )
+
+    from : IsFaultless profile (report items) order × HasNoneWrongInChain links (report items) order initial → IsExplainedOf profile (pairs items) order start
+    from h = passing profile items order start is_run record {
+      faultless = h.0;
+      fits_image = fits;
+      reads = λ i x w.
+          let v = wrong_more (report items) (sound profile items is_run) order (start_byte start) (left_by_chain links initial) (λ y b inside e. sym (same y inside) ∙ e) i x w in
+          h.1 i x v.0 v.1 (wrong_as (effects (report items)) v.0 (byte_before (effects (report items)) order (left_by_chain links initial) i) (byte_in_chain links (report items) order initial i) x (sym (in_chain links (report items) order initial i x)) v.2);
+    }
