@@ -2,5 +2,6 @@ pub mod Chains
 pub mod Finding
 pub mod Leaving
 pub mod Splits
+pub mod Sure
 pub mod Unexplained
 pub mod internal
