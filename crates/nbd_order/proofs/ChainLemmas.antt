@@ -1,15 +1,14 @@
 -- Starts that know less, and sessions one after another.
-use Rattle.nbd_order.proofs.Common.{◌≡◌, ℕ, ◌+◌, ◌<◌, ◌==◌, ◌&&◌, ◌||◌, List, [], ◌∷◌, refl, sym, ap, subst, ◌∙◌, Bool, true, false, IsTrue, Option, Some, None, arith, take, slice_get, if◌then◌else◌, and_from, and_parts, Profile, Entry, Part, FitsImage, Start, start_byte, Effect, IsWrong, byte_before, byte_or_start, effect, effect_byte, effects, last_touch, later, touch_of, touches, Item, Asked, Report, report, is_change, is_in, IsRunOf, IsFaultless, Passes, ExplainedPasses, PassingIsExplained, size_of}
-use Rattle.std.specs.Prelude.{◌++◌, ◌↔◌, length}
+use Rattle.nbd_order.proofs.Common.{◌≡◌, ℕ, ◌&&◌, ◌||◌, List, [], ◌∷◌, refl, sym, ap, ◌∙◌, Bool, true, false, Option, Some, None, take, if◌then◌else◌, Entry, Part, start_byte, Effect, byte_before, byte_or_start, effect_byte, effects, last_touch, later, touch_of, touches, Asked, Report, report, is_in, IsFaultless, Passes, ExplainedPasses, PassingIsExplained}
+use Rattle.std.specs.Prelude.{◌++◌, length}
 use Rattle.nbd_wire.specs.protocol.ExportBytes.{IsWrongOf}
 use Rattle.nbd_wire.specs.protocol.Explains.{IsExplainedOf}
 use Rattle.nbd_wire.specs.protocol.Marks.{pairs}
-use Rattle.nbd_export.specs.Ranges.{AreSameBelow}
 use Rattle.nbd_laws.specs.Soundness.{ReportsAreSound}
 use Rattle.nbd_judge.proofs.contents.CompareLemmas.{wrong_there}
 use Rattle.nbd_judge.proofs.contents.StartLemmas.{wrong_more}
-use Rattle.nbd_order.specs.Chains.{ChainsAreOneHistory, ExplainedFromLess, HasNoneWrongInChain, KnowsLess, LeavesLess, Link, byte_in_chain, last_served, left_by_chain, served_by_chain, served_of, trim_of, trims}
-use Rattle.nbd_order.specs.Leaving.{are_open_at, forgotten, is_open, is_open_at, left}
+use Rattle.nbd_order.specs.Chains.{ChainsAreOneHistory, ExplainedFromLess, HasNoneWrongInChain, LeavesLess, Link, byte_in_chain, last_served, left_by_chain, served_by_chain, served_of, trim_of, trims}
+use Rattle.nbd_order.specs.Leaving.{are_open_at, is_open, left}
 
 pub explained_from_less : ReportsAreSound → PassingIsExplained → ExplainedPasses → ExplainedFromLess
 explained_from_less sound passing only profile items order less more is_run fits knows explained =

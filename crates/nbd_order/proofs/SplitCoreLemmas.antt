@@ -1,6 +1,6 @@
 -- What messages lead to behind requests that are finished, and what they lead to without these.
-use Rattle.nbd_order.proofs.Common.{◌≡◌, ℕ, zero, suc, ◌+◌, ◌<◌, ◌≤◌, ◌==◌, ◌&&◌, ◌||◌, List, [], ◌∷◌, length, refl, sym, ap, subst, ◌∙◌, Bool, true, false, not, IsTrue, Option, Some, None, arith, is_some, if◌then◌else◌, Profile, Entry, Item, Exporting, eq-eqb, eqb-true, and_from, or_cases, or_left, or_right, inl, inr}
-use Rattle.std.specs.Prelude.{◌++◌, ◌⊎◌, map}
+use Rattle.nbd_order.proofs.Common.{◌≡◌, ℕ, zero, suc, ◌+◌, ◌<◌, ◌≤◌, ◌==◌, ◌&&◌, ◌||◌, List, [], ◌∷◌, length, refl, sym, ap, subst, ◌∙◌, Bool, true, false, not, Option, Some, None, arith, if◌then◌else◌, Entry, Item, Exporting, eq-eqb, eqb-true, and_from, or_cases, or_left, or_right, inl, inr}
+use Rattle.std.specs.Prelude.{◌++◌, ◌⊎◌}
 use Rattle.std.proofs.Common.{append_assoc, length-append}
 use Rattle.nbd_wire.specs.declared.commands.TheConstants as commands
 use Rattle.nbd_wire.specs.declared.message.Message.{Message}

@@ -1,10 +1,9 @@
 -- A session in two parts is judged as the two are, one after the other.
-use Rattle.nbd_order.proofs.Common.{◌≡◌, ℕ, zero, suc, ◌+◌, ◌<◌, ◌≤◌, List, [], ◌∷◌, length, refl, sym, ap, subst, ◌∙◌, Bool, true, false, Option, Some, None, arith, take, slice_get, cases_lt, inl, inr, if◌then◌else◌, slice_get_within, Profile, Entry, Item, FitsImage, Start, start_byte, Effect, IsWrong, byte_before, byte_or_start, effects, last_touch, later, touch_of, Exporting, Report, due_in, inside_in, report, IsRunOf, IsFaultless, Passes, ExplainedPasses, PassingIsExplained, size_of}
-use Rattle.std.specs.Prelude.{◌++◌, ◌↔◌, ◌-◌, map}
+use Rattle.nbd_order.proofs.Common.{◌≡◌, ℕ, zero, suc, ◌+◌, ◌<◌, ◌≤◌, List, [], ◌∷◌, length, refl, sym, ap, subst, ◌∙◌, Option, Some, None, arith, take, slice_get, cases_lt, inl, inr, if◌then◌else◌, slice_get_within, Profile, Entry, Item, FitsImage, Start, start_byte, Effect, IsWrong, byte_before, byte_or_start, effects, last_touch, later, touch_of, Exporting, Report, due_in, inside_in, report, Passes, ExplainedPasses, PassingIsExplained, size_of}
+use Rattle.std.specs.Prelude.{◌++◌, ◌-◌}
 use Rattle.nbd_wire.specs.protocol.ExportBytes.{IsWrongIn, IsWrongOf}
-use Rattle.nbd_wire.specs.protocol.Explains.{Held, IsExplainedOf, known}
+use Rattle.nbd_wire.specs.protocol.Explains.{IsExplainedOf, known}
 use Rattle.nbd_wire.specs.protocol.Marks.{pairs}
-use Rattle.nbd_export.specs.Held.{held_from}
 use Rattle.nbd_export.proofs.HeldLemmas.{length-held_from, slice_get-held_from}
 use Rattle.nbd_laws.proofs.service.EntryLemmas.{HasNoFault}
 use Rattle.nbd_laws.proofs.worked.IndexLemmas.{by_entries, by_index}

@@ -1,12 +1,11 @@
 -- A session in two parts: what its report has of those of the parts.
-use Rattle.nbd_order.proofs.Common.{◌≡◌, ℕ, zero, suc, ◌+◌, ◌<◌, ◌≤◌, ◌==◌, ◌&&◌, ◌||◌, List, [], ◌∷◌, length, refl, sym, ap, subst, ◌∙◌, Bool, true, false, not, IsTrue, Option, Some, None, arith, nat_le, slice_get, if◌then◌else◌, leb-true, Profile, Base, Entry, Item, Effect, effect, effect_if, effects, Exporting, Asked, Report, asked_at, due_by_chunk, due_in, due_of, first_shown, inside_in, lesser_of, is_change, is_in, IsRunOf}
-use Rattle.std.specs.Prelude.{◌++◌, map}
+use Rattle.nbd_order.proofs.Common.{◌≡◌, ℕ, zero, suc, ◌+◌, ◌<◌, ◌≤◌, ◌&&◌, ◌||◌, List, [], ◌∷◌, length, refl, sym, ap, subst, ◌∙◌, Bool, true, false, not, Option, Some, None, arith, nat_le, if◌then◌else◌, leb-true, Profile, Base, Item, Effect, effect, effect_if, effects, Exporting, Asked, Report, asked_at, due_by_chunk, due_in, due_of, first_shown, inside_in, lesser_of, is_change, is_in}
+use Rattle.std.specs.Prelude.{◌++◌}
 use Rattle.std.proofs.Common.{append-nil, length-append}
-use Rattle.nbd_wire.specs.protocol.Marks.{without_service}
 use Rattle.nbd_wire.specs.protocol.Operations.{Failure, Operation, Pending, Success, has_failed, is_chunked, is_finished, outcome}
 unfoldable use Rattle.nbd_wire.specs.protocol.Reports.{report}
-use Rattle.nbd_wire.specs.protocol.Reports.{asked_list, asked_of, known_count, operations_of}
-use Rattle.nbd_wire.specs.protocol.Rules.{Obeys, ends_at, inside_at, inside_operation}
+use Rattle.nbd_wire.specs.protocol.Reports.{asked_list, asked_of, known_count}
+use Rattle.nbd_wire.specs.protocol.Rules.{Obeys, ends_at, inside_operation}
 use Rattle.nbd_wire.specs.protocol.Sizes.{sizes_kept}
 use Rattle.nbd_wire.specs.protocol.States.{Core, Transmission, export_in, in_force, operation, start, start_of}
 use Rattle.nbd_wire.specs.protocol.Verdicts.{is_answered}
@@ -18,9 +17,9 @@ use Rattle.nbd_laws.proofs.service.DueLemmas.{due_from, or_later}
 use Rattle.nbd_laws.proofs.service.InsideLemmas.{core_end}
 use Rattle.nbd_laws.proofs.service.MomentLemmas.{due-report, inside-report}
 use Rattle.nbd_laws.specs.Profiles.{with_profile}
-use Rattle.nbd_laws.specs.Soundness.{IsAfter, IsSoundReport, ReportsAreSound}
-use Rattle.nbd_order.proofs.SplitCoreLemmas.{AllDone, Behind, HasEnded, due_append, due_behind, due_completed, due_unserved, end_append, end_behind, end_unserved, ended_end, inside_behind, operation_before, operation_behind, plus}
-use Rattle.nbd_order.specs.Leaving.{are_open_at, is_open}
+use Rattle.nbd_laws.specs.Soundness.{IsAfter, ReportsAreSound}
+use Rattle.nbd_order.proofs.SplitCoreLemmas.{AllDone, Behind, HasEnded, due_append, due_behind, due_completed, due_unserved, end_append, end_behind, end_unserved, ended_end, operation_before, operation_behind, plus}
+use Rattle.nbd_order.specs.Leaving.{are_open_at}
 use Rattle.nbd_order.specs.Splits.{IsCut, StandsAgain, core_of}
 
 -- what the reports of a session and of its parts have of each other, where the first part has n requests

@@ -1,8 +1,7 @@
 -- A session in two parts, of which the second stands as a session of its own behind another negotiation.
-use Rattle.std.specs.Prelude.{ℕ, List, [], ◌++◌, ◌+◌, ◌<◌, ◌≡◌, ◌↔◌, Option, Some, length, map}
+use Rattle.std.specs.Prelude.{ℕ, List, [], ◌++◌, ◌+◌, ◌<◌, ◌≡◌, ◌↔◌, Some, length, map}
 use Rattle.nbd_wire.specs.declared.entry.Entry.{Entry}
 use Rattle.nbd_wire.specs.declared.profile.Profile.{Profile}
-use Rattle.nbd_wire.specs.protocol.Contexts.{Context}
 use Rattle.nbd_wire.specs.protocol.Explains.{Held, IsExplainedOf, Start, start_byte}
 use Rattle.nbd_wire.specs.protocol.Marks.{Item, pairs, without_service}
 use Rattle.nbd_wire.specs.protocol.Operations.{Exporting, Pending}

@@ -6,7 +6,7 @@ use Rattle.nbd_export.specs.Starts as contents
 use Rattle.nbd_export.specs.declared.start.Start as contents_start
 use Rattle.nbd_export.specs.declared.start.Start.TheVariants as contents_starts
 use Rattle.nbd_judge.specs.declared.verdict.Verdict.TheVariants as verdict
-use Rattle.std.specs.Prelude.{[], ◌∷◌, zero, suc, map, length, slice_get}
+use Rattle.std.specs.Prelude.{[], ◌∷◌, zero, suc, map, slice_get}
 use Rattle.std.proofs.lemmas.List.{length-map}
 use Rattle.nbd_export.specs.Extents.{byte_of, size_of as extent_size}
 use Rattle.nbd_export.proofs.HeldLemmas.{length-held_from, slice_get-held_from}

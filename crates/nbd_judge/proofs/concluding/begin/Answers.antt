@@ -1,4 +1,4 @@
-use Rattle.nbd_judge.proofs.Common.{◌≡◌, ℕ, None, Some, Option, sym, ◌∙◌, given_length, initial_of}
+use Rattle.nbd_judge.proofs.Common.{◌≡◌, ℕ, None, Some, sym, ◌∙◌, given_length, initial_of}
 use Rattle.nbd_judge.proofs.contents.StartLemmas.{image_fits, same_start, start_fits}
 use Rattle.nbd_judge.proofs.concluding.begin.Goals as goal
 use Rattle.nbd_judge.proofs.concluding.begin.Goals.{in-Some+else-image-size, in_default}

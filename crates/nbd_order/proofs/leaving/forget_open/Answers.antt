@@ -1,5 +1,5 @@
-use Rattle.nbd_order.proofs.Common.{◌≡◌, ℕ, Option, Some, None, refl, sym, ◌∙◌, ap, subst, arith, take}
-use Rattle.std.specs.Prelude.{◌<◌, ◌≤◌, true, false, slice_get, length}
+use Rattle.nbd_order.proofs.Common.{ℕ, Option, refl, sym, ◌∙◌, ap, subst}
+use Rattle.std.specs.Prelude.{◌<◌, ◌≤◌}
 use Rattle.std.proofs.lemmas.List.{take_all}
 use Rattle.nbd_state.specs.Transcripts.{report_of_request}
 use Rattle.nbd_order.specs.Leaving.{forgotten}

@@ -1,4 +1,4 @@
-use Rattle.nbd_order.proofs.Common.{◌≡◌, ℕ, ◌<◌, Option, sym, ap, ◌∙◌, subst}
+use Rattle.nbd_order.proofs.Common.{ℕ, ◌<◌, Option, sym, ◌∙◌, subst}
 use Rattle.nbd_wire.specs.protocol.Explains.{FitsImage}
 use Rattle.nbd_wire.specs.protocol.Operations.{Exporting}
 use Rattle.nbd_export.specs.Extents.{byte_of, size_of}

@@ -1,4 +1,3 @@
-use Rattle.nbd_order.proofs.Common.{◌≡◌, sym, ◌∙◌}
 use Rattle.nbd_export.specs.Extents.{byte_of, size_of}
 use Rattle.nbd_judge.specs.Captures.{SaysYes}
 use Rattle.nbd_judge.specs.Left.{byte_behind}
