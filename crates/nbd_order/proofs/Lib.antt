@@ -17,5 +17,7 @@ pub mod SplitLemmas
 pub mod SplitOrderLemmas
 pub mod StateLemmas
 pub mod SureLemmas
+pub mod SurenessLemmas
+pub mod TimedLemmas
 pub mod ToldLemmas
 pub mod TouchLemmas

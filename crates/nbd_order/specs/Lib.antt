@@ -3,5 +3,6 @@ pub mod Finding
 pub mod Leaving
 pub mod Splits
 pub mod Sure
+pub mod Sureness
 pub mod Unexplained
 pub mod internal

@@ -3,6 +3,7 @@
 ghost use Rattle.nbd_order.specs.Chains.{ChainsAreOneHistory, ExplainedFromLess, LeavesLess};
 ghost use Rattle.nbd_order.specs.Finding.{FoundIsSo};
 ghost use Rattle.nbd_order.specs.Splits.{SplitsAreExplained, SplitsLeaveTheSame};
+ghost use Rattle.nbd_order.specs.Sureness.{SureIsLeft, SureOfLessIsLeft};
 ghost use Rattle.nbd_order.specs.Unexplained.{RefutedIsUnexplained};
 
 use nbd_laws::laws::{explained_exactly, reports_are_sound};
@@ -52,5 +53,14 @@ pub fn splits_are_explained()
     ensures left { SplitsLeaveTheSame }
 {
     reports_are_sound();
+    explained_exactly();
+}
+
+/// What is sure behind a session is left by each order that explains it; also where the start knew less. So, with
+/// `less_explains_more`, a chain of sessions without orders says no only where no choice of orders explains each of them.
+pub fn sure_is_left()
+    ensures sure { SureIsLeft }
+    ensures less { SureOfLessIsLeft }
+{
     explained_exactly();
 }
