@@ -17,8 +17,6 @@ use Rattle.nbd_export.specs.Ranges.{AreSameBelow, overlay, unknown}
 use Rattle.nbd_export.proofs.HeldLemmas.{held_from-same}
 use Rattle.nbd_laws.specs.Soundness.{IsSoundReport}
 use Rattle.nbd_judge.specs.Servable.{size_of as export_size}
-use Rattle.nbd_judge.specs.Verdicts.{IsJudged, IsVerdict}
-use Rattle.nbd_judge.specs.declared.verdict.Verdict.{Verdict}
 use Rattle.nbd_judge.proofs.contents.StartLemmas.{left_same, report_of_conclusion}
 use Rattle.nbd_order.specs.declared.leaving.Left.{Left}
 use Rattle.nbd_order.specs.declared.leaving.Left.TheVariants.{Contents, NoExport, Refused}
@@ -34,7 +32,7 @@ or_swap true false r = refl
 or_swap false q r = refl
 
 -- one more request
-push : (xs : List Asked) (a : Asked) (x : ℕ) → are_open_at (xs ++ a ∷ []) x ≡ (is_open_at x a || are_open_at xs x)
+pub push : (xs : List Asked) (a : Asked) (x : ℕ) → are_open_at (xs ++ a ∷ []) x ≡ (is_open_at x a || are_open_at xs x)
 push [] a x = refl
 push (b ∷ xs) a x = ap (λ q. is_open_at x b || q) (push xs a x) ∙ or_swap (is_open_at x b) (is_open_at x a) (are_open_at xs x)
 

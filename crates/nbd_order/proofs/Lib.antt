@@ -1,10 +1,16 @@
+pub mod AddingLemmas
 pub mod Common
 pub mod DueLemmas
 pub mod FoundLemmas
+pub mod HereLemmas
 pub mod LeavingLemmas
 pub mod NumberLemmas
 pub mod OffsetLemmas
+pub mod PartLemmas
 pub mod RefutationLemmas
 pub mod ServiceLemmas
+pub mod SettleLemmas
 pub mod StateLemmas
+pub mod SureLemmas
+pub mod ToldLemmas
 pub mod TouchLemmas

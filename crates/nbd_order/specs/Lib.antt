@@ -1,4 +1,5 @@
 pub mod Finding
 pub mod Leaving
+pub mod Sure
 pub mod Unexplained
 pub mod internal

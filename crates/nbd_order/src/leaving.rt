@@ -7,6 +7,7 @@ ghost use Rattle.nbd_order.specs.Leaving.{IsLeft, IsLeftOn, IsLeftWithout, forgo
 ghost use Rattle.nbd_export.specs.Extents.{byte_of, size_of};
 ghost use Rattle.nbd_judge.specs.Captures.{SaysYes};
 ghost use Rattle.nbd_judge.specs.Servable as judged;
+ghost use Rattle.nbd_order.specs.Sure.{IsLeftByEach};
 ghost use Rattle.nbd_state.specs.Transcripts.{report_of_request};
 
 use crate::sweep::sweep;
@@ -96,7 +97,9 @@ pub fn left_by_each(
     alloc: Global,
     transcript: &Transcript,
     start: Start,
-) -> Result<Left, AllocError> {
+) -> Result<Left, AllocError>
+    ensures { IfOk result (IsLeftByEach transcript.now (initial_of start)) }
+{
     let Some((size, _)) = transcript.export() else {
         return Ok(Left::NoExport);
     };
@@ -125,8 +128,8 @@ pub fn forget_open<C: Contents>(transcript: &Transcript, contents: &mut C) -> Re
     Ok(())
 }
 
-// Its range, in bytes from the export's start.
-fn range_of(one: &Asked) -> Span
+/// Its range, in bytes from the export's start.
+pub(crate) fn range_of(one: &Asked) -> Span
     ensures { result ≡ record { offset = one.now.offset; size = one.now.length } }
 {
     Span {
@@ -135,8 +138,8 @@ fn range_of(one: &Asked) -> Span
     }
 }
 
-// Whether it is a change that no reply has finished.
-fn is_open(one: &Asked) -> bool
+/// Whether it is a change that no reply has finished.
+pub(crate) fn is_open(one: &Asked) -> bool
     ensures { result ≡ is_open (report_of_request one.now) }
 {
     match one.outcome {

@@ -4,14 +4,17 @@
 
 mod due;
 pub mod finding;
+mod here;
 mod judging;
 pub mod laws;
 pub mod leaving;
 mod offsets;
+mod parts;
 pub mod refutation;
 pub mod refuting;
 mod states;
 mod sweep;
+mod touches;
 
 pub use finding::{Found, Scope, Wanted, find, usual_limits};
 pub use leaving::{Left, forget_open, left_by, left_by_each};

@@ -1,0 +1,202 @@
+-- Ranges of the contents, made what is sure of them one after the other.
+use Rattle.nbd_order.proofs.Common.{◌≡◌, ℕ, ◌+◌, ◌<◌, ◌≤◌, inl, inr, List, [], ◌∷◌, refl, sym, ◌∙◌, ap, Option, Some, None, Bool, true, false, IsTrue, if◌then◌else◌, arith, length, nat_le, nat_lt, slice_get, drop, and_from, and_parts, cases_lt, leb-true, ltb-true, subst, Asked, Report, Piece, Exporting, asked_at, byte_at, effect, effect_byte, is_change, is_in, piece_offset, piece_size}
+use Rattle.std.specs.Prelude.{◌-◌, zero, suc, slice_range, OnOk, Result, Ok, Err, IsSome}
+use Rattle.std.proofs.lemmas.Bool.{and_left, and_right, le-leb, le-ltb, lt-leb, lt-ltb}
+use Rattle.nbd_export.proofs.HeldLemmas.{held_from-same}
+use Rattle.nbd_export.specs.Extents.{byte_of, size_of}
+use Rattle.nbd_export.specs.Held.{held, held_from}
+use Rattle.nbd_export.specs.Ranges.{AreSameBelow, bytes_from, overlay}
+use Rattle.nbd_export.specs.declared.extents.Extents.{Extents}
+use Rattle.nbd_judge.proofs.contents.RangeLemmas.{range_get, range_length}
+use Rattle.nbd_laws.specs.Soundness.{AreLaid, IsSoundAsked, IsSoundReport}
+use Rattle.nbd_wire.specs.protocol.Pieces.{holds, piece_byte}
+use Rattle.nbd_order.specs.Sure.{byte_behind_last, changes, last_number, sure}
+use Rattle.nbd_order.specs.declared.here.Here.{Here}
+use Rattle.nbd_order.specs.declared.parts.Part.{Part}
+use Rattle.nbd_order.specs.internal.Parts.{part_here}
+use Rattle.nbd_order.specs.declared.here.Got.{Got}
+use Rattle.nbd_order.specs.declared.here.Holds.{Holds}
+use Rattle.nbd_order.specs.declared.here.Holds.TheVariants.{Change, Read}
+use Rattle.nbd_order.specs.internal.Here.{here_at, held_by}
+use Rattle.nbd_order.proofs.SureLemmas.{IsShown, shown}
+use Rattle.nbd_order.proofs.PartLemmas.{none_left, part_at, part_past}
+
+pub on_ok : {A E P Q : Type 0} (o : Result A E) → OnOk o P → (P → Q) → OnOk o Q
+on_ok (Ok a) h f = f h
+on_ok (Err e) h f = h
+
+pub in_range : (offset n x : ℕ) → is_in offset n x ≡ true → (offset ≤ x) × (x < offset + n)
+in_range offset n x e = (let w = and_parts (nat_le offset x) (nat_lt x (offset + n)) e in (leb-true offset x w.0, ltb-true x (offset + n) w.1))
+
+pub to_range : (offset n x : ℕ) → offset ≤ x → x < offset + n → is_in offset n x ≡ true
+to_range offset n x lo hi = and_from (nat_le offset x) (nat_lt x (offset + n)) (le-leb offset x lo) (lt-ltb x (offset + n) hi)
+
+before_range : (offset n x : ℕ) → x < offset → is_in offset n x ≡ false
+before_range offset n x l = and_left (nat_le offset x) (nat_lt x (offset + n)) (lt-leb offset x l)
+
+behind_range : (offset n x : ℕ) → offset + n ≤ x → is_in offset n x ≡ false
+behind_range offset n x l = and_right (nat_le offset x) (nat_lt x (offset + n)) (le-ltb x (offset + n) l)
+
+-- the same bytes inside
+pub overlay_same : (offset n : ℕ) (f g old : ℕ → Option ℕ) (x : ℕ) → (IsTrue (is_in offset n x) → f x ≡ g x) → overlay offset n f old x ≡ overlay offset n g old x
+overlay_same offset n f g old x h = go (is_in offset n x) h
+  where
+    go : (b : Bool) → (IsTrue b → f x ≡ g x) → (if b then f x else old x) ≡ (if b then g x else old x)
+    go true h = h refl
+    go false h = refl
+
+-- inside the bytes that are there
+pub overlay_kept : (offset n : ℕ) (f old : ℕ → Option ℕ) (x : ℕ) → (IsTrue (is_in offset n x) → f x ≡ old x) → old x ≡ overlay offset n f old x
+overlay_kept offset n f old x h = go (is_in offset n x) h
+  where
+    go : (b : Bool) → (IsTrue b → f x ≡ old x) → old x ≡ (if b then f x else old x)
+    go true h = sym (h refl)
+    go false h = refl
+
+-- some of the bytes that stand there
+pub sliced : (bytes slice : List ℕ) (first offset n : ℕ) (old : ℕ → Option ℕ) (x : ℕ) → first ≤ offset → offset + n ≤ first + length bytes
+    → slice ≡ slice_range bytes (offset - first) (offset - first + n) → overlay offset (length slice) (bytes_from offset slice) old x ≡ overlay offset n (bytes_from first bytes) old x
+sliced bytes slice first offset n old x lo hi is =
+    ap (λ m. overlay offset m (bytes_from offset slice) old x) (ap length is ∙ range_length bytes (offset - first) n (omega arith))
+    ∙ overlay_same offset n (bytes_from offset slice) (bytes_from first bytes) old x
+    (λ h. let w = in_range offset n x h in let from : offset ≤ x = w.0 in let to : x < offset + n = w.1 in
+    ap (λ l. slice_get l (x - offset)) is ∙ range_get bytes (offset - first) n (x - offset) (omega arith)
+    ∙ (let e : offset - first + (x - offset) ≡ x - first = omega arith in ap (slice_get bytes) e))
+
+-- what is sure at x depends on the bytes at first only there
+pub sure_same : (r : Report) (f g : ℕ → Option ℕ) (x : ℕ) → f x ≡ g x → sure r f x ≡ sure r g x
+sure_same r f g x e = go (last_number (changes x) r.asked)
+  where
+    go : (o : Option ℕ) → byte_behind_last r.asked f x o ≡ byte_behind_last r.asked g x o
+    go (Some n) = refl
+    go None = e
+
+-- one range more
+module _ (r : Report) (first old new : ℕ → Option ℕ) (at end size : ℕ) (some : at < end) (fits : end ≤ size) where
+  pub step_done : ((x : ℕ) → x < at → old x ≡ sure r first x) → ((x : ℕ) → at ≤ x → x < size → old x ≡ first x)
+      → ((x : ℕ) → x < size → new x ≡ overlay at (end - at) (sure r old) old x) → (x : ℕ) → x < end → new x ≡ sure r first x
+  step_done done rest made x l =
+      made x (omega arith)
+      ∙ elim (cases_lt x at) [
+        | inl before ↦ ap (λ b. if b then sure r old x else old x) (before_range at (end - at) x before) ∙ done x before
+        | inr behind ↦ ap (λ b. if b then sure r old x else old x) (to_range at (end - at) x behind (omega arith)) ∙ sure_same r old first x (rest x behind (omega arith))
+      ]
+
+  pub step_rest : ((x : ℕ) → at ≤ x → x < size → old x ≡ first x) → ((x : ℕ) → x < size → new x ≡ overlay at (end - at) (sure r old) old x)
+      → (x : ℕ) → end ≤ x → x < size → new x ≡ first x
+  step_rest rest made x l h = made x h ∙ ap (λ b. if b then sure r old x else old x) (behind_range at (end - at) x (omega arith)) ∙ rest x (omega arith) h
+
+-- what the part tells that comes next
+pub told_here : (parts : List Part) (i : ℕ) (p : Part) (x : ℕ) (h : Here) → slice_get parts i ≡ Some p → x < p.end → part_here (drop i parts) x ≡ part_here parts x → part_here parts x ≡ Some h → h ≡ p.here
+told_here parts i p x h at l left is = let e : Some h ≡ Some p.here = sym is ∙ sym left ∙ part_at parts i p x at l in (cc)
+
+pub left_next : (parts : List Part) (i : ℕ) (p : Part) (x : ℕ) → slice_get parts i ≡ Some p → p.end ≤ x → part_here (drop i parts) x ≡ part_here parts x → part_here (drop (i + 1) parts) x ≡ part_here parts x
+left_next parts i p x at l left = (let e : i + 1 ≡ suc i = omega arith in ap (λ n. part_here (drop n parts) x) e) ∙ sym (part_past parts i p x at l) ∙ left
+
+-- no offset is left behind the last part
+pub none_behind : {P : Type 0} (parts : List Part) (i x : ℕ) (h : Here) → length parts ≤ i → part_here (drop i parts) x ≡ part_here parts x → part_here parts x ≡ Some h → P
+none_behind parts i x h l left is = absurd (let e : None ≡ Some h = sym (none_left parts i x l) ∙ left ∙ is in (cc))
+
+-- Requests of a sound report.
+
+pub sound_asked : (r : Report) → IsSoundReport r → (k : ℕ) (a : Asked) → asked_at k r.asked ≡ Some a → (size : ℕ) × IsSoundAsked size (length r.asked) k a
+sound_asked r sound k a at = go r.export refl
+  where
+    none_at : (k : ℕ) → asked_at k [] ≡ Some a → ⊥
+    none_at zero e = let q : None ≡ Some a = e in (cc)
+    none_at (suc k) e = let q : None ≡ Some a = e in (cc)
+
+    go : (o : Option Exporting) → r.export ≡ o → (size : ℕ) × IsSoundAsked size (length r.asked) k a
+    go (Some export) e = (export.size, sound.each export k a e at)
+    go None e = absurd (none_at k (sym (ap (asked_at k) (sound.none e)) ∙ at))
+
+-- the first piece that holds x gives it
+holder : (pieces : List Piece) (x i : ℕ) (p : Piece) → slice_get pieces i ≡ Some p → holds p x ≡ true → (j : ℕ) × (q : Piece) × (slice_get pieces j ≡ Some q) × (holds q x ≡ true) × (byte_at pieces x ≡ Some (piece_byte q x))
+holder [] x i p at has = absurd (cc)
+holder (q ∷ pieces) x i p at has = go (holds q x) refl (λ i at. holder pieces x i p at has) i at
+  where
+    go : (b : Bool) → holds q x ≡ b
+        → ((i : ℕ) → slice_get pieces i ≡ Some p → (j : ℕ) × (q : Piece) × (slice_get pieces j ≡ Some q) × (holds q x ≡ true) × (byte_at pieces x ≡ Some (piece_byte q x)))
+        → (i : ℕ) → slice_get (q ∷ pieces) i ≡ Some p → (j : ℕ) × (d : Piece) × (slice_get (q ∷ pieces) j ≡ Some d) × (holds d x ≡ true) × (byte_at (q ∷ pieces) x ≡ Some (piece_byte d x))
+    go true e f i at = (zero, q, refl, e, ap (λ b. if b then Some (piece_byte q x) else byte_at pieces x) e)
+    go false e f zero at = absurd (let s : q ≡ p = cc in let z : false ≡ true = sym e ∙ ap (λ (y : Piece). holds y x) s ∙ has in (cc))
+    go false e f (suc i) at = (let h = f i at in (suc h.0, h.1, h.2, h.3, ap (λ b. if b then Some (piece_byte q x) else byte_at pieces x) e ∙ h.4))
+
+-- where no two pieces share an offset
+pub piece_gives : (offset len : ℕ) (pieces : List Piece) → AreLaid offset len pieces → (x i : ℕ) (p : Piece) → slice_get pieces i ≡ Some p → holds p x ≡ true → byte_at pieces x ≡ Some (piece_byte p x)
+piece_gives offset len pieces laid x i p at has =
+    let h = holder pieces x i p at has in
+    let same : i ≡ h.0 = laid.apart i h.0 p h.1 x at h.2 has h.3 in
+    let e : Some p ≡ Some h.1 = sym at ∙ ap (slice_get pieces) same ∙ h.2 in
+    let q : h.1 ≡ p = cc in
+    h.4 ∙ ap (λ (y : Piece). Some (piece_byte y x)) q
+
+-- A range of which the same is told at each offset.
+module _ (r : Report) (initial : ℕ → Option ℕ) (h : Here) (offset n : ℕ) (some : 0 < n) (told : (x : ℕ) → IsTrue (is_in offset n x) → here_at r.asked x ≡ h) where
+  pub shown_in : (o : Holds) → o ≡ held_by h → (x : ℕ) → IsTrue (is_in offset n x) → IsShown r initial x o
+  shown_in o is x inside = subst (IsShown r initial x) (sym (is ∙ ap held_by (sym (told x inside)))) (shown r initial x)
+
+  first_in : IsTrue (is_in offset n offset)
+  first_in = to_range offset n offset (omega arith) (omega arith)
+
+  last_in : IsTrue (is_in offset n (offset + n - 1))
+  last_in = to_range offset n (offset + n - 1) (omega arith) (omega arith)
+
+  pub change_some : (k : ℕ) → Change k ≡ held_by h → IsSome (asked_at k r.asked)
+  change_some k is = (let s = shown_in (Change k) is offset first_in in subst IsSome (sym s.1) refl)
+
+  module _ (k : ℕ) (is : Change k ≡ held_by h) (a : Asked) (at : asked_at k r.asked ≡ Some a) where
+    pub change_in : (x : ℕ) → IsTrue (is_in offset n x) → (changes x a ≡ true) × (sure r initial x ≡ effect_byte (effect a) x)
+    change_in x inside =
+        let s = shown_in (Change k) is x inside in
+        let e : Some s.0 ≡ Some a = sym s.1 ∙ at in
+        let q : s.0 ≡ a = cc in
+        (ap (changes x) (sym q) ∙ s.2, s.3 ∙ ap (λ (y : Asked). effect_byte (effect y) x) q)
+
+    lies : (x : ℕ) → IsTrue (is_in offset n x) → (a.offset ≤ x) × (x < a.offset + a.length)
+    lies x inside = in_range a.offset a.length x (and_parts (is_change a.command) (is_in a.offset a.length x) (change_in x inside).0).1
+
+    pub change_first : a.offset ≤ offset
+    change_first = (lies offset first_in).0
+
+    pub change_last : offset + n ≤ a.offset + a.length
+    change_last = (let l = (lies (offset + n - 1) last_in).1 in omega (arith, l))
+
+  pub read_some : (got : Got) → Read got ≡ held_by h → IsSome (asked_at got.number r.asked)
+  read_some got is = (let s = shown_in (Read got) is offset first_in in subst IsSome (sym s.2) refl)
+
+  module _ (got : Got) (is : Read got ≡ held_by h) (a : Asked) (at : asked_at got.number r.asked ≡ Some a) where
+    pub read_in : (x : ℕ) → IsTrue (is_in offset n x) → (p : Piece) × (slice_get a.pieces got.piece ≡ Some p) × (holds p x ≡ true) × (sure r initial x ≡ byte_at a.pieces x)
+    read_in x inside =
+        let s = shown_in (Read got) is x inside in
+        let e : Some s.0 ≡ Some a = sym s.2 ∙ at in
+        let q : s.0 ≡ a = cc in
+        (s.1, ap (λ (y : Asked). slice_get y.pieces got.piece) (sym q) ∙ s.3, s.4, s.5 ∙ ap (λ (y : Asked). byte_at y.pieces x) q)
+
+    pub piece_some : IsSome (slice_get a.pieces got.piece)
+    piece_some = subst IsSome (sym (read_in offset first_in).1) refl
+
+    module _ (p : Piece) (is_piece : slice_get a.pieces got.piece ≡ Some p) where
+      pub piece_in : (x : ℕ) → IsTrue (is_in offset n x) → holds p x ≡ true
+      piece_in x inside =
+          let s = read_in x inside in
+          let e : Some s.0 ≡ Some p = sym s.1 ∙ is_piece in
+          let q : s.0 ≡ p = cc in
+          ap (λ (y : Piece). holds y x) (sym q) ∙ s.2
+
+      pub piece_first : piece_offset p ≤ offset
+      piece_first = (in_range (piece_offset p) (piece_size p) offset (piece_in offset first_in)).0
+
+      pub piece_last : offset + n ≤ piece_offset p + piece_size p
+      piece_last = (let l = (in_range (piece_offset p) (piece_size p) (offset + n - 1) (piece_in (offset + n - 1) last_in)).1 in omega (arith, l))
+
+      pub piece_sure : AreLaid a.offset a.length a.pieces → (x : ℕ) → IsTrue (is_in offset n x) → sure r initial x ≡ Some (piece_byte p x)
+      piece_sure laid x inside = (read_in x inside).3 ∙ piece_gives a.offset a.length a.pieces laid x got.piece p is_piece (piece_in x inside)
+
+-- What is held, where each byte is what is sure of the start's.
+pub sure_held : (r : Report) (e : Extents) (first initial : ℕ → Option ℕ) (size n : ℕ) → size_of e ≡ size → size ≡ n → AreSameBelow size (byte_of e) (sure r first) → AreSameBelow n first initial
+    → held e ≡ held_from (sure r initial) 0 n
+sure_held r e first initial size n a b same starts =
+    ap (held_from (byte_of e) 0) (a ∙ b)
+    ∙ held_from-same (byte_of e) (sure r initial) 0 n
+    (λ x lo hi. let l : x < n = omega arith in same x (subst (λ (m : ℕ). x < m) (sym b) l) ∙ sure_same r first initial x (starts x l))

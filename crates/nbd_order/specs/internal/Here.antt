@@ -1,0 +1,104 @@
+-- What the requests of a session tell of an offset.
+use Rattle.std.specs.Prelude.{ℕ, zero, suc, List, ◌||◌, Bool, false, nat_le, nat_lt, Option, Some, None, if◌then◌else◌, length, max, min, slice_get}
+use Rattle.std.specs.Option.{option_or, unwrap_or}
+use Rattle.nbd_wire.specs.declared.payloads.Piece.{Piece}
+use Rattle.nbd_wire.specs.protocol.Operations.{is_change}
+use Rattle.nbd_wire.specs.protocol.Pieces.{holds, is_in}
+use Rattle.nbd_wire.specs.protocol.Reports.{Asked}
+use Rattle.nbd_order.specs.Leaving.{is_open}
+use Rattle.nbd_order.specs.Sure.{is_read, leaves_unknown}
+use Rattle.nbd_order.specs.declared.here.Got.{Got}
+use Rattle.nbd_order.specs.declared.here.Here.{Here}
+use Rattle.nbd_order.specs.declared.here.Holds.{Holds}
+use Rattle.nbd_order.specs.declared.here.Holds.TheVariants.{Change, First, Read, Unknown}
+
+-- no request tells anything
+abbrev pub nothing : Here
+nothing = record { any_open = false; last = None; latest = 0; second = 0; vague = 0; read = None }
+
+-- what earlier requests tell, and later ones
+abbrev pub joined : Here → Here → Here
+joined earlier later = record {
+  any_open = earlier.any_open || later.any_open;
+  last = option_or later.last earlier.last;
+  latest = max earlier.latest later.latest;
+  second = max (max earlier.second later.second) (min earlier.latest later.latest);
+  vague = max earlier.vague later.vague;
+  read = option_or later.read earlier.read;
+}
+
+-- how many requests had completed when its first reply began, 0 where none did
+abbrev pub known : Asked → ℕ
+known a = unwrap_or a.known_at 0
+
+-- what request k tells, a change
+abbrev pub of_change : (k : ℕ) → Asked → Here
+of_change k a = record {
+  any_open = is_open a;
+  last = Some k;
+  latest = known a;
+  second = 0;
+  vague = if leaves_unknown a then known a else 0;
+  read = None;
+}
+
+-- what piece i of request k tells, a READ
+abbrev pub of_piece : (k i : ℕ) → Here
+of_piece k i = record {
+  any_open = false;
+  last = None;
+  latest = 0;
+  second = 0;
+  vague = 0;
+  read = Some (record { number = k; piece = i });
+}
+
+-- the same, or nothing
+abbrev pub here_if : Bool → Here → Here
+here_if is_told here = if is_told then here else nothing
+
+-- what piece i of request k tells of x, if there is one
+abbrev pub piece_here : (k i : ℕ) → Option Piece → (x : ℕ) → Here
+piece_here k i (Some p) x = here_if (holds p x) (of_piece k i)
+piece_here k i None x = nothing
+
+-- what the first n of these pieces of request k tell of x
+abbrev pub pieces_here : (k : ℕ) → List Piece → (x n : ℕ) → Here
+pieces_here k pieces x zero = nothing
+pieces_here k pieces x (suc n) = joined (pieces_here k pieces x n) (piece_here k n (slice_get pieces n) x)
+
+-- what request k tells of x
+abbrev pub request_here : (k : ℕ) → Asked → (x : ℕ) → Here
+request_here k a x =
+    if is_change a.command then here_if (is_in a.offset a.length x) (of_change k a)
+    else here_if (is_read a) (pieces_here k a.pieces x (length a.pieces))
+
+-- the same, if there is one
+abbrev pub request_here_if : (k : ℕ) → Option Asked → (x : ℕ) → Here
+request_here_if k (Some a) x = request_here k a x
+request_here_if k None x = nothing
+
+-- what the first n of these requests tell of x
+abbrev pub requests_here : List Asked → (x n : ℕ) → Here
+requests_here asked x zero = nothing
+requests_here asked x (suc n) = joined (requests_here asked x n) (request_here_if (suc n) (slice_get asked n) x)
+
+-- what all of these requests tell of x
+abbrev pub here_at : List Asked → (x : ℕ) → Here
+here_at asked x = requests_here asked x (length asked)
+
+-- what an offset holds where several changes may be the last
+abbrev pub held_by_read : (latest : ℕ) → Option Got → Holds
+held_by_read latest (Some got) = if nat_lt latest got.number then Read got else Unknown
+held_by_read latest None = Unknown
+
+-- what an offset holds, by the last change
+abbrev pub held_behind : Here → Option ℕ → Holds
+held_behind here (Some last) =
+    if here.any_open || nat_le last here.vague then Unknown
+    else if nat_lt here.second last then Change last else held_by_read here.latest here.read
+held_behind here None = First
+
+-- what an offset holds of which this is told
+abbrev pub held_by : Here → Holds
+held_by here = held_behind here here.last

@@ -1,0 +1,27 @@
+-- What the requests of a session tell, from range to range.
+use Rattle.std.specs.Prelude.{ℕ, List, [], ◌∷◌, nat_lt, Option, Some, None, if◌then◌else◌}
+use Rattle.nbd_wire.specs.protocol.Pieces.{is_in}
+use Rattle.nbd_order.specs.declared.here.Here.{Here}
+use Rattle.nbd_order.specs.declared.parts.Part.{Part}
+use Rattle.nbd_order.specs.declared.touches.Touch.{Touch}
+use Rattle.nbd_order.specs.internal.Here.{here_if, joined, nothing}
+
+-- what it tells of x
+abbrev pub touch_here : Touch → (x : ℕ) → Here
+touch_here touch x = here_if (is_in touch.span.offset touch.span.size x) touch.here
+
+-- what they tell of x, the earlier ones first
+abbrev pub touches_here : List Touch → (x : ℕ) → Here
+touches_here [] x = nothing
+touches_here (touch ∷ touches) x = joined (touch_here touch x) (touches_here touches x)
+
+-- what is told of x, where x lies in a part: in the first that ends behind it
+abbrev pub part_here : List Part → (x : ℕ) → Option Here
+part_here [] x = None
+part_here (part ∷ parts) x = if nat_lt x part.end then Some part.here else part_here parts x
+
+-- both joined, where there are both
+abbrev pub joined_if : Option Here → Option Here → Option Here
+joined_if (Some earlier) (Some later) = Some (joined earlier later)
+joined_if (Some earlier) None = None
+joined_if None later = None
