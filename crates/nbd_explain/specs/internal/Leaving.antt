@@ -12,25 +12,25 @@ use Rattle.nbd_capture.specs.Capture.{Chunk, IsCaptureText}
 use Rattle.nbd_export.specs.Held.{held}
 use Rattle.nbd_session.specs.declared.fault.SessionFault.{SessionFault}
 use Rattle.nbd_session.specs.declared.fault.SessionFault.TheVariants as session
-use Rattle.nbd_judge.specs.Captures.{IsChecked, SaysYes}
 use Rattle.nbd_judge.specs.declared.verdict.Verdict.TheVariants.{Wire}
 use Rattle.nbd_order.specs.Leaving.{IsLeft}
+use Rattle.nbd_order.specs.Sure.{IsLeftByEach}
 use Rattle.nbd_order.specs.declared.leaving.Left.{Left}
 use Rattle.nbd_order.specs.declared.leaving.Left.TheVariants.{Contents, NoExport, Refused}
 use Rattle.nbd_files.specs.declared.fault.RunFault.{RunFault}
 use Rattle.nbd_tool.specs.Runs.{IsOrderCause, flat_of}
 use Rattle.nbd_tool.specs.Verdicts.{IsYes, line}
-use Rattle.nbd_explain.specs.Contents.{HasEntries, IsLeftOf, WritesBytes}
+use Rattle.nbd_explain.specs.Contents.{HasEntries, IsLeftGiven, IsRefusedGiven, WritesBytes}
 
 -- the entries that were read, if an order is given
 abbrev pub entries_of : Option (Vec Entry Global) → Option (List Entry)
 entries_of (Some order) = Some order.items
 entries_of None = None
 
--- what an order leaves of a session that was accepted, if one is given
+-- what is left of a session that was accepted
 abbrev pub IsLeftBy : Profile → Report → Option (List Entry) → Start → Left → Type 0
 IsLeftBy profile r (Some order) initial left = IsLeft profile r order initial left
-IsLeftBy profile r None initial left = Unit {0}
+IsLeftBy profile r None initial left = IsLeftByEach r initial left
 
 -- the same of a finished session; of a refused one its fault
 abbrev pub IsLeftIn : Profile → Result Report SessionFault → Option (List Entry) → Start → Left → Type 0
@@ -47,14 +47,12 @@ pub record IsLeftFrom {O : Type 0} (of_order : O → Option (List ℕ)) (profile
   pub is_start : IfSome start (λ given. initial ≡ given)
   pub is_left : IsLeftIn profile finished entries initial left
 
--- what is left of a capture, as it is answered, if an order is given
+-- what is left of a capture, as it is answered
 abbrev pub IsLeftBehind : Profile → List Pair → Option (List Entry) → Start → Left → Type 0
-IsLeftBehind profile capture None initial left = Unit {0}
-IsLeftBehind profile capture (Some order) initial (Contents contents) =
-    IsLeftOf profile capture order initial (Some (held contents))
-IsLeftBehind profile capture (Some order) initial NoExport = IsLeftOf profile capture order initial None
-IsLeftBehind profile capture (Some order) initial (Refused v) =
-    IsChecked profile capture order initial v × (SaysYes v → ⊥)
+IsLeftBehind profile capture order initial (Contents contents) =
+    IsLeftGiven profile capture order initial (Some (held contents))
+IsLeftBehind profile capture order initial NoExport = IsLeftGiven profile capture order initial None
+IsLeftBehind profile capture order initial (Refused v) = IsRefusedGiven profile capture order initial v
 
 -- the same of some capture, which is that of the text as far as it is known
 pub record IsLeftOver {O : Type 0} (profile : Profile) (of_order : O → Option (List ℕ)) (known : Option (List ℕ))
