@@ -1,5 +1,5 @@
 -- The verdict that is explained, what faults say, and the lines of an order of arrival.
-use Rattle.nbd_explain.proofs.Common.{◌≡◌, ℕ, List, ◌++◌, true, false, refl, sym, subst, Option, None, Some, Result, Ok, Err, IfOk, IfErr, IfSome, OnOk, inl, inr, length, suc, ◌⊎◌, ◌+◌, arith, codes, decimal, Appends, Keeps, Entry, WireFault, Profile, Start, Report, IsOrderText, SessionFault, Wire, EndsIn, IsReported, SessionView, fault_at_end, fault_of, no_run_of, IsFaultOf, HasReport, RunFault, AgainstRead, CaptureLine, CaptureRead, ContentsLine, ContentsRead, ImageRead, Memory, OrderLine, OrderRead, ScriptLine, ScriptRead, Write, IsOverText, StartFrom, Beginning, IsBeginningOf, room_in, IsCapture, IsCause, IsOrder, flat_of, IsStartCause, IsOrderingCause, LeavesOrdered, verdict_on, checked_over, fault_over, report_over, Arrives, number_lines, Answer, Explains, IsFinishOf, IsToldOn, OnWritten}
+use Rattle.nbd_explain.proofs.Common.{◌≡◌, ℕ, List, ◌++◌, true, false, refl, sym, subst, Option, None, Some, Result, Ok, Err, IfOk, IfErr, IfSome, OnOk, length, suc, ◌+◌, arith, codes, decimal, Appends, Keeps, Entry, WireFault, Profile, Start, Report, IsOrderText, SessionFault, Wire, EndsIn, IsReported, SessionView, fault_at_end, fault_of, no_run_of, IsFaultOf, HasReport, RunFault, AgainstRead, CaptureLine, CaptureRead, ContentsLine, ContentsRead, ImageRead, Memory, OrderLine, OrderRead, ScriptLine, ScriptRead, Write, IsOverText, Beginning, IsBeginningOf, room_in, IsOrder, flat_of, LeavesOrdered, verdict_on, checked_over, fault_over, report_over, Arrives, number_lines, Answer, Explains, IsFinishOf, IsToldOn, OnWritten}
 use Rattle.nbd_explain.specs.Arrival.HasArrival.{accepted, refused}
 
 -- what holds of a value holds of another claim that follows

@@ -1,5 +1,7 @@
 pub mod Common
+pub mod ComparingLemmas
 pub mod ContentsLemmas
+pub mod CountLemmas
 pub mod ExplainedLemmas
 pub mod FateLemmas
 pub mod LastLineLemmas

@@ -1,3 +1,4 @@
+pub mod Comparing
 pub mod Fates
 pub mod Leaving
 pub mod Lines

@@ -1,21 +1,22 @@
 //! The command `contents`, over any readers and writer.
 
-ghost use Rattle.std.specs.Prelude.{◌≡◌, ◌⊎◌, ℕ, List, Option, None, IfErr, IfOk, IsSome, OnOk};
+ghost use Rattle.std.specs.Prelude.{◌≡◌, ◌⊎◌, ℕ, List, Option, IfErr, IfOk, IsSome, OnOk};
 ghost use Rattle.nbd_files.specs.declared.fault.RunFault.TheVariants.{AgainstRead, Memory, Write};
 ghost use Rattle.nbd_wire.specs.protocol.Explains as definitions;
 ghost use Rattle.nbd_judge.specs.Servable.{size_of};
-ghost use Rattle.nbd_order.specs.Leaving.{IsLeft};
+ghost use Rattle.nbd_export.specs.Held.{held};
 ghost use Rattle.nbd_tool.specs.Beginnings.{IsReadAs, room_in};
-ghost use Rattle.nbd_explain.specs.Contents.{IsContentsCause, WritesContents};
-ghost use Rattle.nbd_explain.specs.internal.Leaving.{HasEntries, IsGivenOrderCause, HoldsEntries, IsLeftFrom, IsLeftIn, IsLeftOver, TellsLeft};
+ghost use Rattle.nbd_explain.specs.Contents.{HasEntries, IsContentsCause, WritesBytes, WritesContents};
+ghost use Rattle.nbd_explain.specs.internal.Leaving.{IsGivenOrderCause, IsLeftBy, IsLeftFrom, IsLeftIn, IsLeftOver, TellsLeft, entries_of};
 ghost use Rattle.nbd_tool.specs.Runs.{IsCapture};
 ghost use Rattle.nbd_files.specs.Starts.{IsStartWellFormed, IsWithinLimit, OfStart};
 ghost use Rattle.nbd_explain.specs.Explained.{IsExplainCause, IsOrderWithinLimit};
 ghost use Rattle.nbd_explain.specs.Ordering.{LeavesOrdered};
 
+use crate::comparing::write_compared;
 use nbd_capture::write_whole;
-use nbd_export::{Contents, Extents, Kind, Start};
-use nbd_files::{Measured, PORTION, READ_LIMIT, RunFault, StartFrom};
+use nbd_export::{Extents, Start};
+use nbd_files::{Measured, RunFault, StartFrom};
 use nbd_judge::{Verdict, laws};
 use nbd_lines::write_contents;
 use nbd_order::{Left, left_by, left_by_each};
@@ -55,8 +56,8 @@ pub fn run_contents<
     ensures limited { OnOk result (IsWithinLimit (C.remaining capture)) }
     ensures order_limited { OnOk result (IsOrderWithinLimit O.remaining order) }
     ensures start_limited { OnOk result (IsStartWellFormed I.remaining start) }
-    ensures written { IfOk result (λ yes. OfStart I.remaining start (λ initial. WritesContents profile O.remaining
-        (C.remaining capture) order against initial (W.contents out.old) (W.contents out.new) yes)) }
+    ensures written { IfOk result (λ yes. OfStart I.remaining start (λ initial. WritesContents profile O.remaining A.remaining
+        (C.remaining capture) order initial against (W.contents out.old) (W.contents out.new) yes)) }
     ensures cause { IfErr result (IsContentsCause O.remaining I.remaining (C.remaining capture) order start against) }
     ensures left { IfErr result (LeavesOrdered (W.contents out.old) (W.contents out.new)) }
 {
@@ -114,7 +115,7 @@ fn read_entries<O: Read + Drop>(
     order: Option<O>,
 ) -> Result<Option<Vec<Entry>>, RunFault>
     ensures limited { OnOk result (IsOrderWithinLimit O.remaining order) }
-    ensures entries { IfOk result (HoldsEntries O.remaining order) }
+    ensures entries { IfOk result (λ entries. HasEntries O.remaining order (entries_of entries)) }
     ensures cause { IfErr result (IsGivenOrderCause O.remaining order) }
 {
     match order {
@@ -131,9 +132,8 @@ fn left_of(
     order: &Option<Vec<Entry>>,
     start: Beginning,
 ) -> Result<Left, RunFault>
-    ensures left { IfOk result (λ left. (initial : definitions.Start) (entries : List Entry) →
-        IsReadAs (room_in finished.now) initial start → HasEntries order.now entries →
-        IsLeftIn profile finished.now entries initial left) }
+    ensures left { IfOk result (λ left. (initial : definitions.Start) → IsReadAs (room_in finished.now) initial start →
+        IsLeftIn profile finished.now (entries_of order.now) initial left) }
     ensures cause { IfErr result (λ fault. fault ≡ Memory) }
 {
     match finished {
@@ -154,9 +154,8 @@ fn left_from(
     order: &Option<Vec<Entry>>,
     start: Beginning,
 ) -> Result<Left, AllocError>
-    ensures { IfOk result (λ left. (initial : definitions.Start) (entries : List Entry) →
-        IsReadAs (size_of transcript.now.export) initial start → HasEntries order.now entries →
-        IsLeft profile transcript.now entries initial left) }
+    ensures { IfOk result (λ left. (initial : definitions.Start) → IsReadAs (size_of transcript.now.export) initial start →
+        IsLeftBy profile transcript.now (entries_of order.now) initial left) }
 {
     let start = match (start, transcript.export()) {
         (Beginning::Whole(start), _) => start,
@@ -171,14 +170,14 @@ fn left_from(
     }
 }
 
-// Writes what is left, or whether it agrees with an image.
+// Writes what is left, or how that compares with an image.
 fn write_left<A: Measured + Drop, W: Write>(
     alloc: Global,
     left: &Left,
     against: Option<A>,
     out: &mut W,
 ) -> Result<bool, RunFault>
-    ensures told { IfOk result (λ yes. against ≡ None → TellsLeft left.now (W.contents out.old) (W.contents out.new) yes) }
+    ensures told { IfOk result (TellsLeft A.remaining against left.now (W.contents out.old) (W.contents out.new)) }
     ensures cause { IfErr result (λ fault. (fault ≡ Write) ⊎ (fault ≡ Memory) ⊎ (fault ≡ AgainstRead) × IsSome against) }
     ensures left { IfErr result (LeavesOrdered (W.contents out.old) (W.contents out.new)) }
 {
@@ -188,131 +187,27 @@ fn write_left<A: Measured + Drop, W: Write>(
             write_whole(out, NO_EXPORT.as_bytes())?;
             Ok(false)
         }
-        Left::Contents(contents) => match against {
-            Some(mut image) => write_against(alloc, contents, &mut image, out),
-            None => {
-                write_contents(out, contents)?;
-                Ok(true)
-            }
-        },
+        Left::Contents(contents) => write_held(alloc, contents, against, out),
     }
 }
 
-// Writes how contents and an image compare; true where they agree.
-fn write_against<A: Measured, W: Write>(
+// Writes what an export holds, or how that compares with an image.
+fn write_held<A: Measured + Drop, W: Write>(
     alloc: Global,
     contents: &Extents,
-    image: &mut A,
+    against: Option<A>,
     out: &mut W,
 ) -> Result<bool, RunFault>
-    ensures cause { IfErr result (λ fault. (fault ≡ Write) ⊎ (fault ≡ Memory) ⊎ (fault ≡ AgainstRead)) }
+    ensures told { IfOk result
+        (WritesBytes A.remaining against (held contents.now) (W.contents out.old) (W.contents out.new)) }
+    ensures cause { IfErr result (λ fault. (fault ≡ Write) ⊎ (fault ≡ Memory) ⊎ (fault ≡ AgainstRead) × IsSome against) }
     ensures left { IfErr result (LeavesOrdered (W.contents out.old) (W.contents out.new)) }
 {
-    let compared = comparison(alloc, contents, image)?;
-    let text = line_of(alloc, &compared)?;
-    write_whole(out, text.as_bytes())?;
-    Ok(matches!(compared, Compared::Agree { .. }))
-}
-
-/// How contents and an image compare.
-#[derive(Clone, Copy)]
-enum Compared {
-    /// They agree: how many bytes are known, and how many are not.
-    Agree { known: u64, unknown: u64 },
-    /// The image has so many bytes, and the export has this size.
-    Sizes { image: u64, size: u64 },
-    /// The least offset of a known byte that is another one in the image.
-    Differ { offset: u64 },
-}
-
-fn line_of(alloc: Global, compared: &Compared) -> Result<String, AllocError> {
-    match compared {
-        Compared::Agree { known, unknown } => {
-            format!(in alloc; "agrees known {known} unknown {unknown}\n")
-        }
-        Compared::Sizes { image, size } => format!(in alloc; "no against {image} size {size}\n"),
-        Compared::Differ { offset } => format!(in alloc; "no against offset {offset}\n"),
-    }
-}
-
-// Reads an image to its end and compares it with contents, unless it is known to have another size.
-fn comparison<A: Measured>(
-    alloc: Global,
-    contents: &Extents,
-    image: &mut A,
-) -> Result<Compared, RunFault>
-    ensures { IfErr result (λ fault. (fault ≡ Memory) ⊎ (fault ≡ AgainstRead)) }
-{
-    let size = contents.size();
-    if let Some(image) = image.bytes_left() {
-        if image != size {
-            return Ok(Compared::Sizes { image, size });
-        }
-    }
-    let mut portion = vec![in alloc; 0u8; PORTION]?;
-    let (image, first) = read_against(contents, image, portion.as_mut_slice())?;
-    Ok(match first {
-        _ if image != size => Compared::Sizes { image, size },
-        Some(offset) => Compared::Differ { offset },
+    match against {
+        Some(mut image) => write_compared(alloc, contents, &mut image, out),
         None => {
-            let known = known_count(contents);
-            let unknown = size.saturating_sub(known);
-            Compared::Agree { known, unknown }
+            write_contents(out, contents)?;
+            Ok(true)
         }
-    })
-}
-
-// How many bytes an image has, and the least offset of a known byte that is another one there.
-fn read_against<A: Read>(
-    contents: &Extents,
-    image: &mut A,
-    portion: &mut [u8],
-) -> Result<(u64, Option<u64>), RunFault>
-    ensures { IfErr result (λ fault. fault ≡ AgainstRead) }
-{
-    let mut count = 0u64;
-    let mut first = None;
-    for _ in 0..READ_LIMIT {
-        let Ok(more) = image.read(portion) else {
-            return Err(RunFault::AgainstRead);
-        };
-        if more == 0 {
-            return Ok((count, first));
-        }
-        if first.is_none() {
-            first = first_other(contents, count, &portion[..more]);
-        }
-        count = count.saturating_add(more as u64);
     }
-    Err(RunFault::AgainstRead)
-}
-
-// The least offset from this one on of a known byte that is another one than in `bytes`, as far as the export goes.
-fn first_other(contents: &Extents, offset: u64, bytes: &[u8]) -> Option<u64> {
-    let size = contents.size();
-    if offset >= size {
-        return None;
-    }
-    let rest = size - offset;
-    if bytes.len() as u64 <= rest {
-        contents.differs(offset, bytes)
-    } else {
-        contents.differs(offset, &bytes[..rest as usize])
-    }
-}
-
-// How many bytes are known.
-fn known_count(contents: &Extents) -> u64 {
-    let (mut at, mut count) = (0u64, 0u64);
-    for _ in 0..contents.ranges() {
-        if at >= contents.size() {
-            break;
-        }
-        let (kind, end) = contents.range_at(at);
-        if kind != Kind::Unknown {
-            count = count.saturating_add(end - at);
-        }
-        at = end;
-    }
-    count
 }

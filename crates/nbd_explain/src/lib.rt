@@ -5,6 +5,7 @@
 pub mod answer;
 mod arrival;
 mod as_objects;
+mod comparing;
 mod contents;
 mod explain;
 mod fates;

@@ -1,5 +1,5 @@
 -- What is left of a session, step by step, on the way to what is written of it.
-use Rattle.std.specs.Prelude.{◌≡◌, ◌↔◌, List, ℕ, Bool, true, false, IsTrue, Option, Some, None, IfSome, Result, Ok, Err, codes}
+use Rattle.std.specs.Prelude.{◌≡◌, ◌↔◌, List, ℕ, Bool, false, IsTrue, Option, Some, None, IfSome, Result, Ok, Err, codes}
 use Rattle.std.specs.Io.KnownBytes.{Appends}
 use Rattle.std.specs.declared.alloc.Global.{Global}
 use Rattle.std.specs.declared.vec.Vec.{Vec}
@@ -9,72 +9,69 @@ use Rattle.nbd_wire.specs.protocol.Captures.{Pair}
 use Rattle.nbd_wire.specs.protocol.Explains.{Start}
 use Rattle.nbd_wire.specs.protocol.Reports.{Report}
 use Rattle.nbd_capture.specs.Capture.{Chunk, IsCaptureText}
-use Rattle.nbd_capture.specs.Contents.{printed}
-use Rattle.nbd_capture.specs.Order.{IsOrderText}
 use Rattle.nbd_export.specs.Held.{held}
 use Rattle.nbd_session.specs.declared.fault.SessionFault.{SessionFault}
 use Rattle.nbd_session.specs.declared.fault.SessionFault.TheVariants as session
-use Rattle.nbd_judge.specs.Captures.{IsChecked, SaysYes}
-use Rattle.nbd_judge.specs.declared.verdict.Verdict.{Verdict}
 use Rattle.nbd_judge.specs.declared.verdict.Verdict.TheVariants.{Wire}
 use Rattle.nbd_order.specs.Leaving.{IsLeft}
+use Rattle.nbd_order.specs.Sure.{IsLeftByEach}
 use Rattle.nbd_order.specs.declared.leaving.Left.{Left}
 use Rattle.nbd_order.specs.declared.leaving.Left.TheVariants.{Contents, NoExport, Refused}
 use Rattle.nbd_files.specs.declared.fault.RunFault.{RunFault}
 use Rattle.nbd_tool.specs.Runs.{IsOrderCause, flat_of}
 use Rattle.nbd_tool.specs.Verdicts.{IsYes, line}
-use Rattle.nbd_explain.specs.Contents.{IsLeftOf}
+use Rattle.nbd_explain.specs.Contents.{HasEntries, IsLeftGiven, IsRefusedGiven, WritesBytes}
 
--- an order was given, and these are its entries
-abbrev pub HasEntries : Option (Vec Entry Global) → List Entry → Type 0
-HasEntries (Some order) entries = order.items ≡ entries
-HasEntries None entries = ⊥
+-- the entries that were read, if an order is given
+abbrev pub entries_of : Option (Vec Entry Global) → Option (List Entry)
+entries_of (Some order) = Some order.items
+entries_of None = None
 
--- what an order leaves of a finished session; of a refused one its fault
-abbrev pub IsLeftIn : Profile → Result Report SessionFault → List Entry → Start → Left → Type 0
-IsLeftIn profile (Ok r) entries initial left = IsLeft profile r entries initial left
-IsLeftIn profile (Err (session.Wire at fault)) entries initial (Refused v) = v ≡ Wire at fault
-IsLeftIn profile (Err fault) entries initial left = ⊥
+-- what is left of a session that was accepted
+abbrev pub IsLeftBy : Profile → Report → Option (List Entry) → Start → Left → Type 0
+IsLeftBy profile r (Some order) initial left = IsLeft profile r order initial left
+IsLeftBy profile r None initial left = IsLeftByEach r initial left
 
--- the same, from the order and the start that were read, where an order is given
-abbrev pub IsLeftFrom : {O : Type 0} → (O → Option (List ℕ)) → Profile → Result Report SessionFault → Option O
-    → Option Start → Left → Type 0
-IsLeftFrom remaining profile finished (Some order) known left =
-    (entries : List Entry) × (initial : Start) × IfSome (remaining order) (λ text. IsOrderText text entries)
-    × IfSome known (λ start. initial ≡ start) × IsLeftIn profile finished entries initial left
-IsLeftFrom remaining profile finished None known left = Unit {0}
+-- the same of a finished session; of a refused one its fault
+abbrev pub IsLeftIn : Profile → Result Report SessionFault → Option (List Entry) → Start → Left → Type 0
+IsLeftIn profile (Ok r) order initial left = IsLeftBy profile r order initial left
+IsLeftIn profile (Err (session.Wire at fault)) order initial (Refused v) = v ≡ Wire at fault
+IsLeftIn profile (Err fault) order initial left = ⊥
+
+-- the same, from some entries and a start, which are those of the readers as far as their bytes are known
+pub record IsLeftFrom {O : Type 0} (of_order : O → Option (List ℕ)) (profile : Profile)
+    (finished : Result Report SessionFault) (order : Option O) (start : Option Start) (left : Left) : Type 0 where
+  pub entries : Option (List Entry)
+  pub initial : Start
+  pub has_entries : HasEntries of_order order entries
+  pub is_start : IfSome start (λ given. initial ≡ given)
+  pub is_left : IsLeftIn profile finished entries initial left
 
 -- what is left of a capture, as it is answered
-abbrev pub IsLeftBehind : Profile → List Pair → List Entry → Start → Left → Type 0
-IsLeftBehind profile capture entries initial (Contents contents) =
-    IsLeftOf profile capture entries initial (Some (held contents))
-IsLeftBehind profile capture entries initial NoExport = IsLeftOf profile capture entries initial None
-IsLeftBehind profile capture entries initial (Refused v) = IsChecked profile capture entries initial v × (SaysYes v → ⊥)
+abbrev pub IsLeftBehind : Profile → List Pair → Option (List Entry) → Start → Left → Type 0
+IsLeftBehind profile capture order initial (Contents contents) =
+    IsLeftGiven profile capture order initial (Some (held contents))
+IsLeftBehind profile capture order initial NoExport = IsLeftGiven profile capture order initial None
+IsLeftBehind profile capture order initial (Refused v) = IsRefusedGiven profile capture order initial v
 
--- the same of known texts and a known start
-abbrev pub IsLeftOn : Profile → (capture order : Option (List ℕ)) → Option Start → Left → Type 0
-IsLeftOn profile (Some text) (Some order_text) (Some initial) left =
-    (chunks : List Chunk) × (entries : List Entry) × IsCaptureText text chunks × IsOrderText order_text entries
-    × IsLeftBehind profile (flat_of chunks) entries initial left
-IsLeftOn profile capture order initial left = Unit {0}
+-- the same of some capture, which is that of the text as far as it is known
+pub record IsLeftOver {O : Type 0} (profile : Profile) (of_order : O → Option (List ℕ)) (known : Option (List ℕ))
+    (order : Option O) (start : Option Start) (left : Left) : Type 0 where
+  pub chunks : List Chunk
+  pub entries : Option (List Entry)
+  pub initial : Start
+  pub is_text : IfSome known (λ text. IsCaptureText text chunks)
+  pub has_entries : HasEntries of_order order entries
+  pub is_start : IfSome start (λ given. initial ≡ given)
+  pub is_left : IsLeftBehind profile (flat_of chunks) entries initial left
 
--- the same, where an order is given
-abbrev pub IsLeftOver : {O : Type 0} → Profile → (O → Option (List ℕ)) → Option (List ℕ) → Option O → Option Start
-    → Left → Type 0
-IsLeftOver profile remaining capture (Some order) initial left = IsLeftOn profile capture (remaining order) initial left
-IsLeftOver profile remaining capture None initial left = Unit {0}
-
--- the entries of an order text were read, where an order is given
-abbrev pub HoldsEntries : {O : Type 0} → (O → Option (List ℕ)) → Option O → Option (Vec Entry Global) → Type 0
-HoldsEntries remaining (Some order) (Some entries) = IfSome (remaining order) (λ text. IsOrderText text entries.items)
-HoldsEntries remaining None entries = Unit {0}
-HoldsEntries remaining (Some order) None = ⊥
-
--- what is left was written, and the answer
-abbrev pub TellsLeft : Left → (old new : Option (List ℕ)) → Bool → Type 0
-TellsLeft (Contents contents) old new answer = Appends old new (printed (held contents)) × (answer ≡ true)
-TellsLeft NoExport old new answer = Appends old new (codes "no export\n") × (answer ≡ false)
-TellsLeft (Refused v) old new answer = Appends old new (line v) × (IsTrue answer ↔ IsYes v)
+-- what is left was written, or how it compares with an image, and the answer
+abbrev pub TellsLeft : {A : Type 0} → (A → Option (List ℕ)) → Option A → Left → (old new : Option (List ℕ)) → Bool
+    → Type 0
+TellsLeft of_image against (Contents contents) old new answer =
+    WritesBytes of_image against (held contents) old new answer
+TellsLeft of_image against NoExport old new answer = Appends old new (codes "no export\n") × (answer ≡ false)
+TellsLeft of_image against (Refused v) old new answer = Appends old new (line v) × (IsTrue answer ↔ IsYes v)
 
 -- what a fault says of an order that is given
 abbrev pub IsGivenOrderCause : {O : Type 0} → (O → Option (List ℕ)) → Option O → RunFault → Type 0
