@@ -4,6 +4,7 @@ pub mod ContentsLemmas
 pub mod CountLemmas
 pub mod ExplainedLemmas
 pub mod FateLemmas
+pub mod ImageLemmas
 pub mod LastLineLemmas
 pub mod NamedLemmas
 pub mod OrderingLemmas

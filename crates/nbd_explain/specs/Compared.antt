@@ -1,10 +1,12 @@
 -- How bytes that are left compare with an image, and the line that says so.
-use Rattle.std.specs.Prelude.{◌≡◌, ◌++◌, ℕ, List, Bool, true, false, Option, Some, codes, count_by, is_none, is_some, length, slice_get}
+use Rattle.std.specs.Prelude.{◌≡◌, ◌++◌, ◌↔◌, ℕ, List, [], Bool, true, false, Option, Some, None, codes, count_by, is_none, is_some, length, slice_get}
 use Rattle.std.specs.Fmt.{decimal}
 use Rattle.std.specs.Io.KnownBytes.{Appends}
+use Rattle.nbd_wire.specs.declared.commands.TheConstants as commands
 use Rattle.nbd_wire.specs.protocol.Explains.{known}
+use Rattle.nbd_wire.specs.protocol.ExportBytes.{Effect, IsWrongIn}
 use Rattle.nbd_wire.specs.protocol.Orders.{IsFirst}
-use Rattle.nbd_export.specs.Held.{Held}
+use Rattle.nbd_export.specs.Held.{Held, held_from}
 
 -- byte x is known, and the image has not this byte there
 abbrev pub DiffersAt : Held → (image : List ℕ) → ℕ → Type 0
@@ -37,3 +39,21 @@ pub data Compares (bytes : Held) (image : List ℕ) : List ℕ → Bool → Type
 -- the line of how they compare was written, and whether they agree is the answer
 abbrev pub WritesCompared : Held → (image : List ℕ) → (old new : Option (List ℕ)) → Bool → Type 0
 WritesCompared bytes image old new answer = (line : List ℕ) × Compares bytes image line answer × Appends old new line
+
+-- a READ of as many bytes as an image has, from the beginning of the export on, that got these
+abbrev pub read_of : (image : List ℕ) → Effect
+read_of image = record {
+  command = commands.READ;
+  offset = 0;
+  length = length image;
+  payload = [];
+  succeeded = true;
+  read = slice_get image;
+}
+
+-- an image of the export's size has each byte that is known exactly where such a READ, served where the export holds
+-- these bytes, serves no wrong byte
+abbrev pub ImagesCompareAsReads : Type 0
+ImagesCompareAsReads = (bytes : ℕ → Option ℕ) (size : ℕ) (image : List ℕ) → length image ≡ size
+    → ((x : ℕ) → DiffersAt (held_from bytes 0 size) image x → ⊥)
+    ↔ ((x : ℕ) → IsWrongIn None (read_of image) bytes x → ⊥)
