@@ -12,5 +12,7 @@ pub mod ServiceLemmas
 pub mod SettleLemmas
 pub mod StateLemmas
 pub mod SureLemmas
+pub mod SurenessLemmas
+pub mod TimedLemmas
 pub mod ToldLemmas
 pub mod TouchLemmas

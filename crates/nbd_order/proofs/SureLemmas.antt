@@ -27,10 +27,10 @@ next_at a asked zero c at = absurd (let q : None ≡ Some c = at in (cc))
 next_at a asked (suc n) c at = at
 
 -- the last one has the property
-abbrev HasAt : (Asked → Bool) → List Asked → ℕ → Type 0
+abbrev pub HasAt : (Asked → Bool) → List Asked → ℕ → Type 0
 HasAt has_it asked n = (a : Asked) × (asked_at n asked ≡ Some a) × (has_it a ≡ true) × (1 ≤ n)
 
-last_has : (has_it : Asked → Bool) (asked : List Asked) (n : ℕ) → last_number has_it asked ≡ Some n → HasAt has_it asked n
+pub last_has : (has_it : Asked → Bool) (asked : List Asked) (n : ℕ) → last_number has_it asked ≡ Some n → HasAt has_it asked n
 last_has has_it [] n e = absurd (let q : None ≡ Some n = e in (cc))
 last_has has_it (a ∷ asked) n e = go (has_it a) (last_number has_it asked) refl refl (λ m. last_has has_it asked m) e
   where
@@ -44,7 +44,7 @@ last_has has_it (a ∷ asked) n e = go (has_it a) (last_number has_it asked) ref
     go false None has later rest is = absurd (let t : None ≡ Some n = is in (cc))
 
 -- one has the property where the count of them is 1 or more
-any_counted : (has_it : Asked → Bool) (asked : List Asked) → list_any has_it asked ≡ nat_le 1 (count_by has_it asked)
+pub any_counted : (has_it : Asked → Bool) (asked : List Asked) → list_any has_it asked ≡ nat_le 1 (count_by has_it asked)
 any_counted has_it [] = sym (lt-leb 1 0 (omega arith))
 any_counted has_it (a ∷ asked) = go (has_it a) refl (any_counted has_it asked)
   where

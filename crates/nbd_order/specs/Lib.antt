@@ -1,5 +1,6 @@
 pub mod Finding
 pub mod Leaving
 pub mod Sure
+pub mod Sureness
 pub mod Unexplained
 pub mod internal

@@ -1,6 +1,7 @@
 //! Laws over the definitions: each is the contract of a function that does nothing.
 
 ghost use Rattle.nbd_order.specs.Finding.{FoundIsSo};
+ghost use Rattle.nbd_order.specs.Sureness.{SureIsLeft};
 ghost use Rattle.nbd_order.specs.Unexplained.{RefutedIsUnexplained};
 
 use nbd_laws::laws::explained_exactly;
@@ -19,4 +20,11 @@ pub fn found_is_so()
 {
     explained_exactly();
     refuted_is_unexplained();
+}
+
+/// What is sure behind a session is left by each order that explains it.
+pub fn sure_is_left()
+    ensures { SureIsLeft }
+{
+    explained_exactly();
 }
