@@ -67,7 +67,7 @@ fn merged(alloc: Global, earlier: &[Part], later: &[Part]) -> Result<Vec<Part>, 
     ensures { IfOk result (λ parts. (x : ℕ) →
         part_here parts.items x ≡ joined_if (part_here earlier.now x) (part_here later.now x)) }
 {
-    let mut parts = Vec::new(alloc);
+    let mut parts = Vec::with_capacity(alloc, earlier.len() + later.len())?;
     let mut i = 0;
     let mut j = 0;
     while i < earlier.len() && j < later.len() {
