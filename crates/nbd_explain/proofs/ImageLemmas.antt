@@ -25,16 +25,16 @@ held_byte bytes size x l = ap known (slice_get-held_from bytes 0 size x l) ∙ a
 pub images_compare_as_reads : ImagesCompareAsReads
 images_compare_as_reads bytes size image is = (
   (λ none x w.
-  let in_range = (and_parts (is_in 0 (length image) x) true w.2).0 in
-  let hi : x < 0 + length image = ltb-true x (0 + length image) (and_parts (nat_le 0 x) (nat_lt x (0 + length image)) in_range).1 in
-  let l : x < size = omega (arith, hi, is) in
-  none x (w.3.0, held_byte bytes size x l ∙ w.3.1, w.3.2)),
+      let in_range = (and_parts (is_in 0 (length image) x) true w.2).0 in
+      let hi : x < 0 + length image = ltb-true x (0 + length image) (and_parts (nat_le 0 x) (nat_lt x (0 + length image)) in_range).1 in
+      let l : x < size = omega (arith, hi, is) in
+      none x (w.3.0, held_byte bytes size x l ∙ w.3.1, w.3.2)),
   (λ right x d.
-  let within : x < length (held_from bytes 0 size) = known_within (held_from bytes 0 size) x d.0 d.1 in
-  let long : length (held_from bytes 0 size) ≡ size = length-held_from bytes 0 size in
-  let l : x < size = omega (arith, within, long) in
-  let low : 0 ≤ x = omega arith in
-  let high : x < 0 + length image = omega (arith, l, is) in
-  let in_range = and_from (nat_le 0 x) (nat_lt x (0 + length image)) (le-leb 0 x low) (lt-ltb x (0 + length image) high) in
-  right x (inl refl, refl, and_from (is_in 0 (length image) x) true in_range refl, (d.0, sym (held_byte bytes size x l) ∙ d.1, d.2))),
+      let within : x < length (held_from bytes 0 size) = known_within (held_from bytes 0 size) x d.0 d.1 in
+      let long : length (held_from bytes 0 size) ≡ size = length-held_from bytes 0 size in
+      let l : x < size = omega (arith, within, long) in
+      let low : 0 ≤ x = omega arith in
+      let high : x < 0 + length image = omega (arith, l, is) in
+      let in_range = and_from (nat_le 0 x) (nat_lt x (0 + length image)) (le-leb 0 x low) (lt-ltb x (0 + length image) high) in
+      right x (inl refl, refl, and_from (is_in 0 (length image) x) true in_range refl, (d.0, sym (held_byte bytes size x l) ∙ d.1, d.2))),
 )
