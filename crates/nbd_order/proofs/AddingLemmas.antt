@@ -6,9 +6,9 @@ use Rattle.nbd_wire.specs.protocol.Pieces.{holds}
 use Rattle.nbd_order.specs.declared.here.Here.{Here}
 use Rattle.nbd_order.specs.declared.touches.Touch.{Touch}
 use Rattle.nbd_order.specs.internal.Here.{here_if, joined, of_piece, piece_here, pieces_here, request_here, request_here_if, requests_here}
-use Rattle.nbd_order.specs.internal.Parts.{touch_here, touches_here}
+use Rattle.nbd_order.specs.internal.Stretches.{touch_here, touches_here}
 use Rattle.nbd_order.proofs.HereLemmas.{joined_assoc, joined_nothing}
-use Rattle.nbd_order.proofs.PartLemmas.{touches_push}
+use Rattle.nbd_order.proofs.StretchLemmas.{touches_push}
 
 -- one piece more of a READ
 pub piece_added : (touches : List Touch) (before : Here) (k : ℕ) (pieces : List Piece) (x i : ℕ) (p : Piece) (t : Touch) → slice_get pieces i ≡ Some p → t.span ≡ span_of p → t.here ≡ of_piece k i

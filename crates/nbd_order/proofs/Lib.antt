@@ -7,7 +7,6 @@ pub mod HereLemmas
 pub mod LeavingLemmas
 pub mod NumberLemmas
 pub mod OffsetLemmas
-pub mod PartLemmas
 pub mod RefutationLemmas
 pub mod ServiceLemmas
 pub mod SettleLemmas
@@ -16,6 +15,7 @@ pub mod SplitLawLemmas
 pub mod SplitLemmas
 pub mod SplitOrderLemmas
 pub mod StateLemmas
+pub mod StretchLemmas
 pub mod SureLemmas
 pub mod SurenessLemmas
 pub mod TimedLemmas

@@ -12,14 +12,14 @@ use Rattle.nbd_laws.specs.Soundness.{AreLaid, IsSoundAsked, IsSoundReport}
 use Rattle.nbd_wire.specs.protocol.Pieces.{holds, piece_byte}
 use Rattle.nbd_order.specs.Sure.{byte_behind_last, changes, last_number, sure}
 use Rattle.nbd_order.specs.declared.here.Here.{Here}
-use Rattle.nbd_order.specs.declared.parts.Part.{Part}
-use Rattle.nbd_order.specs.internal.Parts.{part_here}
+use Rattle.nbd_order.specs.declared.stretches.Stretch.{Stretch}
+use Rattle.nbd_order.specs.internal.Stretches.{stretch_here}
 use Rattle.nbd_order.specs.declared.here.Got.{Got}
 use Rattle.nbd_order.specs.declared.here.Holds.{Holds}
 use Rattle.nbd_order.specs.declared.here.Holds.TheVariants.{Change, Read}
 use Rattle.nbd_order.specs.internal.Here.{here_at, held_by}
 use Rattle.nbd_order.proofs.SureLemmas.{IsShown, shown}
-use Rattle.nbd_order.proofs.PartLemmas.{none_left, part_at, part_past}
+use Rattle.nbd_order.proofs.StretchLemmas.{none_left, stretch_at, stretch_past}
 
 pub on_ok : {A E P Q : Type 0} (o : Result A E) → OnOk o P → (P → Q) → OnOk o Q
 on_ok (Ok a) h f = f h
@@ -86,16 +86,16 @@ module _ (r : Report) (first old new : ℕ → Option ℕ) (at end size : ℕ) (
       → (x : ℕ) → end ≤ x → x < size → new x ≡ first x
   step_rest rest made x l h = made x h ∙ ap (λ b. if b then sure r old x else old x) (behind_range at (end - at) x (omega arith)) ∙ rest x (omega arith) h
 
--- what the part tells that comes next
-pub told_here : (parts : List Part) (i : ℕ) (p : Part) (x : ℕ) (h : Here) → slice_get parts i ≡ Some p → x < p.end → part_here (drop i parts) x ≡ part_here parts x → part_here parts x ≡ Some h → h ≡ p.here
-told_here parts i p x h at l left is = let e : Some h ≡ Some p.here = sym is ∙ sym left ∙ part_at parts i p x at l in (cc)
+-- what the stretch tells that comes next
+pub told_here : (stretches : List Stretch) (i : ℕ) (p : Stretch) (x : ℕ) (h : Here) → slice_get stretches i ≡ Some p → x < p.end → stretch_here (drop i stretches) x ≡ stretch_here stretches x → stretch_here stretches x ≡ Some h → h ≡ p.here
+told_here stretches i p x h at l left is = let e : Some h ≡ Some p.here = sym is ∙ sym left ∙ stretch_at stretches i p x at l in (cc)
 
-pub left_next : (parts : List Part) (i : ℕ) (p : Part) (x : ℕ) → slice_get parts i ≡ Some p → p.end ≤ x → part_here (drop i parts) x ≡ part_here parts x → part_here (drop (i + 1) parts) x ≡ part_here parts x
-left_next parts i p x at l left = (let e : i + 1 ≡ suc i = omega arith in ap (λ n. part_here (drop n parts) x) e) ∙ sym (part_past parts i p x at l) ∙ left
+pub left_next : (stretches : List Stretch) (i : ℕ) (p : Stretch) (x : ℕ) → slice_get stretches i ≡ Some p → p.end ≤ x → stretch_here (drop i stretches) x ≡ stretch_here stretches x → stretch_here (drop (i + 1) stretches) x ≡ stretch_here stretches x
+left_next stretches i p x at l left = (let e : i + 1 ≡ suc i = omega arith in ap (λ n. stretch_here (drop n stretches) x) e) ∙ sym (stretch_past stretches i p x at l) ∙ left
 
--- no offset is left behind the last part
-pub none_behind : {P : Type 0} (parts : List Part) (i x : ℕ) (h : Here) → length parts ≤ i → part_here (drop i parts) x ≡ part_here parts x → part_here parts x ≡ Some h → P
-none_behind parts i x h l left is = absurd (let e : None ≡ Some h = sym (none_left parts i x l) ∙ left ∙ is in (cc))
+-- no offset is left behind the last stretch
+pub none_behind : {P : Type 0} (stretches : List Stretch) (i x : ℕ) (h : Here) → length stretches ≤ i → stretch_here (drop i stretches) x ≡ stretch_here stretches x → stretch_here stretches x ≡ Some h → P
+none_behind stretches i x h l left is = absurd (let e : None ≡ Some h = sym (none_left stretches i x l) ∙ left ∙ is in (cc))
 
 -- Requests of a sound report.
 

@@ -13,7 +13,6 @@ use Rattle.nbd_wire.specs.protocol.Pieces.{holds}
 use Rattle.nbd_wire.specs.protocol.Verdicts.{is_answered}
 use Rattle.nbd_order.specs.Leaving.{are_open_at, is_open_at, left}
 use Rattle.nbd_order.specs.Sure.{byte_behind_changes, byte_behind_last, byte_got, byte_left, byte_seen, changes, changes_behind, gets, has_completed, is_last_alone, is_read, last_number, leaves_unknown, may_leave_unknown, number_before, sure}
-use Rattle.nbd_order.specs.Chains.{KnowsLess}
 use Rattle.nbd_order.specs.Sureness.{SureIsLeft, SureOfLessIsLeft}
 use Rattle.nbd_order.proofs.SettleLemmas.{in_range, sound_asked, to_range}
 use Rattle.nbd_order.proofs.SureLemmas.{HasAt, any_counted, last_has}

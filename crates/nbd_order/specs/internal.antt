@@ -1,5 +1,5 @@
 pub mod Here
 pub mod Offsets
-pub mod Parts
 pub mod Proposals
 pub mod Refutations
+pub mod Stretches

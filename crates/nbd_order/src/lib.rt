@@ -9,10 +9,10 @@ mod judging;
 pub mod laws;
 pub mod leaving;
 mod offsets;
-mod parts;
 pub mod refutation;
 pub mod refuting;
 mod states;
+mod stretches;
 mod sweep;
 mod touches;
 

@@ -11,10 +11,10 @@ ghost use Rattle.nbd_wire.specs.protocol.Pieces.{is_in, piece_byte, piece_offset
 ghost use Rattle.nbd_wire.specs.protocol.Reports.{asked_at};
 ghost use Rattle.nbd_order.specs.Sure.{sure};
 ghost use Rattle.nbd_order.specs.internal.Here.{here_at};
-ghost use Rattle.nbd_order.specs.internal.Parts.{part_here};
+ghost use Rattle.nbd_order.specs.internal.Stretches.{stretch_here};
 
 use crate::here::{Here, Holds};
-use crate::parts::{Part, parts_of};
+use crate::stretches::{Stretch, stretches_of};
 use crate::touches::touches_of;
 use nbd_export::{Contents, Extents};
 use nbd_session::{Asked, Transcript};
@@ -34,31 +34,31 @@ pub fn sweep(
     ensures done { OnOk result (AreSameBelow (size_of contents.old) (byte_of contents.new)
         (sure transcript.now (byte_of contents.old))) }
 {
-    let parts = parts_of(alloc, &touches_of(alloc, transcript)?, contents.size())?;
-    settle_all(transcript, &parts, contents)
+    let stretches = stretches_of(alloc, &touches_of(alloc, transcript)?, contents.size())?;
+    settle_all(transcript, &stretches, contents)
 }
 
-// Makes each part what it holds.
+// Makes each stretch what it holds.
 fn settle_all(
     transcript: &Transcript,
-    parts: &[Part],
+    stretches: &[Stretch],
     contents: &mut Extents,
 ) -> Result<(), AllocError>
     requires sound { IsSoundReport transcript.now }
-    requires parts { (x : ℕ) → x < size_of contents.old → part_here parts.now x ≡ Some (here_at transcript.now.asked x) }
+    requires stretches { (x : ℕ) → x < size_of contents.old → stretch_here stretches.now x ≡ Some (here_at transcript.now.asked x) }
     ensures size { size_of contents.new ≡ size_of contents.old }
     ensures done { OnOk result (AreSameBelow (size_of contents.old) (byte_of contents.new)
         (sure transcript.now (byte_of contents.old))) }
 {
     let mut at = 0;
-    for part in parts {
-        let end = part.end.min(contents.size());
+    for stretch in stretches {
+        let end = stretch.end.min(contents.size());
         if at < end {
             let span = Span {
                 offset: at,
                 size: end - at,
             };
-            settle(transcript, &part.here, span, contents)?;
+            settle(transcript, &stretch.here, span, contents)?;
             at = end;
         }
     }

@@ -1,7 +1,7 @@
 use Rattle.nbd_order.proofs.Common.{◌≡◌, Some, ◌∙◌, ap, arith, slice_get}
 use Rattle.std.proofs.lemmas.Grind.{common_steps}
 use Rattle.std.proofs.lemmas.Option.{gets}
-use Rattle.nbd_order.specs.internal.Parts.{touches_here}
+use Rattle.nbd_order.specs.internal.Stretches.{touches_here}
 use Rattle.nbd_order.proofs.AddingLemmas.{piece_added}
 use Rattle.nbd_order.proofs.touches.add_pieces.Goals as goal
 

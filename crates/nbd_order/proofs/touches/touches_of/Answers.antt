@@ -1,7 +1,7 @@
 use Rattle.nbd_order.proofs.Common.{◌≡◌, ◌+◌, Some, None, sym, ◌∙◌, ap, refl, slice_get, Asked, report_of_request}
 use Rattle.nbd_order.specs.declared.here.Here.{Here}
 use Rattle.nbd_order.specs.internal.Here.{joined, request_here}
-use Rattle.nbd_order.specs.internal.Parts.{touches_here}
+use Rattle.nbd_order.specs.internal.Stretches.{touches_here}
 use Rattle.nbd_order.proofs.AddingLemmas.{none_added, request_added}
 use Rattle.nbd_order.proofs.LeavingLemmas.{at_next}
 use Rattle.nbd_order.proofs.touches.touches_of.Goals as goal

@@ -1,6 +1,6 @@
 use Rattle.nbd_order.proofs.Common.{◌≡◌, ℕ}
 use Rattle.nbd_order.specs.internal.Here.{requests_here}
-use Rattle.nbd_order.specs.internal.Parts.{touches_here}
+use Rattle.nbd_order.specs.internal.Stretches.{touches_here}
 use Rattle.nbd_order.proofs.touches.touches_of.Given as goal
 
 abbrev pub invariant-loop-i : goal.invariant-loop-i

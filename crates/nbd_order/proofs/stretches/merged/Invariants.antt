@@ -1,14 +1,14 @@
 use Rattle.nbd_order.proofs.Common.{◌≡◌, ◌≤◌, ◌+◌, ℕ, drop, length}
 use Rattle.std.specs.Prelude.{◌-◌}
 use Rattle.std.specs.Option.{option_or}
-use Rattle.nbd_order.specs.internal.Parts.{joined_if, part_here}
-use Rattle.nbd_order.proofs.parts.merged.Given as goal
+use Rattle.nbd_order.specs.internal.Stretches.{joined_if, stretch_here}
+use Rattle.nbd_order.proofs.stretches.merged.Given as goal
 
 abbrev pub invariant-loop-i : goal.invariant-loop-i
 invariant-loop-i l = record {
   earlier : l.i ≤ length l.earlier;
   later : l.j ≤ length l.later;
-  parts : (x : ℕ) → option_or (part_here l.parts.items x) (joined_if (part_here (drop l.i l.earlier) x) (part_here (drop l.j l.later) x)) ≡ joined_if (part_here l.earlier x) (part_here l.later x);
+  stretches : (x : ℕ) → option_or (stretch_here l.stretches.items x) (joined_if (stretch_here (drop l.i l.earlier) x) (stretch_here (drop l.j l.later) x)) ≡ joined_if (stretch_here l.earlier x) (stretch_here l.later x);
 }
 
 abbrev pub decreases-loop-i : goal.decreases-loop-i

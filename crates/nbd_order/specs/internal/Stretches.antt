@@ -2,7 +2,7 @@
 use Rattle.std.specs.Prelude.{ℕ, List, [], ◌∷◌, nat_lt, Option, Some, None, if◌then◌else◌}
 use Rattle.nbd_wire.specs.protocol.Pieces.{is_in}
 use Rattle.nbd_order.specs.declared.here.Here.{Here}
-use Rattle.nbd_order.specs.declared.parts.Part.{Part}
+use Rattle.nbd_order.specs.declared.stretches.Stretch.{Stretch}
 use Rattle.nbd_order.specs.declared.touches.Touch.{Touch}
 use Rattle.nbd_order.specs.internal.Here.{here_if, joined, nothing}
 
@@ -15,10 +15,10 @@ abbrev pub touches_here : List Touch → (x : ℕ) → Here
 touches_here [] x = nothing
 touches_here (touch ∷ touches) x = joined (touch_here touch x) (touches_here touches x)
 
--- what is told of x, where x lies in a part: in the first that ends behind it
-abbrev pub part_here : List Part → (x : ℕ) → Option Here
-part_here [] x = None
-part_here (part ∷ parts) x = if nat_lt x part.end then Some part.here else part_here parts x
+-- what is told of x, where x lies in a stretch: in the first that ends behind it
+abbrev pub stretch_here : List Stretch → (x : ℕ) → Option Here
+stretch_here [] x = None
+stretch_here (stretch ∷ stretches) x = if nat_lt x stretch.end then Some stretch.here else stretch_here stretches x
 
 -- both joined, where there are both
 abbrev pub joined_if : Option Here → Option Here → Option Here
