@@ -1,15 +1,14 @@
 -- An image as the bytes of a READ of the whole export.
-use Rattle.nbd_explain.proofs.Common.{◌≡◌, ℕ, ◌<◌, ◌≤◌, List, refl, sym, ◌∙◌, ap, arith, Option, Some, None, true}
-use Rattle.std.specs.Prelude.{◌+◌, ◌&&◌, ◌↔◌, IsTrue, length, nat_le, nat_lt, slice_get}
+use Rattle.nbd_explain.proofs.Common.{◌≡◌, ℕ, ◌<◌, ◌≤◌, refl, sym, ◌∙◌, ap, arith, Option, Some, None, true}
+use Rattle.std.specs.Prelude.{◌+◌, length, nat_le, nat_lt, slice_get}
 use Rattle.std.proofs.lemmas.Bool.{and_from, and_parts, le-leb, lt-ltb, ltb-true}
 use Rattle.std.proofs.Common.{inl}
 use Rattle.std.proofs.lemmas.Option.{slice_get_within}
 use Rattle.nbd_wire.specs.protocol.Explains.{known}
-use Rattle.nbd_wire.specs.protocol.ExportBytes.{IsWrongIn}
 use Rattle.nbd_wire.specs.protocol.Pieces.{is_in}
 use Rattle.nbd_export.specs.Held.{Held, held_from}
 use Rattle.nbd_export.proofs.HeldLemmas.{length-held_from, slice_get-held_from}
-use Rattle.nbd_explain.specs.Compared.{DiffersAt, ImagesCompareAsReads, read_of}
+use Rattle.nbd_explain.specs.Compared.{ImagesCompareAsReads}
 
 -- a byte that is known stands in the list
 known_within : (bytes : Held) (x b : ℕ) → known (slice_get bytes x) ≡ Some b → x < length bytes
