@@ -17,9 +17,8 @@ impl Dues {
     pub fn new(count: usize, work: &mut Work) -> Dues {
         let leaves = count.checked_next_power_of_two().unwrap_or(1);
         let mut nodes = Vec::new(work.alloc);
-        let count = leaves.saturating_mul(2);
-        work.spend(count.saturating_mul(8));
-        work.is_lost |= nodes.resize(count, (NEVER, 0)).is_err();
+        work.spend(leaves.saturating_mul(16));
+        work.is_lost |= nodes.resize(leaves.saturating_mul(2), (NEVER, 0)).is_err();
         Dues { leaves, nodes }
     }
 

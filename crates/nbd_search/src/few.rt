@@ -11,12 +11,11 @@ const MOST: usize = 64;
 /// Few of the requests of a byte that has no order, as came out in a slot: READs that are due there, and what may help one.
 pub fn shrink(operations: &[Patch], slot: usize, sweep: &mut Sweep) -> Vec<Patch> {
     let mut reads = Vec::new(sweep.work.alloc);
-    for one in operations {
-        if one.is_read && one.due <= slot {
+    for one in operations.iter().rev() {
+        if one.is_read & (one.due <= slot) {
             sweep.work.keep(&mut reads, *one);
         }
     }
-    reads.reverse();
     leave_out(operations, &mut reads, sweep);
     few_of(operations, &reads, &mut sweep.work)
 }
@@ -55,7 +54,7 @@ pub fn few_of(operations: &[Patch], reads: &[Patch], work: &mut Work) -> Vec<Pat
     for read in reads {
         let mut newest = read.request;
         for one in operations {
-            if !one.is_read && one.due < read.request {
+            if !one.is_read & (one.due < read.request) {
                 newest = one.request;
             }
         }
@@ -71,14 +70,13 @@ pub fn few_of(operations: &[Patch], reads: &[Patch], work: &mut Work) -> Vec<Pat
 
 // Whether it is one of these READs, or may be a help to one, each with the newest change before it, or itself.
 fn is_help(one: &Patch, helped: &[(Patch, usize)]) -> bool {
+    let mut is_help = false;
     for (read, newest) in helped {
-        let is_seen = !one.is_read && one.request <= read.due && one.due >= *newest;
-        let is_it = one.request == read.request || one.request == *newest;
-        if is_it || is_seen && read.reads(one.value) {
-            return true;
-        }
+        let is_seen = !one.is_read & (one.request <= read.due) & (one.due >= *newest);
+        let is_it = (one.request == read.request) | (one.request == *newest);
+        is_help |= is_it | is_seen & read.reads(one.value);
     }
-    false
+    is_help
 }
 
 /// What refutes each order at an offset, but for the start, where it is not too much.

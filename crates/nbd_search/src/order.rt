@@ -62,8 +62,7 @@ fn put_off(served: &[Served], requests: &mut [Patch], work: &mut Work) -> Option
     Some(is_changed)
 }
 
-/// The order in which each register has its own, and all else its moment. If this is that of arrival, no part is late, since they are
-/// sorted by their slots.
+/// The order in which each register has its own, and all else its moment: sorted by slots, so that no part is late on arrival.
 pub fn entries_of(requests: &[Patch], served: &[Served], work: &mut Work) -> Vec<Entry> {
     // Up to where each is served, and the place behind its last piece: the registers of one stand by their offsets.
     let (mut pieces, mut ends) = (Vec::new(work.alloc), Vec::new(work.alloc));
@@ -97,27 +96,20 @@ fn add_register(
             break;
         }
         first = first.max((*request, 0));
-        let (piece, (end, behind)) = ((first, *request, lo, hi), ends[*request]);
-        if !goes_on(pieces, behind, piece) {
-            if end < lo {
-                work.keep(pieces, (requests[*request].moment, *request, end, lo));
+        let place = &mut ends[*request];
+        match pieces.get_mut(place.1.wrapping_sub(1)) {
+            // It goes on with the one before, at the same moment.
+            Some(last) if (last.0, last.3) == (first, lo) => last.3 = hi,
+            _ => {
+                if place.0 < lo {
+                    work.keep(pieces, (requests[*request].moment, *request, place.0, lo));
+                }
+                work.keep(pieces, (first, *request, lo, hi));
+                place.1 = pieces.len();
             }
-            work.keep(pieces, piece);
-            ends[*request].1 = pieces.len();
         }
-        ends[*request].0 = hi;
+        place.0 = hi;
         first.1 = first.1.saturating_add(1);
-    }
-}
-
-// Whether a piece goes on with the one before a place at its moment: they are one then.
-fn goes_on(pieces: &mut [Piece], behind: usize, piece: Piece) -> bool {
-    match pieces.get_mut(behind.wrapping_sub(1)) {
-        Some(last) if last.0 == piece.0 && last.3 == piece.2 => {
-            last.3 = piece.3;
-            true
-        }
-        _ => false,
     }
 }
 
@@ -129,7 +121,7 @@ fn joined(requests: &[Patch], pieces: &[Piece], work: &mut Work) -> Vec<Entry> {
         if *slot == NEVER {
             break;
         }
-        if *request == last && *lo == to {
+        if (*request, *lo) == (last, to) {
             let _ = entries.pop();
         } else {
             from = *lo;

@@ -51,8 +51,8 @@ pub struct Scene<'a> {
     pub requests: Vec<Patch>,
     /// What they leave or read; of a READ at least one for each piece with bytes.
     pub patches: Vec<Patch>,
-    // Where the bytes of patches begin, and these: none where they are zeroes that no message has, None where they are unknown.
-    bytes: Vec<Option<(u64, &'a [u8])>>,
+    // Where the bytes of patches begin, and what they are: zeroes that no message has, or these.
+    bytes: Vec<(u64, HeldPart<'a>)>,
 }
 
 impl<'a> Scene<'a> {
@@ -69,14 +69,7 @@ impl<'a> Scene<'a> {
             patches: Vec::new(work.alloc),
             bytes: Vec::new(work.alloc),
         };
-        match start {
-            Start::Image(image) => scene.add_first((0, size), Some(image.as_slice()), work),
-            Start::Zeroes => scene.add_first((0, size), Some(&[]), work),
-            Start::Unknown => scene.add_first((0, size), None, work),
-            Start::Contents(contents) => scene.add_contents(contents, work),
-        }
-        let whole = scene.patch(0, false, (0, size));
-        work.keep(&mut scene.requests, whole);
+        scene.add_start(start, work);
         for number in 1..=transcript.count() {
             if let Some(one) = transcript.asked(number) {
                 scene.add(profile, one, work);
@@ -85,10 +78,23 @@ impl<'a> Scene<'a> {
         scene
     }
 
-    // Adds what the export holds at first: these bytes in this range.
-    fn add_first(&mut self, range: (u64, u64), bytes: Option<&'a [u8]>, work: &mut Work) {
+    // Adds the start, and what the export holds at first.
+    fn add_start(&mut self, start: &'a Start, work: &mut Work) {
+        let all = (0, self.size);
+        match start {
+            Start::Image(image) => self.add_first(all, HeldPart::Bytes(image.as_slice()), work),
+            Start::Zeroes => self.add_first(all, HeldPart::Zeroes, work),
+            Start::Unknown => self.add_first(all, HeldPart::Unknown, work),
+            Start::Contents(contents) => self.add_contents(contents, work),
+        }
+        let whole = self.patch(0, false, all);
+        work.keep(&mut self.requests, whole);
+    }
+
+    // Adds what it holds in this range.
+    fn add_first(&mut self, range: (u64, u64), held: HeldPart<'a>, work: &mut Work) {
         let patch = self.patch(0, false, range);
-        work.keep(&mut self.bytes, bytes.map(|bytes| (range.0, bytes)));
+        work.keep(&mut self.bytes, (range.0, held));
         work.keep(&mut self.patches, patch);
     }
 
@@ -100,12 +106,7 @@ impl<'a> Scene<'a> {
                 break;
             }
             let (part, end) = contents.part_at(at);
-            let bytes: Option<&[u8]> = match part {
-                HeldPart::Unknown => None,
-                HeldPart::Zeroes => Some(&[]),
-                HeldPart::Bytes(bytes) => Some(bytes),
-            };
-            self.add_first((at, end - at), bytes, work);
+            self.add_first((at, end - at), part, work);
             at = end;
         }
     }
@@ -114,10 +115,13 @@ impl<'a> Scene<'a> {
         let (is_change, command) = (one.touches(one.offset), one.command);
         let is_read = one.succeeded() && matches!(command, commands::READ | commands::BLOCK_STATUS);
         let length = if is_change || is_read { one.length } else { 0 };
-        let is_known = one.succeeded() && command != commands::TRIM;
-        let bytes = is_known.then_some((one.offset, one.payload.as_slice()));
+        let held = match (one.succeeded(), command) {
+            (true, commands::WRITE) => HeldPart::Bytes(one.payload.as_slice()),
+            (true, commands::WRITE_ZEROES) => HeldPart::Zeroes,
+            _ => HeldPart::Unknown,
+        };
         let whole = self.patch(due_of(profile, one, 0), false, (one.offset, length));
-        work.keep(&mut self.bytes, bytes);
+        work.keep(&mut self.bytes, (one.offset, held));
         if is_change {
             work.keep(&mut self.patches, whole);
         }
@@ -128,14 +132,14 @@ impl<'a> Scene<'a> {
     }
 
     fn add_pieces(&mut self, profile: Profile, one: &'a Asked, work: &mut Work) {
-        for i in 0..one.pieces.len() {
-            let (span, due) = (Span::of(&one.pieces[i]), due_of(profile, one, i));
-            let bytes: &[u8] = match &one.pieces[i] {
-                Piece::Bytes { bytes, .. } => bytes.as_slice(),
-                Piece::Hole { .. } => &[],
+        for (i, piece) in one.pieces.iter().enumerate() {
+            let (span, due) = (Span::of(piece), due_of(profile, one, i));
+            let held = match piece {
+                Piece::Bytes { bytes, .. } => HeldPart::Bytes(bytes.as_slice()),
+                Piece::Hole { .. } => HeldPart::Zeroes,
             };
             let patch = self.patch(due, true, (span.offset, span.size));
-            work.keep(&mut self.bytes, Some((span.offset, bytes)));
+            work.keep(&mut self.bytes, (span.offset, held));
             work.keep(&mut self.patches, patch);
         }
     }
@@ -143,20 +147,16 @@ impl<'a> Scene<'a> {
     // What the request that comes next does with the next bytes: from an offset on, so many.
     fn patch(&self, due: usize, is_read: bool, range: (u64, u64)) -> Patch {
         let request = self.requests.len();
-        let slot = match is_read {
-            true => request,
-            false if due == NEVER => 0,
-            false => due,
-        };
+        let taken = if due == NEVER { 0 } else { due };
         Patch {
             request,
             due,
-            slot,
+            slot: if is_read { request } else { taken },
             is_read,
             lo: range.0.min(self.size),
             hi: range.0.saturating_add(range.1).min(self.size),
             bytes: self.bytes.len(),
-            moment: (0, 0),
+            moment: (if due < NEVER { request } else { NEVER }, 0),
             is_wrong: false,
             value: None,
             column: 0,
@@ -190,10 +190,14 @@ impl<'a> Scene<'a> {
 
     /// The patch's bytes from `lo` to before `hi`, if they are known; none where they are zeroes that no message has.
     pub fn bytes(&self, patch: &Patch, lo: u64, hi: u64) -> Option<&'a [u8]> {
-        let (from, bytes) = self.bytes.get(patch.bytes).copied().flatten()?;
-        let first = lo.saturating_sub(from) as usize;
-        let behind = hi.saturating_sub(from) as usize;
-        Some(bytes.get(first..behind).unwrap_or(&[]))
+        let (from, held) = self.bytes.get(patch.bytes)?;
+        let first = lo.saturating_sub(*from) as usize;
+        let behind = hi.saturating_sub(*from) as usize;
+        match held {
+            HeldPart::Bytes(bytes) => Some(bytes.get(first..behind).unwrap_or(&[])),
+            HeldPart::Zeroes => Some(&[]),
+            HeldPart::Unknown => None,
+        }
     }
 
     /// The first offset from `lo` to before `hi` at which a READ did not get what a change left, or `hi`.
@@ -223,7 +227,7 @@ fn due_of(profile: Profile, one: &Asked, piece: usize) -> usize {
     due.unwrap_or(u64::MAX) as usize
 }
 
-// A number for these bytes: 0 for zeroes, and hardly ever the same one for others.
+// A number for these bytes: 0 for zeroes, and hardly ever the same one for others, by an odd factor with bits in no order.
 fn mixed(bytes: &[u8]) -> u64 {
     let (words, rest) = bytes.as_chunks::<8>();
     let mut number = 0;
@@ -236,7 +240,6 @@ fn mixed(bytes: &[u8]) -> u64 {
     number
 }
 
-// (an odd number with bits in no order)
 fn mixed_with(number: u64, more: u64) -> u64 {
     let product = (number ^ more).wrapping_mul(0x9e37_79b9_7f4a_7c15);
     product ^ (product >> 32)

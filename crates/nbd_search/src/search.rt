@@ -48,10 +48,8 @@ pub fn propose(
     };
     let proposal = search.run(&mut scene);
     *progress = search.sweep.work.progress;
-    match search.sweep.work.is_lost {
-        true => Err(AllocError),
-        false => Ok(proposal),
-    }
+    let is_lost = search.sweep.work.is_lost;
+    (!is_lost).then_some(proposal).ok_or(AllocError)
 }
 
 #[derive(Drop)]
@@ -70,7 +68,6 @@ struct Search {
 
 impl Search {
     fn run(&mut self, scene: &mut Scene) -> Proposal {
-        arrive(&mut scene.requests);
         self.refine(scene);
         let work = &mut self.sweep.work;
         if work.is_over() {
@@ -122,9 +119,8 @@ impl Search {
 
     // Goes along the export, and looks at the registers that are closed on the way.
     fn go_along(&mut self, scene: &Scene) {
-        let events = events_of(scene, &mut self.sweep.work);
         let mut walk = Walk::new(scene.requests.len(), &mut self.sweep.work);
-        for (offset, begins, place) in &events {
+        for (offset, begins, place) in &events_of(scene, &mut self.sweep.work) {
             if let (Some(patch), false) = (scene.patches.get(*place), self.sweep.work.is_over()) {
                 walk.go_to(*offset, &mut self.sweep.work);
                 self.close(scene, &mut walk, patch);
@@ -148,13 +144,12 @@ impl Search {
         let (mut lo, mut hi) = (walk.since, walk.at);
         for _ in lo..u64::MAX {
             let is_whole = (lo, hi) == (walk.since, walk.at);
+            let half = hi.saturating_sub(lo) / 2;
             match self.search(scene, walk, lo, hi) {
                 Outcome::Order if hi >= walk.at => return,
                 Outcome::Order => (lo, hi) = (hi, walk.at),
                 _ if is_whole && self.ask(scene, walk) => return,
-                Outcome::NoOrder(_) if hi.saturating_sub(lo) > 1 => {
-                    hi = lo.saturating_add(hi.saturating_sub(lo) / 2);
-                }
+                Outcome::NoOrder(_) if half > 0 => hi = lo.saturating_add(half),
                 outcome => return self.stick(walk, outcome),
             }
         }

@@ -57,20 +57,14 @@ impl State {
     }
 
     // The change with which what is due is served in a slot: itself, or of the open ones to this value one that is due first.
-    fn change(
-        &self,
-        open: &[Patch],
-        one: &Patch,
-        value: Option<u64>,
-        slot: usize,
-    ) -> Option<Patch> {
+    fn change(&self, open: &[Patch], one: &Patch, value: Option<u64>, at: usize) -> Option<Patch> {
         if !one.is_read {
             return Some(*one);
         }
         let (mut found, mut due) = (None, NEVER);
         for change in open {
-            let is_such = !change.is_read && change.value == value && change.request <= slot;
-            if is_such && change.due <= due && !self.has_served(change) {
+            let is_such = !change.is_read & (change.value == value) & (change.request <= at);
+            if is_such & (change.due <= due) & !self.has_served(change) {
                 (found, due) = (Some(*change), change.due);
             }
         }
@@ -79,12 +73,11 @@ impl State {
 
     // Whether no more stands against it than against another one.
     fn owes_no_more(&self, other: &State) -> bool {
+        let mut more = 0;
         for i in 0..WORDS {
-            if self.debt[i] & !other.debt[i] != 0 {
-                return false;
-            }
+            more |= self.debt[i] & !other.debt[i];
         }
-        true
+        more == 0
     }
 }
 
@@ -148,7 +141,7 @@ impl Sweep {
                 break;
             };
             let is_wide = self.states.len() as u64 > self.work.limits.states;
-            if is_wide || self.open.len() > COUNT || self.work.is_over() {
+            if is_wide | (self.open.len() > COUNT) | self.work.is_over() {
                 return Outcome::BrokenOff;
             }
             self.fall_due(&one);
@@ -177,18 +170,17 @@ impl Sweep {
     // An operation is in its last slot: each state that has not served it does so, in each way.
     fn fall_due(&mut self, one: &Patch) {
         self.slot = one.due;
-        let mut is_branched = false;
+        let logged = self.log.len();
         for place in (0..self.states.len()).rev() {
             match self.states.get(place).copied() {
                 Some(state) if !state.has_served(one) => {
                     self.states.swap_remove(place);
                     self.branch(&state, one);
-                    is_branched = true;
                 }
                 _ => {}
             }
         }
-        if is_branched {
+        if self.log.len() > logged {
             self.prune();
         }
         if let Some(open) = self.open.get_mut(one.column) {
@@ -266,7 +258,7 @@ impl Sweep {
 
     /// The requests in the order in which they were served, behind what was left before.
     pub fn trace(&mut self) -> Vec<usize> {
-        let mut place = self.states.first().map_or(0, |state| state.log);
+        let mut place = self.states.first().copied().unwrap_or_default().log;
         let mut list = Vec::new(self.work.alloc);
         for _ in 0..self.log.len() {
             let Some((request, turn, before)) = self.log.get(place.wrapping_sub(1)) else {

@@ -86,12 +86,9 @@ impl Walk {
         let mut first = read;
         for _ in 0..read {
             work.spend(16);
-            let mut late = self.every.late(0, first, first);
-            if late.is_none() {
-                let newest = self.changes.newest(first, first);
-                late = self.changes.late(0, newest, newest);
-            }
-            match late {
+            let newest = self.changes.newest(first, first);
+            let late = self.every.late(0, first, first);
+            match late.or(self.changes.late(0, newest, newest)) {
                 Some(number) => first = number,
                 None => break,
             }
