@@ -7,8 +7,8 @@ from pathlib import Path
 
 TOP = Path(__file__).resolve().parent.parent
 TEXT = r'"((?:[^"\\]|\\.)*)"'
-RULE = re.compile(rf"(?:Wire|Order)Fault::(\w+) =>\s*\{{?\s*{TEXT}")
-SECTION = re.compile(rf"((?:\|?\s*WireFault::\w+\s*)+)=>\s*\{{?\s*(?:(CHOICE)|{TEXT})")
+RULE = re.compile(rf"\(\s*WireFault::(\w+),\s*{TEXT},\s*(?:(CHOICE)|{TEXT}),?\s*\)")
+ORDER = re.compile(rf"\(\s*OrderFault::(\w+),\s*{TEXT},?\s*\)")
 BREAKERS = {"Client": "the client", "Server": "the server", "Sender": "the sender", "Nobody": "nobody"}
 
 
@@ -33,22 +33,16 @@ def function(name):
     return source().split(f"fn {name}(")[1].split("\n}\n")[0]
 
 
-def sections():
-    """The section of the rule of each wire fault."""
-    choice = unquoted(re.search(rf"const CHOICE: &str = {TEXT}", source())[1])
-    return {fault: choice if is_choice else unquoted(section) for faults, is_choice, section in SECTION.findall(function("section_of"))
-            for fault in re.findall(r"WireFault::(\w+)", faults)}
-
-
 def rules():
     """Each wire fault, who broke its rule, the rule and its section."""
-    broke, stands = breakers(), sections()
-    return [(fault, broke.get(fault, "the server"), sentence, stands[fault])
-            for fault, sentence in RULE.findall(function("sentence_of"))]
+    broke = breakers()
+    choice = unquoted(re.search(rf"const CHOICE: &str = {TEXT}", source())[1])
+    return [(fault, broke.get(fault, "the server"), sentence, choice if is_choice else unquoted(section))
+            for fault, sentence, is_choice, section in RULE.findall(source())]
 
 
 def order_rules():
-    return RULE.findall(function("order_rule"))
+    return ORDER.findall(source())
 
 
 def manual():

@@ -50,10 +50,11 @@ impl Text {
     pub fn amiss(self, story: &Story) -> Text {
         let count = story.count_of_amiss();
         let requests = story.requests.len() as u64;
-        let mut text = self.fill_if(
+        let mut text = self.two_if(
             count != 0,
             "improper: {count} of {requests:request}\n",
-            &[count, requests],
+            count,
+            requests,
         );
         let mut listed = 0u64;
         for request in &story.requests {

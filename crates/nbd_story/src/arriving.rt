@@ -3,7 +3,7 @@
 use crate::story::Story;
 use crate::text::Text;
 use crate::told::{NO_MESSAGE, Told};
-use nbd_wire::{Side, WireFault};
+use nbd_wire::Side;
 
 impl Story {
     // The client's message of which some bytes were there, and not all, when so many bytes of the client had come, if its head is in the
@@ -23,13 +23,10 @@ impl Story {
     }
 
     /// Whether the reply that the server has begun names a message of the client that was not whole when the reply began.
-    pub fn is_answered_early(&self, fault: WireFault) -> bool {
+    pub fn is_answered_early(&self) -> bool {
         let reply = self.begun(Side::Server);
         let arriving = self.arriving(self.recording.count_up_to(Side::Client, reply.first));
-        matches!(fault, WireFault::UnknownCookie)
-            && reply.is_there()
-            && arriving.has_cookie()
-            && arriving.cookie == reply.cookie
+        reply.is_there() && arriving.has_cookie() && arriving.cookie == reply.cookie
     }
 }
 
@@ -51,13 +48,12 @@ impl Text {
                 .cut(&told, count.saturating_sub(told.before))
                 .say(" when the reply began\n")
         } else {
-            self.fill_if(
-                count > story.client,
+            let before = story.count(Side::Client);
+            self.two_if(
+                count > before,
                 "arriving: {count:byte} of the client from byte {first} on, no whole head of a message\n",
-                &[
-                    count.saturating_sub(story.client),
-                    story.recording.place(Side::Client, story.client),
-                ],
+                count.saturating_sub(before),
+                story.recording.place(Side::Client, before),
             )
         }
     }

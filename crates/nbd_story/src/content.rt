@@ -35,8 +35,12 @@ impl Came {
 }
 
 /// The rule that a BLOCK_STATUS breaks which called a wrong byte zero, or a READ that got one.
-pub fn rule_of(is_status: bool) -> Rule {
-    if is_status { STATUS_RULE } else { CONTENT_RULE }
+pub fn rule_of(is_status: bool) -> &'static Rule {
+    if is_status {
+        &STATUS_RULE
+    } else {
+        &CONTENT_RULE
+    }
 }
 
 impl Text {
@@ -52,7 +56,7 @@ impl Text {
         let place = place_serving(sources.order, number, offset);
         let request = sources.story.request(number);
         let text = self.rule(
-            &rule_of(request.is_status()),
+            rule_of(request.is_status()),
             "the server, if it served in this order",
         );
         match sources.order.get(place) {
@@ -115,9 +119,10 @@ impl Text {
             text.number("called zero: offset {offset}", offset)
                 .descriptor(came.descriptor, &came.reply, story)
         } else {
-            text.fill(
+            text.two(
                 "came: {value:02x} for offset {offset}",
-                &[u64::from(came.byte), offset],
+                u64::from(came.byte),
+                offset,
             )
             .place_of(came)
         }
@@ -158,9 +163,9 @@ impl Text {
             return self;
         };
         let text = self.byte("expected: {value:02x}", byte);
-        match (sources.order.get(held.place), held.origin) {
-            (Some(entry), _) => text.served(", by ", held.place, entry, sources.story),
-            (None, _) => text.say(first_words(sources.start)).doubted_start(),
+        match sources.order.get(held.place) {
+            Some(entry) => text.served(", by ", held.place, entry, sources.story),
+            None => text.say(first_words(sources.start)).doubted_start(),
         }
     }
 }

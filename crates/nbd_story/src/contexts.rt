@@ -7,16 +7,19 @@ use crate::text::Text;
 use crate::told::{Form, Told};
 use crate::zeroes::{Descriptor, Descriptors, count_of, descriptor_in};
 use nbd_state::{Asking, Selection};
-use nbd_wire::flags::{has, has_long};
+use nbd_wire::flags::has;
 use nbd_wire::{
     RequestHead, Side, answers, bytes_in, command_flags, commands, context_of, filter_of, first_id,
-    options, states, status_ext_of, status_of,
+    options, status_ext_of, status_of,
 };
 use std::alloc::{AllocError, Global};
 use std::collections::{BTreeMap, BTreeSet};
 
 /// How many descriptors of a status chunk are listed, and how many contexts without one.
 const LISTED: u64 = 8;
+
+/// What the two lowest flags of `base:allocation` say, HOLE (1) and ZERO (2).
+const STATES: [&str; 4] = [" data", " hole", " zero", " hole zero"];
 
 /// How many bytes of a longer name are told, so that it costs no more each time than a message.
 const NAMED: usize = 64;
@@ -122,7 +125,7 @@ impl Contexts {
 impl Story {
     /// The context of a status chunk and its descriptors; of another message no descriptor.
     pub fn status_in(&self, told: &Told) -> (u32, Descriptors<'_>) {
-        let extended = told.at.is_some();
+        let extended = told.extended;
         let payload = self.behind(told);
         let read = if extended {
             status_ext_of(payload)
@@ -156,7 +159,10 @@ impl Story {
         let payload = self
             .recording
             .bytes_at(Side::Client, request.payload_from, request.payload);
-        filter_of(payload).map(|filter| filter.1)
+        match filter_of(payload) {
+            Some((_, ids)) => Some(ids),
+            None => None,
+        }
     }
 
     // Whether the payload of a request with this head is a filter, if it has the form of one.
@@ -254,10 +260,10 @@ impl Text {
         };
         let count = count_of_ids(ids);
         let mut text = self.say_if(count == 0, ", asks no context");
+        let mut mark = ", asks ";
         for number in 0..count.min(LISTED) {
-            text = text
-                .say_either(number == 0, ", asks ", "; ")
-                .context("", id_in(ids, number), story);
+            text = text.context(mark, id_in(ids, number), story);
+            mark = "; ";
         }
         text.more(count, LISTED, "; {more} more")
     }
@@ -308,29 +314,25 @@ impl Text {
     fn extents(self, is_allocation: bool, descriptors: Descriptors<'_>, offset: u64) -> Text {
         let count = count_of(descriptors);
         let mut text = self;
+        let mut mark = ": ";
         let mut from = offset;
         for number in 0..count.min(LISTED) {
             let one = descriptor_in(descriptors, number, from);
-            text = text
-                .say_either(number == 0, ": ", "; ")
-                .extent(is_allocation, one);
+            text = text.extent(mark, is_allocation, one);
+            mark = "; ";
             from = end_of(one.part);
         }
         text.more(count, LISTED, "; {more} more")
     }
 
-    // A descriptor, and what it says of its bytes.
-    fn extent(self, is_allocation: bool, one: Descriptor) -> Text {
-        let text = self.part("", one.part);
-        if is_allocation {
-            let is_hole = has_long(one.flags, u64::from(states::HOLE));
-            let is_zero = has_long(one.flags, u64::from(states::ZERO));
-            text.say_if(is_hole, " hole")
-                .say_if(is_zero, " zero")
-                .say_if(!is_hole && !is_zero, " data")
+    // A descriptor, and what it says of its bytes, behind words.
+    fn extent(self, mark: &str, is_allocation: bool, one: Descriptor) -> Text {
+        let words = if is_allocation {
+            STATES[(one.flags % 4) as usize]
         } else {
-            text.number(" flags {states:#x}", one.flags)
-        }
+            " flags {states:#x}"
+        };
+        self.part(mark, one.part).number(words, one.flags)
     }
 
     /// The contexts in force that a request asks and of which its reply has no status, with the refused chunk.
@@ -341,31 +343,24 @@ impl Text {
         request: &Request,
         story: &Story,
     ) -> Text {
-        let mut told = Ids::none(alloc).with(chunk, story);
+        let mut missing = Ids::asked(alloc, request, story);
+        missing.leave_out(chunk, story);
         for message in &story.told {
             if message.answers(request.number) {
-                told = told.with(message, story);
+                missing.leave_out(message, story);
             }
         }
-        let asked = Ids::asked(alloc, request, story);
-        self.without_status(&told.ids, &asked, story)
-            .refused_if(told.is_refused || asked.is_refused)
-    }
-
-    // The first of these contexts, where a filter asks them, or else of those in force, that are not told; and how many more
-    // there are.
-    fn without_status(self, told: &BTreeSet<u32>, asked: &Ids, story: &Story) -> Text {
-        let mut text = self;
-        let mut missing = 0u64;
-        for (id, _) in &story.contexts.names {
-            if asked.may_have(*id) && story.contexts.has(*id) && !told.contains(id) {
-                missing = missing.saturating_add(1);
-                if missing <= LISTED {
+        let mut text = self.refused_if(missing.is_refused);
+        let mut count = 0u64;
+        for id in &missing.ids {
+            if story.contexts.has(*id) {
+                count = count.saturating_add(1);
+                if count <= LISTED {
                     text = text.context("missing: the status of ", *id, story).end();
                 }
             }
         }
-        text.more(missing, LISTED, "missing: {more} more\n")
+        text.more(count, LISTED, "missing: {more} more\n")
     }
 }
 
@@ -379,12 +374,10 @@ fn are_graphic(bytes: &[u8]) -> bool {
     true
 }
 
-/// The contexts whose status a reply has, or that a request asks. Once memory was refused they are not known.
+/// Contexts by their ids. Once memory was refused they are not known.
 #[derive(Drop)]
 struct Ids {
     ids: BTreeSet<u32>,
-    /// They are those that a request asks, and it has no filter: each is one.
-    are_all: bool,
     is_refused: bool,
 }
 
@@ -392,12 +385,11 @@ impl Ids {
     fn none(alloc: Global) -> Ids {
         Ids {
             ids: BTreeSet::new(alloc),
-            are_all: false,
             is_refused: false,
         }
     }
 
-    // Those that a request asks.
+    // Those that a request asks: those of its filter, or else each that was selected.
     fn asked(alloc: Global, request: &Request, story: &Story) -> Ids {
         let mut asked = Ids::none(alloc);
         match story.filter_of(request) {
@@ -406,33 +398,27 @@ impl Ids {
                     asked.add(id_in(ids, number));
                 }
             }
-            None => asked.are_all = true,
+            None => {
+                for (id, _) in &story.contexts.names {
+                    asked.add(*id);
+                }
+            }
         }
         asked
     }
 
     // One more; whether it is new.
     fn add(&mut self, id: u32) -> bool {
-        match self.ids.insert(id) {
-            Ok(is_new) => is_new,
-            Err(_) => {
-                self.is_refused = true;
-                false
-            }
-        }
+        let added = self.ids.insert(id);
+        self.is_refused |= added.is_err();
+        added.unwrap_or(false)
     }
 
-    // Whether one has this id.
-    fn may_have(&self, id: u32) -> bool {
-        self.are_all || self.ids.contains(&id)
-    }
-
-    // These and that of a message, if it is a status.
-    fn with(mut self, told: &Told, story: &Story) -> Ids {
+    // One less: that of a message, if it is a status.
+    fn leave_out(&mut self, told: &Told, story: &Story) {
         let (id, descriptors) = story.status_in(told);
         if !descriptors.bytes.is_empty() {
-            self.add(id);
+            self.ids.remove(&id);
         }
-        self
     }
 }

@@ -106,32 +106,28 @@ impl Text {
             offset: found.first,
             length: rest.min(SHOWN),
         };
-        self.fill(
-            "differ: {count} of {length:byte}",
-            &[found.count, found.among],
-        )
-        .say_if(compared.is_status, " called zero")
-        .number_if(found.count == 1, ", at offset {first}", found.first)
-        .fill_if(
-            found.count != 1,
-            ", from offset {first} to {last}",
-            &[found.first, found.last],
-        )
-        .number("\nfrom offset {first}:\n", found.first)
-        .say_either(compared.is_status, "  called  ", "  came    ")
-        .row(shown, &compared.got, sources)
-        .say("\n  expected")
-        .row(shown, &compared.held, sources)
-        .end()
-        .refused_if(compared.got.is_refused || compared.held.is_refused)
+        self.two("differ: {count} of {length:byte}", found.count, found.among)
+            .say_if(compared.is_status, " called zero")
+            .fill(
+                if found.count == 1 {
+                    ", at offset {first}\nfrom offset {first}:\n"
+                } else {
+                    ", from offset {first} to {last}\nfrom offset {first}:\n"
+                },
+                &[found.first, found.last, found.first],
+            )
+            .say_either(compared.is_status, "  called  ", "  came    ")
+            .row(shown, &compared.got, sources)
+            .say("  expected")
+            .row(shown, &compared.held, sources)
     }
 
     // The bytes of a part, and two points for one that is not known.
     fn row(self, part: Part, stretches: &Stretches, sources: &Sources<'_>) -> Text {
-        let mut text = self;
+        let mut text = self.refused_if(stretches.is_refused);
         for offset in part.offset..end_of(part) {
             text = text.byte_or(stretches.at(offset).byte(offset, sources), " {:02x}", " ..");
         }
-        text
+        text.end()
     }
 }

@@ -52,9 +52,10 @@ pub fn explanation_of(
 impl Text {
     /// Adds why an image of so many bytes does not fit an export of this size.
     pub fn image(self, image: u64, size: u64) -> Text {
-        self.rule(&IMAGE_RULE, "the image that was given").fill(
+        self.rule(&IMAGE_RULE, "the image that was given").two(
             "sizes: the image has {image:byte}, the export {size:byte}\n",
-            &[image, size],
+            image,
+            size,
         )
     }
 

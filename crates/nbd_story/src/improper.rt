@@ -124,9 +124,7 @@ impl Ban {
             Whom::Only(command) => head.command == command,
             Whom::AllBut(command) => head.command != command,
         };
-        is_meant
-            && (self.carries == 0 || has(head.flags, self.carries))
-            && (self.lacks == 0 || !has(offered, self.lacks))
+        is_meant && head.flags & self.carries == self.carries && offered & self.lacks == 0
     }
 }
 
@@ -239,12 +237,9 @@ pub fn chunk_reason(told: &Told, story: &Story) -> &'static str {
         chunks::OFFSET_HOLE if told.payload != 12 =>
             "the payload of a hole has 12 bytes, an offset and a size",
         chunks::OFFSET_HOLE => "its hole has size 0",
-        chunks::BLOCK_STATUS if told.at.is_some() =>
+        chunks::BLOCK_STATUS if told.extended =>
             "with an extended header a status is of type BLOCK_STATUS_EXT",
-        chunks::BLOCK_STATUS_EXT if told.at.is_some() => wide_status_form(
-            story.behind(told),
-            story,
-        ),
+        chunks::BLOCK_STATUS_EXT if told.extended => wide_status_form(story.behind(told), story),
         chunks::BLOCK_STATUS if story.profile == Profile::Wide => status_form(told.payload, story),
         chunks::ERROR | chunks::ERROR_OFFSET => failure_reason(kind, story.behind(told)),
         _ if kind >= chunks::FIRST_ERROR =>

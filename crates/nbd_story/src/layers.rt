@@ -2,7 +2,6 @@
 
 use crate::explanation::{NO_PLACE, Sources};
 use crate::parts::{between, common, end_of, part_in};
-use crate::reading::request_length;
 use crate::requests::{Request, is_change, range};
 use crate::story::Story;
 use crate::told::{EMPTY, Told};
@@ -74,14 +73,12 @@ impl Stretch {
             commands::WRITE_ZEROES if request.succeeded() => Origin::Zeroes,
             _ => Origin::Unknown,
         };
-        let before = request
-            .before
-            .saturating_add(request_length(request.head.extended) as u64);
-        if is_change(request.head.command) {
-            Stretch::of(range(&request.head), origin, before)
+        let part = if is_change(request.head.command) {
+            range(&request.head)
         } else {
-            Stretch::of(EMPTY, origin, before)
-        }
+            EMPTY
+        };
+        Stretch::of(part, origin, request.payload_from)
     }
 
     /// The content that a message brings the request with this number: the message ends with it, or is a hole.

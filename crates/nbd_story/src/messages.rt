@@ -83,25 +83,25 @@ impl Text {
 
     // The type of a request: `READ`, and `command 9` of one without a name.
     fn command(self, command: u16) -> Text {
-        match name_in(COMMANDS, u32::from(command)) {
-            Some(name) => self.say(name),
-            None => self.number("command {command}", u64::from(command)),
-        }
+        let name = name_in(COMMANDS, u32::from(command));
+        self.number(name.unwrap_or("command {command}"), u64::from(command))
     }
 
     /// A request, its range and its flags, where it has these; DISC has no number, and its cookie is not told.
     pub fn request(self, head: &RequestHead, number: u64) -> Text {
         let length = head.length;
         self.command(head.command)
-            .fill_if(
+            .two_if(
                 number != 0,
                 " #{request}, cookie {cookie:#x}",
-                &[number, head.cookie],
+                number,
+                head.cookie,
             )
-            .fill_if(
-                length != 0 || head.offset != 0,
+            .two_if(
+                length | head.offset != 0,
                 ", {length:byte} at {offset}",
-                &[length, head.offset],
+                length,
+                head.offset,
             )
             .flags_in(flag_names::COMMAND, head.flags)
     }

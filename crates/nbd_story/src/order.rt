@@ -5,10 +5,17 @@ use crate::layers::Stretches;
 use crate::parts::{common, has_offset, meet, outside, part_in};
 use crate::requests::{Request, range};
 use crate::rules::order_rule;
+use crate::story::Story;
 use crate::text::Text;
 use nbd_judge::OrderFault;
 use nbd_wire::{Entry, Part, Profile};
 use std::alloc::Global;
+
+/// What stands for an entry where there is none.
+const NO_ENTRY: Entry = Entry {
+    request: 0,
+    part: None,
+};
 
 impl Text {
     /// Adds what is wrong with this entry of the order, counted from 1, or of Missing and NotCovered with this request.
@@ -19,38 +26,29 @@ impl Text {
         fault: OrderFault,
         sources: &Sources<'_>,
     ) -> Text {
-        let text = self.rule(&order_rule(fault), "the order that was given");
         let request = sources.story.request(entry);
-        let size = sources.story.export.size;
-        let place = entry.wrapping_sub(1) as usize;
-        let text = text.say_if(
-            is_of_moments(fault)
-                && sources.story.profile == Profile::Base
-                && sources.story.has_chunks_apart(),
-            "wide: each message of a READ's reply is served by itself there, so this may be no fault; try --profile wide\n",
-        );
-        match (fault, sources.order.get(place)) {
-            (OrderFault::Missing, _) => text.moments("no entry: ", request),
-            (OrderFault::NotCovered, _) => text
+        let text = self
+            .rule(&order_rule(fault), "the order that was given")
+            .say_if(
+                is_wider(fault, sources.story),
+                "wide: each message of a READ's reply is served by itself there, so this may be no fault; try --profile wide\n",
+            );
+        match fault {
+            OrderFault::Missing => text.moments("no entry: ", request),
+            OrderFault::NotCovered => text
                 .moments("request: ", request)
-                .range(request, size)
+                .range(request, sources.story.export.size)
                 .gap(
                     &served_where_due(alloc, request, sources),
                     ", which no part serves\n",
                 ),
-            (_, Some(entry)) => text.wrong_entry(place, entry, fault, sources),
-            (_, None) => text,
+            _ => text.wrong_entry(entry.wrapping_sub(1) as usize, fault, sources),
         }
     }
 
     // What is wrong with an entry.
-    fn wrong_entry(
-        self,
-        place: usize,
-        entry: &Entry,
-        fault: OrderFault,
-        sources: &Sources<'_>,
-    ) -> Text {
+    fn wrong_entry(self, place: usize, fault: OrderFault, sources: &Sources<'_>) -> Text {
+        let entry = sources.order.get(place).unwrap_or(&NO_ENTRY);
         let request = sources.story.request(entry.request);
         match fault {
             OrderFault::Twice => self
@@ -79,9 +77,10 @@ impl Text {
         if request.is_there() {
             text.moments("", request)
         } else {
-            text.fill(
+            text.two(
                 "request {request}; the capture has {requests:request}\n",
-                &[entry.request, sources.story.requests.len() as u64],
+                entry.request,
+                sources.story.requests.len() as u64,
             )
         }
     }
@@ -111,17 +110,15 @@ impl Text {
                 .say(" can be served only atomically\n");
         }
         let inside = request.inside(size);
-        let text = self.part("range: ", range(&request.head));
-        if inside.length == request.head.length {
-            text.number(", in the export of {size:byte}\n", size)
+        let words = if inside.length == request.head.length {
+            ", in the export of {size:byte}\n"
         } else if inside.length == 0 {
-            text.number(", beyond the end of the export of {size:byte}\n", size)
+            ", beyond the end of the export of {size:byte}\n"
         } else {
-            text.fill(
-                ", in the export of {size:byte} only {inside:byte} at {at}\n",
-                &[size, inside.length, inside.offset],
-            )
-        }
+            ", in the export of {size:byte} only {inside:byte} at {at}\n"
+        };
+        self.part("range: ", range(&request.head))
+            .fill(words, &[size, inside.length, inside.offset])
     }
 
     // What is wrong with the part of an entry: each that is. Of what an earlier entry serves of the request already, the first offset is
@@ -139,10 +136,11 @@ impl Text {
         let (offset, at) = first_shared(place, entry.request, part, sources.order);
         self.say_if(part.length == 0, "wrong: the part is empty\n")
             .outside(part, request, sources.story.export.size)
-            .fill_if(
+            .two_if(
                 at < place,
                 "wrong: the part has offset {offset}, which entry {entry} serves already\n",
-                &[offset, (at as u64).saturating_add(1)],
+                offset,
+                (at as u64).saturating_add(1),
             )
             .entry_at(at, sources)
     }
@@ -151,24 +149,23 @@ impl Text {
     fn outside(self, part: Part, request: &Request, size: u64) -> Text {
         let rest = outside(part, request.inside(size));
         let is_in_range = request.has_inside() && has_offset(range(&request.head), rest.offset);
-        if rest.length == 0 {
-            return self;
-        }
-        self.number("wrong: the part has offset {offset}", rest.offset)
-            .say_either(
-                is_in_range,
-                ", which lies beyond the end of the export\n",
-                ", which lies outside the request's range\n",
-            )
+        let words = if is_in_range {
+            "wrong: the part has offset {offset}, which lies beyond the end of the export\n"
+        } else {
+            "wrong: the part has offset {offset}, which lies outside the request's range\n"
+        };
+        self.number_if(rest.length != 0, words, rest.offset)
     }
 }
 
-// Whether a fault is one of when a request was due.
-fn is_of_moments(fault: OrderFault) -> bool {
-    matches!(
-        fault,
-        OrderFault::Late | OrderFault::Missing | OrderFault::NotCovered
-    )
+// Whether a fault is one of when a request was due, and that can be at another moment in the profile `Wide`.
+fn is_wider(fault: OrderFault, story: &Story) -> bool {
+    match fault {
+        OrderFault::Late | OrderFault::Missing | OrderFault::NotCovered => {
+            story.profile == Profile::Base && story.has_chunks_apart()
+        }
+        _ => false,
+    }
 }
 
 // The place of the first entry that an entry repeats: one that serves the request atomically, or any where the entry itself does.

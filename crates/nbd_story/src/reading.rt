@@ -34,7 +34,7 @@ impl Story {
     fn begun_by_client(&self, bytes: &[u8]) -> Told {
         if self.is_transmission {
             request(self.is_extended, bytes)
-        } else if self.client == 0 {
+        } else if self.count(Side::Client) == 0 {
             client_flags(bytes)
         } else {
             choice(bytes)
@@ -44,7 +44,7 @@ impl Story {
     fn begun_by_server(&self, bytes: &[u8]) -> Told {
         if self.is_transmission {
             self.reply(bytes)
-        } else if self.server == 0 {
+        } else if self.count(Side::Server) == 0 {
             greeting(bytes)
         } else if self.option == options::EXPORT_NAME {
             exported(bytes, self.padding)
@@ -98,7 +98,7 @@ fn request(is_extended: bool, bytes: &[u8]) -> Told {
     };
     let carried = if has_payload(&head) { head.length } else { 0 };
     let mut told = message(Form::Request, length, carried);
-    told.at = offset_if(is_extended, head.offset);
+    told.extended = is_extended;
     told.flags = head.flags;
     told.kind = head.command;
     told.cookie = head.cookie;
@@ -168,7 +168,8 @@ fn chunk(profile: Profile, is_extended: bool, bytes: &[u8]) -> Told {
     };
     let payload = bytes_in(bytes, length, head.length as usize);
     let mut told = message(Form::Chunk, length, head.length);
-    told.at = head.at;
+    told.extended = is_extended;
+    told.at = head.at.unwrap_or(0);
     told.flags = head.flags;
     told.kind = head.kind;
     told.cookie = head.cookie;
@@ -201,12 +202,8 @@ fn has_payload(head: &RequestHead) -> bool {
     head.command == commands::WRITE || head.extended && carries_payload(head.flags, head.command)
 }
 
-fn offset_if(is_extended: bool, offset: u64) -> Option<u64> {
-    if is_extended { Some(offset) } else { None }
-}
-
-/// How many bytes the head of a request has.
-pub fn request_length(is_extended: bool) -> usize {
+// How many bytes the head of a request has.
+fn request_length(is_extended: bool) -> usize {
     if is_extended {
         head_lengths::EXTENDED_REQUEST
     } else {

@@ -91,8 +91,8 @@ impl Recording {
         self.client.len().saturating_add(self.server.len())
     }
 
-    // All bytes of a side.
-    fn stream(&self, side: Side) -> &Stream {
+    /// All bytes of a side.
+    pub fn stream(&self, side: Side) -> &Stream {
         match side {
             Side::Client => &self.client,
             Side::Server => &self.server,

@@ -33,19 +33,22 @@ impl Text {
 
     // The rule of READs, that of BLOCK_STATUSes, or both where there are both.
     fn rules(self, reads: &[u64], story: &Story) -> Text {
-        let mut statuses = 0usize;
+        let mut has_reads = false;
+        let mut has_statuses = false;
         for number in reads {
-            statuses = statuses.saturating_add(usize::from(story.request(*number).is_status()));
+            let is_status = story.request(*number).is_status();
+            has_statuses |= is_status;
+            has_reads |= !is_status;
         }
-        if statuses == 0 || statuses == reads.len() {
+        if !has_reads || !has_statuses {
             self.rule(
-                &rule_of(statuses != 0),
+                rule_of(has_statuses),
                 "the server, in whatever order it served",
             )
         } else {
             self.one_of_rules(
-                &rule_of(false),
-                &rule_of(true),
+                rule_of(false),
+                rule_of(true),
                 "the server, one or the other, in whatever order it served",
             )
         }
@@ -53,13 +56,13 @@ impl Text {
 
     // The byte at an offset at first, where that is known.
     fn byte_of_start(self, offset: u64, sources: &Sources<'_>) -> Text {
-        match byte_at_first(offset, sources) {
-            Some(byte) => self.fill(
-                "start: {value:02x} at offset {offset}\n",
-                &[u64::from(byte), offset],
-            ),
-            None => self,
-        }
+        let byte = byte_at_first(offset, sources);
+        self.two_if(
+            byte.is_some(),
+            "start: {value:02x} at offset {offset}\n",
+            u64::from(byte.unwrap_or(0)),
+            offset,
+        )
     }
 
     // Each change, when it can have been served, and the byte that it left.

@@ -92,12 +92,11 @@ impl Text {
                 ", which no chunk brings\n",
             ),
             WireFault::IncompleteStatus => self.missing_statuses(alloc, told, request, story),
-            WireFault::BadReplyOffset => self
-                .number(
-                    "wrong: its header has offset {came}, ",
-                    told.at.unwrap_or(0),
-                )
-                .number("that of its request is {offset}\n", request.head.offset),
+            WireFault::BadReplyOffset => self.two(
+                "wrong: its header has offset {came}, that of its request is {offset}\n",
+                told.at,
+                request.head.offset,
+            ),
             _ => self,
         }
     }

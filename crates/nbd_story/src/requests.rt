@@ -12,8 +12,6 @@ pub struct Request {
     pub number: u64,
     /// What it asks for; its length is that of its range.
     pub head: RequestHead,
-    /// How many bytes of the client stand before it.
-    pub before: u64,
     /// How many bytes stand behind its head, and how many bytes of the client before these.
     pub payload: u64,
     pub payload_from: u64,
@@ -44,7 +42,6 @@ pub const NO_REQUEST: Request = Request {
         offset: 0,
         length: 0,
     },
-    before: 0,
     payload: 0,
     payload_from: 0,
     first: 0,

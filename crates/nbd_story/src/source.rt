@@ -32,7 +32,7 @@ impl Text {
         };
         let text = self
             .rule(
-                &rule_of(read.is_status()),
+                rule_of(read.is_status()),
                 "the server, in whatever order it served",
             )
             .asked("message: ", &read)
@@ -75,9 +75,9 @@ impl Text {
     fn not_from_changes(self, got: &Got, sources: &Sources<'_>) -> Text {
         let mut text = self;
         let mut count = 0u64;
-        for are_suspect in [true, false] {
+        for turn in 0..2 {
             for change in sources.story.requests.iter().rev() {
-                if is_listed(change, are_suspect, got, sources) {
+                if is_listed(change, turn == 0, got, sources) {
                     count = count.saturating_add(1);
                     if count <= LISTED {
                         text = text.not_from(change, got, sources);

@@ -27,10 +27,6 @@ pub struct Story {
     pub requests: Vec<Request>,
     /// The numbers of the outstanding ones, by their cookies.
     pub outstanding: BTreeMap<u64, u64>,
-    /// How many bytes the client's messages have.
-    pub client: u64,
-    /// How many the server's have.
-    pub server: u64,
     /// What the server said last of an export; an empty one before that.
     pub export: Export,
     /// Whether the negotiation is over.
@@ -61,8 +57,6 @@ impl Story {
             told: Vec::new(alloc),
             requests: Vec::new(alloc),
             outstanding: BTreeMap::new(alloc),
-            client: 0,
-            server: 0,
             export: Export { size: 0, flags: 0 },
             is_transmission: false,
             option: 0,
@@ -81,10 +75,11 @@ impl Story {
         for message in messages.get(self.told.len()..).unwrap_or(&[]) {
             let told = self.begun(side_of(message));
             self.note(&told);
-            let kept = self
+            self.is_refused |= self
                 .recording
-                .tell(told.side, told.length, payload_in(message));
-            self.is_refused |= kept.is_err() || self.told.push(told).is_err();
+                .tell(told.side, told.length, payload_in(message))
+                .is_err();
+            self.is_refused |= self.told.push(told).is_err();
         }
         if self.is_refused {
             Err(AllocError)
@@ -95,11 +90,6 @@ impl Story {
 
     // What a message changes: the phase, and what is known of a request.
     fn note(&mut self, told: &Told) {
-        let end = told.before.saturating_add(told.length);
-        match told.side {
-            Side::Client => self.client = end,
-            Side::Server => self.server = end,
-        }
         match told.form {
             Form::Request => self.ask(told),
             Form::Simple | Form::Chunk => self.answer(told),
@@ -141,7 +131,6 @@ impl Story {
             let request = Request {
                 number: told.request,
                 head,
-                before: told.before,
                 payload: told.payload,
                 payload_from: told.before_last(told.payload),
                 first: told.first,
@@ -195,10 +184,7 @@ impl Story {
 
     /// How many bytes the messages of a side have.
     pub fn count(&self, side: Side) -> u64 {
-        match side {
-            Side::Client => self.client,
-            Side::Server => self.server,
-        }
+        self.recording.stream(side).told
     }
 
     /// What a message has behind its head, as far as it has come.
@@ -236,8 +222,12 @@ impl Story {
     /// Whether a request came whole behind the first byte of a READ's reply and before its last one. Without that the profile `Wide`
     /// serves each READ as `Base` does.
     pub fn has_chunks_apart(&self) -> bool {
-        self.requests.iter().any(|one| one.head.command == commands::READ
-            && self.is_answered_around(one))
+        for request in &self.requests {
+            if request.head.command == commands::READ && self.is_answered_around(request) {
+                return true;
+            }
+        }
+        false
     }
 
     // Whether a request came whole behind the first byte of another one's reply and before its last one.
@@ -245,12 +235,13 @@ impl Story {
         let next = self
             .requests
             .partition_point(|one| one.last < answered.replied);
-        match self.requests.get(next) {
-            Some(one) => {
-                answered.replied != 0 && (answered.finished == 0 || one.last < answered.finished)
-            }
-            None => false,
-        }
+        let end = if answered.finished == 0 {
+            u64::MAX
+        } else {
+            answered.finished
+        };
+        let one = self.requests.get(next).unwrap_or(&NO_REQUEST);
+        one.is_there() && answered.replied != 0 && one.last < end
     }
 
     /// The outstanding request with this cookie.

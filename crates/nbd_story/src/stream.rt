@@ -23,7 +23,7 @@ pub struct Stream {
     kept: Vec<u8>,
     carried: Vec<Carried>,
     /// How many bytes its messages have.
-    told: u64,
+    pub told: u64,
     /// The bytes behind them, behind so many that are kept.
     open: Vec<u8>,
     from: usize,

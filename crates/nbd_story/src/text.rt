@@ -79,12 +79,14 @@ impl Text {
     }
 
     /// Adds words with numbers in the places of their braces, in which they have a name: `{at}` is a number, `{at:#x}` one in hexadecimal,
-    /// as `0x2a`, `{at:02x}` a byte, as `0a`, and `{at:byte}` so many bytes, as `1 byte` or `4 bytes`.
+    /// as `0x2a`, `{at:02x}` a byte, as `0a`, and `{at:byte}` so many bytes, as `1 byte` or `4 bytes`. Numbers without braces are left out.
     pub fn fill(self, words: &str, numbers: &[u64]) -> Text {
         let mut text = self;
         let mut rest = words;
         for number in numbers {
-            let (before, behind) = rest.split_once("{").unwrap_or((rest, ""));
+            let Some((before, behind)) = rest.split_once("{") else {
+                break;
+            };
             let (form, later) = behind.split_once("}").unwrap_or((behind, ""));
             text = text.say(before).put(*number, form);
             rest = later;
@@ -97,6 +99,11 @@ impl Text {
         self.fill(words, &[number])
     }
 
+    /// Adds words with two numbers in the places of their braces.
+    pub fn two(self, words: &str, first: u64, second: u64) -> Text {
+        self.fill(words, &[first, second])
+    }
+
     /// Adds words with a byte in the place of their braces.
     pub fn byte(self, words: &str, byte: u8) -> Text {
         self.fill(words, &[u64::from(byte)])
@@ -106,6 +113,15 @@ impl Text {
     pub fn fill_if(self, holds: bool, words: &str, numbers: &[u64]) -> Text {
         if holds {
             self.fill(words, numbers)
+        } else {
+            self
+        }
+    }
+
+    /// Adds words with two numbers where something holds.
+    pub fn two_if(self, holds: bool, words: &str, first: u64, second: u64) -> Text {
+        if holds {
+            self.two(words, first, second)
         } else {
             self
         }
@@ -146,7 +162,7 @@ impl Text {
     fn put(self, number: u64, braces: &str) -> Text {
         let (name, form) = braces.split_once(":").unwrap_or((braces, ""));
         let text = self.value(name, number, form);
-        if form.is_empty() || form.starts_with("#") || form.starts_with("0") {
+        if form.is_empty() || form.ends_with("x") {
             text
         } else {
             text.say(" ").say(form).say_if(number != 1, "s")
@@ -156,23 +172,15 @@ impl Text {
     /// Adds a number of this name in a form: `#x` and `02x` are in hexadecimal.
     pub fn value(self, name: &str, number: u64, form: &str) -> Text {
         let is_marked = self.is_marked && !name.is_empty();
-        let mut text = self.marked(is_marked, name, form);
+        let mut text = self
+            .say_if(is_marked, BEGUN)
+            .say_if(is_marked && form.ends_with("x"), DIGITS)
+            .say_if(is_marked, name)
+            .say_if(is_marked, NAMED);
         if !text.is_refused {
             text.is_refused = push_number(&mut text.written, number, form).is_err();
         }
         text.say_if(is_marked, ENDED)
-    }
-
-    // Adds the name of a number, where it has one.
-    fn marked(self, is_marked: bool, name: &str, form: &str) -> Text {
-        if is_marked {
-            self.say(BEGUN)
-                .say_if(form.ends_with("x"), DIGITS)
-                .say(name)
-                .say(NAMED)
-        } else {
-            self
-        }
     }
 }
 

@@ -32,8 +32,10 @@ pub struct Told {
     pub choice: u32,
     /// The kind of a reply to an option.
     pub answer: u32,
-    /// In an extended header, of a request or of a chunk: the offset of the request.
-    pub at: Option<u64>,
+    /// Whether it has an extended header: a request or a chunk.
+    pub extended: bool,
+    /// In the extended header of a chunk: the offset of the request.
+    pub at: u64,
     /// Those of a greeting, an export, a request or a chunk.
     pub flags: u16,
     /// The type of a request or a chunk.
@@ -70,7 +72,8 @@ pub const NO_MESSAGE: Told = Told {
     form: Form::Greeting,
     choice: 0,
     answer: 0,
-    at: None,
+    extended: false,
+    at: 0,
     flags: 0,
     kind: 0,
     cookie: 0,
@@ -93,7 +96,7 @@ impl Told {
     /// The head of a request.
     pub fn head(&self) -> RequestHead {
         RequestHead {
-            extended: self.at.is_some(),
+            extended: self.extended,
             flags: self.flags,
             command: self.kind,
             cookie: self.cookie,
@@ -114,7 +117,7 @@ impl Told {
 
     /// Whether it is a chunk of the type of a status; with an extended header that is another one.
     pub fn is_status(&self) -> bool {
-        if self.at.is_some() {
+        if self.extended {
             self.is_chunk(chunks::BLOCK_STATUS_EXT)
         } else {
             self.is_chunk(chunks::BLOCK_STATUS)

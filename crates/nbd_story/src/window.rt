@@ -19,10 +19,8 @@ impl Text {
             if at == first || side != recording.side(at.saturating_sub(1)) {
                 text = text.say("\n  ").say(letter_of(side));
             }
-            text = text
-                .say_either(at == place, " [", " ")
-                .byte("{:02x}", recording.byte(side, at))
-                .say_if(at == place, "]");
+            let words = if at == place { " [{:02x}]" } else { " {:02x}" };
+            text = text.byte(words, recording.byte(side, at));
         }
         text.end()
     }

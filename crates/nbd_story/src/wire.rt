@@ -136,7 +136,7 @@ impl Story {
             WireFault::BadMagic if self.is_oldstyle() => OF_OLDSTYLE,
             WireFault::OutOfTurn if self.is_hasty(at, sender) => HASTY,
             WireFault::Unfinished if self.is_reading() => OF_READ,
-            WireFault::UnknownCookie if self.is_answered_early(fault) => EARLY,
+            WireFault::UnknownCookie if self.is_answered_early() => EARLY,
             _ => breaker_name(breaker, sender),
         }
     }
@@ -177,7 +177,7 @@ fn magic_of(side: Side, story: &Story) -> &'static str {
         (Side::Client, true) => "expected: 25609513, of a request\n",
         (Side::Client, false) => "expected: 49484156454f5054, of an option\n",
         (Side::Server, true) => "expected: 67446698, of a simple reply, or 668e33ef, of a chunk\n",
-        (Side::Server, false) if story.server == 0 =>
+        (Side::Server, false) if story.count(side) == 0 =>
             "expected: 4e42444d4147494349484156454f5054, of a greeting\n",
         (Side::Server, false) => "expected: 0003e889045565a9, of an option reply\n",
     }

@@ -9,14 +9,14 @@ impl Text {
     /// Words and a part of an export: `4 bytes at 8`.
     pub fn part(self, words: &str, part: Part) -> Text {
         self.say(words)
-            .fill("{length:byte} at {offset}", &[part.length, part.offset])
+            .two("{length:byte} at {offset}", part.length, part.offset)
     }
 
     /// Words and places of a capture, from the first to the last: `byte 1`, `bytes 1 to 4`.
     pub fn places(self, words: &str, first: u64, last: u64) -> Text {
         self.say(words)
             .number_if(first == last, "byte {first}", first)
-            .fill_if(first != last, "bytes {first} to {last}", &[first, last])
+            .two_if(first != last, "bytes {first} to {last}", first, last)
     }
 
     /// A number with its name, as `NBD_OPT_GO (7)`; one that its table does not have as `option 77`.
@@ -43,9 +43,8 @@ impl Text {
         }
         let mut text = self;
         for (mask, name) in table {
-            if has_wide(bits, *mask) {
-                text = text.say(name).say(" ");
-            }
+            let is_set = has_wide(bits, *mask);
+            text = text.say_if(is_set, name).say_if(is_set, " ");
         }
         text.number("({flags:#x})", u64::from(bits))
     }

@@ -35,7 +35,7 @@ pub const NO_DESCRIPTOR: Descriptor = Descriptor {
 impl Descriptor {
     /// The place in the capture of its first byte in this chunk, or of the first behind so many bytes of it.
     pub fn place(&self, behind: u64, chunk: &Told, story: &Story) -> u64 {
-        let extended = chunk.at.is_some();
+        let extended = chunk.extended;
         let before = self
             .number
             .saturating_sub(1)
@@ -52,11 +52,7 @@ impl Descriptor {
 
     /// The place of its last byte.
     pub fn last(&self, chunk: &Told, story: &Story) -> u64 {
-        self.place(
-            length_of(chunk.at.is_some()).saturating_sub(1),
-            chunk,
-            story,
-        )
+        self.place(length_of(chunk.extended).saturating_sub(1), chunk, story)
     }
 }
 
