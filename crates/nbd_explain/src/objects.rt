@@ -17,115 +17,62 @@ const OF_REQUESTS: &[&str] = &["Missing", "NotCovered"];
 /// The faults of a session that is not judged: nobody broke a rule.
 const OUTSIDE: &[&str] = &["OutOfProfile", "ExportTooLarge"];
 
-/// A form of the line of a verdict: what is answered, what a no is about, and the line, with the names of its members in braces.
-#[derive(Clone, Copy)]
-struct Form {
-    verdict: &'static str,
-    kind: &'static str,
-    line: &'static str,
-}
+/// A form of a line: what is answered, what a no is about, and the line, with the names of its members in braces. Where nothing is
+/// answered it is an entry of an order, or a line of a contents text and what that says the export holds.
+type Form = (&'static str, &'static str, &'static str);
 
 // The forms; of a line the first one counts that it has.
 const FORMS: &[Form] = &[
-    Form {
-        verdict: "ok",
-        kind: "",
-        line: "ok",
-    },
-    Form {
-        verdict: "yes",
-        kind: "",
-        line: "yes requests {requests} answered {answered} improper {improper}",
-    },
-    Form {
-        verdict: "no",
-        kind: "session",
-        line: "no at byte {byte}: {fault}",
-    },
-    Form {
-        verdict: "no",
-        kind: "image",
-        line: "no image {image} size {size}",
-    },
-    Form {
-        verdict: "no",
-        kind: "order",
-        line: "no order entry {entry}: {fault}",
-    },
-    Form {
-        verdict: "no",
-        kind: "content",
-        line: "no content request {request} offset {offset} in any order",
-    },
-    Form {
-        verdict: "no",
-        kind: "content",
-        line: "no content request {request} offset {offset}",
-    },
-    Form {
-        verdict: "no",
-        kind: "status",
-        line: "no status request {request} offset {offset} in any order",
-    },
-    Form {
-        verdict: "no",
-        kind: "status",
-        line: "no status request {request} offset {offset}",
-    },
-    Form {
-        verdict: "no",
-        kind: "requests",
-        line: "no order explains requests {wrong} at offset {offset}",
-    },
-    Form {
-        verdict: "agrees",
-        kind: "",
-        line: "agrees known {known} unknown {unknown}",
-    },
-    Form {
-        verdict: "no",
-        kind: "against",
-        line: "no against offset {offset}",
-    },
-    Form {
-        verdict: "no",
-        kind: "against",
-        line: "no against {image} size {size}",
-    },
-    Form {
-        verdict: "no",
-        kind: "export",
-        line: "no export",
-    },
-    Form {
-        verdict: "open",
-        kind: "whole",
-        line: "no order of whole requests found",
-    },
-    Form {
-        verdict: "open",
-        kind: "search",
-        line: "gave up: {reason} at request {request} offset {offset}",
-    },
-];
-
-// The lines of a contents text, but for one with bytes.
-const HELD: &[Form] = &[
-    Form {
-        verdict: "",
-        kind: "size",
-        line: "size {size}",
-    },
-    Form {
-        verdict: "",
-        kind: "zero",
-        line: "zero {offset} {length}",
-    },
-    Form {
-        verdict: "",
-        kind: "unknown",
-        line: "unknown {offset} {length}",
-    },
+    ("", "", "{request}"),
+    ("", "", "{request} {offset} {length}"),
+    ("", "size", "size {size}"),
+    ("", "zero", "zero {offset} {length}"),
+    ("", "unknown", "unknown {offset} {length}"),
+    ("", "data", "data {offset} {bytes}"),
+    ("ok", "", "ok"),
+    (
+        "yes",
+        "",
+        "yes requests {requests} answered {answered} improper {improper}",
+    ),
+    ("no", "session", "no at byte {byte}: {fault}"),
+    ("no", "image", "no image {image} size {size}"),
+    ("no", "order", "no order entry {entry}: {fault}"),
+    (
+        "no",
+        "content",
+        "no content request {request} offset {offset} in any order",
+    ),
+    (
+        "no",
+        "content",
+        "no content request {request} offset {offset}",
+    ),
+    (
+        "no",
+        "status",
+        "no status request {request} offset {offset} in any order",
+    ),
+    (
+        "no",
+        "status",
+        "no status request {request} offset {offset}",
+    ),
+    (
+        "no",
+        "requests",
+        "no order explains requests {wrong} at offset {offset}",
+    ),
+    ("agrees", "", "agrees known {known} unknown {unknown}"),
+    ("no", "against", "no against offset {offset}"),
+    ("no", "against", "no against {image} size {size}"),
+    ("no", "export", "no export"),
+    ("open", "whole", "no order of whole requests found"),
+    (
+        "open",
+        "search",
+        "gave up: {reason} at request {request} offset {offset}",
+    ),
 ];
 
 /// The objects of what `check`, `explain`, `order` and `contents` print.
@@ -185,33 +132,34 @@ fn side_of(line: &str) -> Option<(&'static str, &str)> {
     }
 }
 
-// A verdict, an entry of an order, a line of a contents text, or a fact.
+// A line of one of the forms, or a fact.
 fn tell_line(alloc: Global, line: &str, object: &mut Object) {
-    if !tell_verdict(line, object) && !tell_entry(line, object) && !tell_held(line, object) {
-        tell_fact(alloc, line, object);
-    }
-}
-
-// A verdict, if the line is one.
-fn tell_verdict(line: &str, object: &mut Object) -> bool {
     for form in FORMS {
-        if has_form(line, form.line) {
-            object.text("line", line);
-            object.text("verdict", form.verdict);
-            if !form.kind.is_empty() {
-                object.text("kind", form.kind);
-            }
-            tell_members(line, form.line, object);
-            object.flag("judged", is_judged(line, form));
-            return true;
+        if has_form(line, form.2) {
+            return tell_form(line, *form, object);
         }
     }
-    false
+    tell_fact(alloc, line, object);
 }
 
-// Whether the line of a verdict is one of a session that is judged.
-fn is_judged(line: &str, form: &Form) -> bool {
-    form.verdict != "open" && !ends_with_one(line, OUTSIDE)
+fn tell_form(line: &str, form: Form, object: &mut Object) {
+    let (verdict, kind, members) = form;
+    if verdict.is_empty() {
+        tell_unless_empty("holds", kind, object);
+        return tell_members(line, members, object);
+    }
+    object.text("line", line);
+    object.text("verdict", verdict);
+    tell_unless_empty("kind", kind, object);
+    tell_members(line, members, object);
+    // (of a session that is not judged nobody broke a rule)
+    object.flag("judged", verdict != "open" && !ends_with_one(line, OUTSIDE));
+}
+
+fn tell_unless_empty(name: &str, value: &str, object: &mut Object) {
+    if !value.is_empty() {
+        object.text(name, value);
+    }
 }
 
 fn ends_with_one(line: &str, faults: &[&str]) -> bool {
@@ -261,7 +209,7 @@ fn has_form(line: &str, form: &str) -> bool {
 }
 
 fn is_value(name: &str, value: &str) -> bool {
-    matches!(name, "fault" | "reason" | "wrong") || value.parse::<u64>().is_ok()
+    matches!(name, "fault" | "reason" | "wrong" | "bytes") || value.parse::<u64>().is_ok()
 }
 
 // The members of a line of this form.
@@ -290,18 +238,21 @@ fn name_for(name: &str, is_of_request: bool) -> &str {
 }
 
 fn tell_member(name: &str, value: &str, object: &mut Object) {
-    if name.is_empty() {
-        return;
+    match name {
+        "" => {}
+        "bytes" => object.text(name, value),
+        "wrong" => tell_list(name, value, object),
+        _ => tell_value(name, value, object),
     }
-    if name == "wrong" {
-        object.begin_list(name);
-        for number in value.split(" ") {
-            object.put_number(number.parse().unwrap_or(0));
-        }
-        object.end_list();
-    } else {
-        tell_value(name, value, object);
+}
+
+// A member that is a list of numbers.
+fn tell_list(name: &str, values: &str, object: &mut Object) {
+    object.begin_list(name);
+    for number in values.split(" ") {
+        object.put_number(number.parse().unwrap_or(0));
     }
+    object.end_list();
 }
 
 // A member that is a number where its value is one, and else a text.
@@ -309,41 +260,6 @@ fn tell_value(name: &str, value: &str, object: &mut Object) {
     match value.parse() {
         Ok(number) => object.number(name, number),
         Err(_) => object.text(name, value),
-    }
-}
-
-// An entry of an order, if the line is one.
-fn tell_entry(line: &str, object: &mut Object) -> bool {
-    if line.parse::<u64>().is_ok() {
-        tell_value("request", line, object);
-        true
-    } else {
-        let form = "{request} {offset} {length}";
-        let is_part = has_form(line, form);
-        if is_part {
-            tell_members(line, form, object);
-        }
-        is_part
-    }
-}
-
-// What the export holds, if the line is one of a contents text: its size, or what is known of the bytes from an offset on.
-fn tell_held(line: &str, object: &mut Object) -> bool {
-    for form in HELD {
-        if has_form(line, form.line) {
-            object.text("holds", form.kind);
-            tell_members(line, form.line, object);
-            return true;
-        }
-    }
-    match line.strip_prefix("data ").unwrap_or("").split_once(" ") {
-        Some((offset, bytes)) if offset.parse::<u64>().is_ok() => {
-            object.text("holds", "data");
-            tell_value("offset", offset, object);
-            object.text("bytes", bytes);
-            true
-        }
-        _ => false,
     }
 }
 
