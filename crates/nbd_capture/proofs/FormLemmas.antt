@@ -1,5 +1,5 @@
 -- The forms of a capture line, taken apart.
-use Rattle.nbd_capture.proofs.Common.{◌≡◌, ℕ, ◌⊎◌, inl, inr, List, [], ◌∷◌, Ok, Err, refl, sym, ap, ◌∙◌, arith, subst, length, ◌≤◌, true, nat_eq, slice_index, IsTrue, eq-eqb, eqb-true, Side, Client, Server, AreDigits, Chunk, IsCaptureLine, hash, letter, space, chunk, blank, comment, decode_of, FromHexError}
+use Rattle.nbd_capture.proofs.Common.{◌≡◌, ℕ, ◌⊎◌, inl, inr, List, [], ◌∷◌, Ok, Err, refl, sym, ap, ◌∙◌, arith, subst, length, ◌≤◌, nat_eq, slice_index, IsTrue, eq-eqb, eqb-true, Side, Client, Server, AreDigits, Chunk, IsCaptureLine, hash, letter, space, chunk, blank, comment, decode_of, FromHexError}
 use Rattle.nbd_capture.proofs.DigitLemmas.{decodes}
 use Rattle.nbd_capture.proofs.ReadingLemmas.{IsFunctional}
 
@@ -77,11 +77,6 @@ one_saying line a b fa fb =
                 cc
           ]
     ]
-
--- a test of the first byte states whether a line is silent
-pub from_nil : (line : List ℕ) → length line ≡ 0 → (IsTrue true → IsCaptureLine line []) × (IsCaptureLine line [] → IsTrue true)
-from_nil [] e = (λ _. blank, λ _. refl)
-from_nil (b ∷ bs) e = absurd (omega arith)
 
 pub from_first : (line : List ℕ) → 1 ≤ length line → (IsTrue (nat_eq (slice_index line 0) hash) → IsCaptureLine line []) × (IsCaptureLine line [] → IsTrue (nat_eq (slice_index line 0) hash))
 from_first [] e = absurd (omega arith)

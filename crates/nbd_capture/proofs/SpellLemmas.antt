@@ -73,20 +73,6 @@ no_line side digits pairs last before old parts pairwise none_of b more said f =
           none_of front.0 front.1
     ]
 
--- a side's letter is followed by a space
-pub no_space : (side : Side) (first : ℕ) (rest more : List ℕ) (said : List Chunk) → (first ≡ space → ⊥) → IsCaptureLine (letter side ∷ first ∷ (rest ++ more)) said → ⊥
-no_space side first rest more said other f =
-    elim (forms (letter side ∷ first ∷ (rest ++ more)) said f) [
-      | inl silent ↦ elim silent.0 [
-        | inl nothing ↦ cc nothing
-        | inr remark ↦ silent_sends (letter side ∷ space ∷ []) side [] (inr (rest_of remark)) refl
-      ]
-      | inr sends ↦ other (cc sends.whole)
-    ]
-  where
-    rest_of : ((anything : List ℕ) × (letter side ∷ first ∷ (rest ++ more) ≡ hash ∷ anything)) → (anything : List ℕ) × (letter side ∷ space ∷ [] ≡ hash ∷ anything)
-    rest_of (anything, same) = let first_is : letter side ≡ hash = cc same in (space ∷ [], ap (λ c. c ∷ space ∷ []) first_is)
-
 -- a pair whose second digit came with the next part
 pub with_second : (side : Side) (before rest old more middle new : List ℕ) (first second : ℕ) (half : Option ℕ) (form : Form) → half ≡ Some first
     → middle ≡ old ++ more → AreDigits (first ∷ second ∷ []) more → Spell before half old

@@ -1,7 +1,7 @@
 -- What is left, compared with an image that is read portion by portion.
 use Rattle.nbd_explain.proofs.Common.{◌≡◌, ℕ, ◌+◌, ◌-◌, ◌<◌, ◌≤◌, zero, suc, refl, sym, ◌∙◌, ap, subst, arith, Option, Some, None, IfSome, Bool, List, ◌++◌, length, length-append, slice_get, Appends}
 use Rattle.std.specs.Prelude.{[], ◌∷◌, count_by, is_none, is_some}
-use Rattle.std.specs.Io.KnownBytes.{Consumes, IsAtEnd}
+use Rattle.std.specs.Io.KnownBytes.{Consumes}
 use Rattle.std.proofs.KnownBytes.{Consumes-nil, Consumes-trans}
 use Rattle.std.proofs.lemmas.Bool.{cases_lt}
 use Rattle.std.proofs.Common.{⊎_elim}
@@ -12,7 +12,6 @@ use Rattle.nbd_export.specs.Held.{Held, held, held_from}
 use Rattle.nbd_export.specs.Ranges.{DiffersIn, IsLeast, bytes_from}
 use Rattle.nbd_export.proofs.HeldLemmas.{length-held_from, slice_get-held_from, slice_get-held_from-none}
 use Rattle.nbd_export.proofs.LeastLemmas.{least_in_part, none_in_part}
-use Rattle.nbd_files.proofs.InputLemmas.{all_read}
 use Rattle.nbd_explain.specs.Compared.{DiffersAt, WritesCompared, agreeing_line, differing_line, sizes_line}
 use Rattle.nbd_explain.specs.Compared.Compares.{agree, differ, sizes}
 use Rattle.nbd_explain.specs.declared.comparing.Compared.{Compared}
@@ -106,14 +105,6 @@ compared_more old mid new contents count n first next more h given len step = re
   counted = length-append h.bytes more ∙ ap (λ k. k + length more) h.counted ∙ ap (λ k. count + k) len;
   least = λ le. step h.bytes h.counted (omega (arith, len, le)) (h.least (omega (arith, le)));
 }
-
--- a read that gave nothing, at the end: what was compared is all
-pub compared_all : (old mid new : Option (List ℕ)) (contents : Extents) (count : ℕ) (first : Option ℕ) (last : List ℕ) → HasCompared old mid contents count first → Consumes mid new last → last ≡ [] → IsAtEnd new
-    → IfSome old (λ bytes. (count ≡ length bytes) × (count ≤ size_of contents → IsLeastOther contents bytes first))
-compared_all None mid new contents count first last h given none end = tt
-compared_all (Some bytes) mid new contents count first last h given none end =
-    let all : h.bytes ≡ bytes = all_read (Some bytes) mid new h.bytes last h.consumed given none end in
-    (sym h.counted ∙ ap length all, λ le. subst (λ b. IsLeastOther contents b first) all (h.least le))
 
 -- a known byte of a list, by its offset
 known_at : (f : ℕ → Option ℕ) (n x b : ℕ) → known (slice_get (held_from f 0 n) x) ≡ Some b → (x < n) × (f x ≡ Some b)

@@ -1,5 +1,5 @@
 -- The verdict that is explained, what faults say, and the lines of an order of arrival.
-use Rattle.nbd_explain.proofs.Common.{◌≡◌, ℕ, List, ◌++◌, true, false, refl, sym, subst, Option, None, Some, Result, Ok, Err, IfOk, IfErr, IfSome, OnOk, length, suc, ◌+◌, arith, codes, decimal, Appends, Keeps, Entry, WireFault, Profile, Start, Report, IsOrderText, SessionFault, Wire, EndsIn, IsReported, SessionView, fault_at_end, fault_of, no_run_of, IsFaultOf, HasReport, RunFault, AgainstRead, CaptureLine, CaptureRead, ContentsLine, ContentsRead, ImageRead, Memory, OrderLine, OrderRead, ScriptLine, ScriptRead, Write, IsOverText, Beginning, IsBeginningOf, room_in, IsOrder, flat_of, LeavesOrdered, verdict_on, checked_over, fault_over, report_over, Arrives, number_lines, Answer, Explains, IsFinishOf, IsToldOn, OnWritten}
+use Rattle.nbd_explain.proofs.Common.{◌≡◌, ℕ, List, true, false, sym, subst, Option, Result, Ok, Err, IfOk, IfErr, IfSome, OnOk, length, Appends, Keeps, Entry, WireFault, Profile, Start, Report, IsOrderText, SessionFault, Wire, EndsIn, IsReported, SessionView, fault_at_end, fault_of, no_run_of, IsFaultOf, HasReport, IsOverText, Beginning, IsBeginningOf, room_in, flat_of, verdict_on, checked_over, fault_over, report_over, Arrives, number_lines, Answer, Explains, IsFinishOf, IsToldOn, OnWritten}
 use Rattle.nbd_explain.specs.Arrival.HasArrival.{accepted, refused}
 
 -- what holds of a value holds of another claim that follows
@@ -10,10 +10,6 @@ map_ok (Err e) f p = tt
 pub map_err : {A E : Type 0} {P Q : E → Type 0} (o : Result A E) → ((e : E) → P e → Q e) → IfErr o P → IfErr o Q
 map_err (Ok a) f p = tt
 map_err (Err e) f p = f e p
-
-pub map_on : {A E P Q : Type 0} (o : Result A E) → (P → Q) → OnOk o P → OnOk o Q
-map_on (Ok a) f p = f p
-map_on (Err e) f p = tt
 
 pub each_ok : {A E P : Type 0} (o : Result A E) → P → OnOk o P
 each_ok (Ok a) p = p
@@ -31,30 +27,6 @@ explained {profile} known order entries start finished finish beginning begun an
   answer = told.answer;
   begins = (told.begins.0, subst (Appends old new) told.begins.1 appended);
 }
-
--- bytes that have entries are an order text
-pub is_order : (order : Option (List ℕ)) (entries : List Entry) → IfSome order (λ text. IsOrderText text entries) → IsOrder order
-is_order None entries text = tt
-is_order (Some bytes) entries text = (entries, text)
-
--- where nothing was written
-keeps_same : (old : Option (List ℕ)) → Keeps old old
-keeps_same None = tt
-keeps_same (Some bytes) = refl
-
-pub leaves_same : (old : Option (List ℕ)) (fault : RunFault) → LeavesOrdered old old fault
-leaves_same old (CaptureLine n) = keeps_same old
-leaves_same old CaptureRead = keeps_same old
-leaves_same old (OrderLine n) = keeps_same old
-leaves_same old OrderRead = keeps_same old
-leaves_same old ImageRead = keeps_same old
-leaves_same old (ContentsLine n) = keeps_same old
-leaves_same old ContentsRead = keeps_same old
-leaves_same old AgainstRead = keeps_same old
-leaves_same old (ScriptLine n) = keeps_same old
-leaves_same old ScriptRead = keeps_same old
-leaves_same old Write = tt
-leaves_same old Memory = keeps_same old
 
 -- the lines of an accepted session's requests
 pub arrives : {profile : Profile} (known : Option (List ℕ)) (r : SessionView) (told : Report) (finished : Result Report SessionFault) (old new : Option (List ℕ)) → IsOverText profile known r → finished ≡ Ok told →
@@ -74,9 +46,3 @@ pub arrives_not : {profile : Profile} (known : Option (List ℕ)) (r : SessionVi
 arrives_not {profile} known r at fault finished old new session is same ends kept =
     let why = subst (λ o. IfErr o (IsFaultOf profile (flat_of session.chunks))) is (fault_over (flat_of session.chunks) r finished session.over same ends) in
     record { chunks = session.chunks; is_text = session.is_text; arrival = refused (no_run_of (flat_of session.chunks) why.0 at fault why.1) kept }
-
--- one more number
-pub number_lines_step : (n : ℕ) → number_lines (n + 1) ≡ number_lines n ++ (decimal (n + 1) ++ codes "\n")
-number_lines_step n =
-    let e : suc n ≡ n + 1 = omega arith in
-    subst (λ k. number_lines k ≡ number_lines n ++ (decimal k ++ codes "\n")) e refl

@@ -38,13 +38,6 @@ module _ (p q : Extents) (offset len size : ℕ) (kind : Kind) (new : ℕ → Op
       (cases_lt x (offset + len)))
       (cases_lt x offset)
 
--- a range of no byte changes nothing
-pub range_empty : (p : Extents) (offset len size : ℕ) (new : ℕ → Option ℕ) → len ≡ 0 → AreSameBelow size (byte_of p) (overlay offset len new (byte_of p))
-range_empty p offset len size new e x l = ⊎_elim
-    (λ (m : x < offset). sym (changed_before offset len x new (byte_of p) m))
-    (λ (m : offset ≤ x). sym (changed_behind offset len x new (byte_of p) (omega arith)))
-    (cases_lt x offset)
-
 -- a byte that was written, laid from the range's offset on
 pub written_byte : (offset x : ℕ) (bytes : List ℕ) (stored : ℕ → ℕ) → ((i : ℕ) → i < length bytes → stored (offset + i) ≡ slice_index bytes i) → offset ≤ x → x < offset + length bytes → Some (stored x) ≡ bytes_from offset bytes x
 written_byte offset x bytes stored h lo hi =

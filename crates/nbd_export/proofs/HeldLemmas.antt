@@ -1,5 +1,5 @@
 -- What an export holds, as a list.
-use Rattle.nbd_export.proofs.Common.{◌≡◌, ℕ, zero, suc, List, ◌+◌, ◌<◌, ◌≤◌, length, refl, sym, ap, ◌∙◌, arith, Option, Some, None, get_or, slice_get}
+use Rattle.nbd_export.proofs.Common.{◌≡◌, ℕ, zero, suc, ◌+◌, ◌<◌, ◌≤◌, length, refl, sym, ap, ◌∙◌, arith, Option, Some, None, get_or, slice_get}
 use Rattle.std.specs.Prelude.{[], ◌∷◌, ◌++◌}
 use Rattle.nbd_export.specs.Held.{Held}
 unfoldable use Rattle.nbd_export.specs.Held.{held_from}

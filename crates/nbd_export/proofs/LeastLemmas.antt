@@ -1,13 +1,5 @@
 -- The least offset where bytes differ, piece by piece.
-use Rattle.nbd_export.proofs.Common.{◌≡◌, ℕ, List, ◌+◌, ◌-◌, ◌<◌, ◌≤◌, refl, sym, ◌∙◌, subst, ap, Option, Some, None, arith, Bool, true, false, ◌==◌, eqb-true, slice_get, length, ⊎_elim, get_or, take, drop, cases_lt, eqb-false, get_or-drop, get_or-take, length-drop, length-take, slice_get-get_or, DiffersIn, IsLeast, bytes_from}
-
--- no difference below one more offset
-pub none_more : (f g : ℕ → Option ℕ) (offset len i : ℕ) → ((x : ℕ) → x < offset + i → DiffersIn f offset len g x → ⊥) → (DiffersIn f offset len g (offset + i) → ⊥) → (x : ℕ) → x < offset + (i + 1) → DiffersIn f offset len g x → ⊥
-none_more f g offset len i below here x h d = go (x == offset + i) refl
-  where
-    go : (b : Bool) → (x == offset + i) ≡ b → ⊥
-    go true e = here (subst (DiffersIn f offset len g) (eqb-true x (offset + i) e) d)
-    go false e = (let ne = eqb-false x (offset + i) e in below x (omega arith) d)
+use Rattle.nbd_export.proofs.Common.{◌≡◌, ℕ, List, ◌+◌, ◌-◌, ◌<◌, ◌≤◌, sym, ◌∙◌, subst, ap, Option, Some, None, arith, slice_get, length, ⊎_elim, get_or, take, drop, cases_lt, get_or-drop, get_or-take, length-drop, length-take, slice_get-get_or, DiffersIn, IsLeast, bytes_from}
 
 -- a property that none has below an offset, and none of the next n has
 pub none_further : (P : ℕ → Type 0) (at n : ℕ) → ((x : ℕ) → x < at → P x → ⊥) → ((j : ℕ) → j < n → P (at + j) → ⊥) → (x : ℕ) → x < at + n → P x → ⊥

@@ -24,6 +24,3 @@ by_parts Memory = refl
 -- of a malformed line, and of another fault
 pub numbered : (fault : RunFault) (n : ℕ) → Some n ≡ line_of fault → codes "fault " ++ (name_of fault ++ (codes " line " ++ decimal n)) ≡ words fault
 numbered fault n e = subst (λ o. words_by fault o ≡ words fault) (sym e) (by_parts fault)
-
-pub unnumbered : (fault : RunFault) → None ≡ line_of fault → codes "fault " ++ name_of fault ≡ words fault
-unnumbered fault e = subst (λ o. words_by fault o ≡ words fault) (sym e) (by_parts fault)

@@ -1,15 +1,11 @@
 -- What is printed, part by part.
-use Rattle.nbd_lines.proofs.Common.{◌≡◌, ℕ, ◌+◌, ◌<◌, ◌≤◌, List, [], ◌∷◌, ◌++◌, length, take, drop, get_or, refl, sym, ap, ◌∙◌, append_assoc, append-nil, drop-cons, add-one, take-append_seam, drop_all, Field, encode_lower, Message, end_text, message_line, payload_words, number_text, numbers_text, payload_of, fields, has_payload, line_form, numbers, words, AddsPrefix}
+use Rattle.nbd_lines.proofs.Common.{◌≡◌, ℕ, ◌+◌, ◌<◌, ◌≤◌, List, [], ◌∷◌, ◌++◌, length, take, drop, get_or, refl, sym, ap, ◌∙◌, append_assoc, append-nil, drop-cons, add-one, drop_all, Field, encode_lower, Message, end_text, message_line, payload_words, number_text, numbers_text, payload_of, fields, has_payload, line_form, numbers, words, AddsPrefix}
 
 pub adds_nothing : (old : List ℕ) → AddsPrefix old old
 adds_nothing old = record { prefix = []; whole = sym (append-nil old) }
 
 pub adds_more : (old mid new more : List ℕ) → AddsPrefix old mid → new ≡ mid ++ more → AddsPrefix old new
 adds_more old mid new more h e = record { prefix = h.prefix ++ more; whole = e ∙ ap (λ l. l ++ more) h.whole ∙ append_assoc old h.prefix more }
-
--- what is after the old bytes is cut off
-pub cut_back : (old new : List ℕ) → AddsPrefix old new → take (length old) new ≡ old
-cut_back old new h = ap (take (length old)) h.whole ∙ take-append_seam old h.prefix
 
 -- so many fields stand printed, and what is left makes them all
 pub record Printing (fs : List Field) (ns : List ℕ) (k : ℕ) (old out : List ℕ) : Type 0 where

@@ -164,7 +164,3 @@ are_held f offset (suc n) h = (h offset (omega arith) (omega arith), are_held f 
 pub byte_if_known : (o : Option ℕ) (b : ℕ) → o ≡ Some b → b < 256 → IfSome o (λ b. b < 256)
 byte_if_known None b e small = tt
 byte_if_known (Some a) b e small = let same : a ≡ b = cc in omega (arith, same, small)
-
-pub byte_if_unknown : (o : Option ℕ) → o ≡ None → IfSome o (λ b. b < 256)
-byte_if_unknown None e = tt
-byte_if_unknown (Some a) e = cc e

@@ -1,12 +1,12 @@
 -- Starts that know less, and sessions one after another.
-use Rattle.nbd_order.proofs.Common.{◌≡◌, ℕ, ◌&&◌, ◌||◌, List, [], ◌∷◌, refl, sym, ap, ◌∙◌, Bool, true, false, Option, Some, None, take, if◌then◌else◌, Entry, Part, start_byte, Effect, byte_before, byte_or_start, effect_byte, effects, last_touch, later, touch_of, touches, Asked, Report, report, is_in, IsFaultless, Passes, ExplainedPasses, PassingIsExplained}
+use Rattle.nbd_order.proofs.Common.{arith, take_all, ◌≡◌, ℕ, ◌&&◌, ◌||◌, List, [], ◌∷◌, refl, sym, ap, ◌∙◌, Bool, true, false, Option, Some, None, take, if◌then◌else◌, Entry, Part, start_byte, Effect, byte_before, byte_or_start, effect_byte, effects, last_touch, later, touch_of, touches, Asked, Report, report, is_in, IsFaultless, Passes, ExplainedPasses, PassingIsExplained}
 use Rattle.std.specs.Prelude.{◌++◌, length}
 use Rattle.nbd_wire.specs.protocol.ExportBytes.{IsWrongOf}
 use Rattle.nbd_wire.specs.protocol.Explains.{IsExplainedOf}
 use Rattle.nbd_wire.specs.protocol.Marks.{pairs}
 use Rattle.nbd_laws.specs.Soundness.{ReportsAreSound}
 use Rattle.nbd_judge.proofs.contents.CompareLemmas.{wrong_there}
-use Rattle.nbd_judge.proofs.contents.StartLemmas.{wrong_more}
+use Rattle.nbd_judge.proofs.contents.StartLemmas.{left_same, wrong_more}
 use Rattle.nbd_order.specs.Chains.{ChainsAreOneHistory, ExplainedFromLess, HasNoneWrongInChain, LeavesLess, Link, byte_in_chain, last_served, left_by_chain, served_by_chain, served_of, trim_of, trims}
 use Rattle.nbd_order.specs.Leaving.{are_open_at, is_open, left}
 
@@ -33,7 +33,7 @@ leaves_less r order n less more knows x b inside =
     let touch = last_touch (effects r) x (take (length order) order) in
     less_if (are_open_at r.asked x) (byte_or_start touch less x) (byte_or_start touch more x) b (less_touched touch less more x b (knows x b inside))
 
-later_assoc : (a b c : Option Effect) → later (later a b) c ≡ later a (later b c)
+pub later_assoc : (a b c : Option Effect) → later (later a b) c ≡ later a (later b c)
 later_assoc (Some a) b c = refl
 later_assoc None b c = refl
 
@@ -62,8 +62,7 @@ last_of_order requests x [] = refl
 last_of_order requests x (entry ∷ order) = ap (λ l. later l (touch_of entry.part (requests entry.request) x)) (last_of_order requests x order)
 
 pub take_whole : (order : List Entry) → take (length order) order ≡ order
-take_whole [] = refl
-take_whole (e ∷ order) = ap (λ l. e ∷ l) (take_whole order)
+take_whole order = take_all (length order) order (omega arith)
 
 -- a touch that is there or not
 touched_if : (l : Option Effect) (p : Bool) (t : Effect) (f : ℕ → Option ℕ) (x : ℕ) → byte_or_start (later l (if p then Some t else None)) f x ≡ (if p then byte_or_start (later l (Some t)) f x else byte_or_start l f x)
@@ -120,17 +119,8 @@ left_served : (r : Report) (order : List Entry) (initial : ℕ → Option ℕ) (
 left_served r order initial x =
     ap (λ l. if are_open_at r.asked x then None else byte_or_start l initial x) (ap (last_touch (effects r) x) (take_whole order) ∙ last_of_order (effects r) x order)
     ∙ sym (trims_forget r.asked (λ y. byte_or_start (last_served x (served_of (effects r) order)) initial y) x)
-    ∙ same_there (last_served x (trims r.asked)) (last_served x (served_of (effects r) order)) initial x
+    ∙ left_behind (last_served x (trims r.asked)) (last_served x (served_of (effects r) order)) initial x
     ∙ ap (λ l. byte_or_start l initial x) (sym (last_append x (served_of (effects r) order) (trims r.asked)))
-  where
-    same_there : (a b : Option Effect) (initial : ℕ → Option ℕ) (x : ℕ) → byte_or_start a (λ y. byte_or_start b initial y) x ≡ byte_or_start (later a b) initial x
-    same_there (Some a) b initial x = refl
-    same_there None b initial x = refl
-
--- the byte at first counts only there
-pub first_there : (l : Option Effect) (f g : ℕ → Option ℕ) (x : ℕ) → f x ≡ g x → byte_or_start l f x ≡ byte_or_start l g x
-first_there None f g x same = same
-first_there (Some e) f g x same = refl
 
 -- a chain leaves what the last of all that it serves does
 chain_served : (links : List Link) (initial : ℕ → Option ℕ) (x : ℕ) → left_by_chain links initial x ≡ byte_or_start (last_served x (served_by_chain links)) initial x
@@ -138,7 +128,7 @@ chain_served [] initial x = refl
 chain_served (link ∷ links) initial x =
     let served = served_of (effects link.report) link.order ++ trims link.report.asked in
     chain_served links (left link.report link.order initial) x
-    ∙ first_there (last_served x (served_by_chain links)) (left link.report link.order initial) (λ y. byte_or_start (last_served x served) initial y) x (left_served link.report link.order initial x)
+    ∙ left_same (last_served x (served_by_chain links)) (left link.report link.order initial) (λ y. byte_or_start (last_served x served) initial y) x (left_served link.report link.order initial x)
     ∙ left_behind (last_served x (served_by_chain links)) (last_served x served) initial x
     ∙ ap (λ l. byte_or_start l initial x) (sym (last_append x served (served_by_chain links)))
 
@@ -147,7 +137,7 @@ in_chain : (links : List Link) (r : Report) (order : List Entry) (initial : ℕ 
 in_chain links r order initial i x =
     let served = served_of (effects r) (take i order) in
     ap (λ l. byte_or_start l (left_by_chain links initial) x) (last_of_order (effects r) x (take i order))
-    ∙ first_there (last_served x served) (left_by_chain links initial) (λ y. byte_or_start (last_served x (served_by_chain links)) initial y) x (chain_served links initial x)
+    ∙ left_same (last_served x served) (left_by_chain links initial) (λ y. byte_or_start (last_served x (served_by_chain links)) initial y) x (chain_served links initial x)
     ∙ left_behind (last_served x served) (last_served x (served_by_chain links)) initial x
     ∙ ap (λ l. byte_or_start l initial x) (sym (last_append x (served_by_chain links) served))
 

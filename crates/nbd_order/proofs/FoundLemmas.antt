@@ -1,5 +1,5 @@
 -- What is found of a report, and of the runs with that report.
-use Rattle.nbd_order.proofs.Common.{◌≡◌, ℕ, zero, suc, List, [], ◌∷◌, refl, sym, subst, Option, Some, None, All-append, All-cons, All-nil, Profile, Entry, whole, FitsImage, Held, Start, Unknown, Zeroes, Item, Exporting, Report, report, IsRunOf, Passes, answered_count, improper_count, request_count, ExplainedPasses, PassingIsExplained, IsOtherSize, OneVerdict, IsVerdict, Verdict, Yes, Found, GaveUp, NoneWhole, Order, Unexplained, Wanted, Any, Whole, AreWhole, FailsArrival, FoundIsSo, IsFound, IsWanted, IsWantedOrder, Says, arrival, RefutedIsUnexplained, IsOpen}
+use Rattle.nbd_order.proofs.Common.{◌≡◌, ℕ, zero, suc, List, [], ◌∷◌, refl, sym, subst, Option, Some, None, All-append, All-cons, All-nil, Profile, Entry, whole, FitsImage, Held, Start, Unknown, Zeroes, Item, Exporting, Report, report, IsRunOf, Passes, answered_count, improper_count, request_count, ExplainedPasses, PassingIsExplained, IsOtherSize, OneVerdict, IsVerdict, Verdict, Yes, Found, GaveUp, NoneWhole, Order, Unexplained, Wanted, Any, Whole, AreWhole, FoundIsSo, IsFound, IsWantedOrder, Says, arrival, RefutedIsUnexplained}
 use Rattle.nbd_order.specs.declared.finding.Found.TheVariants.{Image as FoundImage}
 
 other_size_fits : (export : Option Exporting) (initial : Start) (image size : ℕ) → IsOtherSize export initial image size → FitsImage export initial → ⊥
@@ -33,21 +33,6 @@ does_not_pass one profile r order initial v h other p =
 pub says_of : FoundIsSo → (profile : Profile) (r : Report) (initial : Start) (found : Found) → IsFound profile r initial found → (items : List Item) → IsRunOf profile items → report items ≡ r
     → Says profile items initial found
 says_of law profile r initial found f items is_run same = law profile items initial found is_run (subst (λ q. IsFound profile q initial found) (sym same) f)
-
--- an answer that is not proved may be given where the order of arrival does not explain the report, whatever is wanted
-pub open_found : (profile : Profile) (r : Report) (initial : Start) (f : Found) → IsOpen f → FailsArrival profile r initial → IsFound profile r initial f
-open_found profile r initial (Order order) is fails = absurd is
-open_found profile r initial (Unexplained refutation) is fails = absurd is
-open_found profile r initial (FoundImage image size) is fails = absurd is
-open_found profile r initial NoneWhole is fails = absurd is
-open_found profile r initial (GaveUp request offset reason) is fails = fails
-
-pub open_wanted : (wanted : Wanted) (f : Found) → IsOpen f → IsWanted wanted f
-open_wanted wanted (Order order) is = absurd is
-open_wanted wanted (Unexplained refutation) is = absurd is
-open_wanted wanted (FoundImage image size) is = absurd is
-open_wanted wanted NoneWhole is = absurd is
-open_wanted wanted (GaveUp request offset reason) is = tt
 
 -- an order of whole requests is wanted, whatever is
 pub whole_wanted : (wanted : Wanted) (order : List Entry) → AreWhole order → IsWantedOrder wanted order

@@ -1,5 +1,5 @@
 -- Numbers of a list, one after the other.
-use Rattle.nbd_order.proofs.Common.{◌≡◌, ℕ, ◌+◌, ◌<◌, ◌≤◌, inl, inr, List, [], ◌∷◌, length, refl, sym, ◌∙◌, ap, subst, true, false, ◌==◌, get_or, take, arith, eq-eqb, eqb-true, or_cases, take_all, list_any_at, list_any_more, has}
+use Rattle.nbd_order.proofs.Common.{◌≡◌, ℕ, ◌+◌, ◌<◌, ◌≤◌, inl, inr, List, [], ◌∷◌, length, refl, sym, ◌∙◌, ap, subst, true, false, ◌==◌, get_or, take, arith, eqb-true, or_cases, take_all, list_any_more, has}
 
 -- each of the first i numbers has the property
 abbrev pub EachOf : (ℕ → Type 0) → List ℕ → ℕ → Type 0
@@ -8,9 +8,6 @@ EachOf P numbers i = (k : ℕ) → has (take i numbers) k ≡ true → P k
 none_of_none : (numbers : List ℕ) (k : ℕ) → has (take 0 numbers) k ≡ false
 none_of_none [] k = refl
 none_of_none (n ∷ numbers) k = refl
-
-pub each_none : (P : ℕ → Type 0) (numbers : List ℕ) → EachOf P numbers 0
-each_none P numbers k h = absurd (let q : false ≡ true = sym (none_of_none numbers k) ∙ h in (cc))
 
 pub each_more : (P : ℕ → Type 0) (numbers : List ℕ) (i d : ℕ) → i < length numbers → EachOf P numbers i → P (get_or numbers i d) → EachOf P numbers (i + 1)
 each_more P numbers i d l each here k h =
@@ -21,9 +18,6 @@ each_more P numbers i d l each here k h =
 
 pub each_all : (P : ℕ → Type 0) (numbers : List ℕ) (i : ℕ) → length numbers ≤ i → EachOf P numbers i → (k : ℕ) → has numbers k ≡ true → P k
 each_all P numbers i l each k h = each k (ap (λ ns. has ns k) (take_all i numbers l) ∙ h)
-
-pub has_at : (numbers : List ℕ) (i d : ℕ) → i < length numbers → has numbers (get_or numbers i d) ≡ true
-has_at numbers i d l = list_any_at (λ n. n == get_or numbers i d) numbers i d l (eq-eqb (get_or numbers i d) (get_or numbers i d) refl)
 
 -- the same with the list that a loop goes over
 pub each_step : (P : ℕ → Type 0) (numbers items : List ℕ) (i d : ℕ) → items ≡ numbers → i < length items → EachOf P numbers i → P (get_or items i d) → EachOf P numbers (i + 1)

@@ -9,16 +9,12 @@ use Rattle.nbd_laws.proofs.service.EntryLemmas.{HasNoFault}
 use Rattle.nbd_laws.proofs.worked.IndexLemmas.{by_entries, by_index}
 use Rattle.nbd_laws.specs.Soundness.{ReportsAreSound}
 use Rattle.nbd_judge.proofs.contents.CompareLemmas.{wrong_there}
-use Rattle.nbd_judge.proofs.contents.StartLemmas.{wrong_more}
-use Rattle.nbd_order.proofs.ChainLemmas.{first_there, left_behind, take_whole}
+use Rattle.nbd_judge.proofs.contents.StartLemmas.{left_same, wrong_more}
+use Rattle.nbd_order.proofs.ChainLemmas.{later_assoc, left_behind, take_whole}
 use Rattle.nbd_order.proofs.SplitLemmas.{AreParts, are_parts}
 use Rattle.nbd_order.proofs.SplitOrderLemmas.{AreLow, AreNamed, in_parts, in_whole, low_of_fine, named_of_fine, parted}
 use Rattle.nbd_order.specs.Leaving.{are_open_at, left}
 use Rattle.nbd_order.specs.Splits.{IsCut, IsExplainedInParts, SplitsAreExplained, SplitsLeaveTheSame, StandsAgain, behind, start_behind}
-
-later_assoc : (a b c : Option Effect) → later (later a b) c ≡ later a (later b c)
-later_assoc (Some a) b c = refl
-later_assoc None b c = refl
 
 later_none : (o : Option Effect) → later o None ≡ o
 later_none None = refl
@@ -120,7 +116,7 @@ module _ (profile : Profile) (n : ℕ) (r r1 r2 : Report) (export : Exporting) (
       ∙ ap (λ t. later_of t (last_touch (effects r) x earlier)) (touch_high n (effects r) (effects r2) are.effects_high x taken are_named)
       ∙ ap (λ t. later_of (last_touch (effects r2) x taken) t) (touch_low n (effects r) (effects r1) are.effects_low x earlier low))
       ∙ sym (left_behind (last_touch (effects r2) x taken) (last_touch (effects r1) x earlier) initial x)
-      ∙ first_there (last_touch (effects r2) x taken) (λ y. byte_or_start (last_touch (effects r1) x earlier) initial y) (left r1 earlier initial) x (sym (left_first x))
+      ∙ left_same (last_touch (effects r2) x taken) (λ y. byte_or_start (last_touch (effects r1) x earlier) initial y) (left r1 earlier initial) x (sym (left_first x))
 
   byte_second : (i x : ℕ) → byte_before (effects r) order initial (length earlier + i) x ≡ byte_before (effects r2) later (left r1 earlier initial) i x
   byte_second i x =
@@ -164,7 +160,7 @@ module _ (profile : Profile) (n : ℕ) (r r1 r2 : Report) (export : Exporting) (
       ap (λ b. if b then None else byte_before (effects r) order initial (length order) x) (are.open_same x)
       ∙ ap (λ o. if are_open_at r2.asked x then None else o)
       (ap (λ t. byte_or_start (last_touch (effects r) x t) initial x) (take_whole order) ∙ byte_behind_first x later named
-      ∙ first_there (last_touch (effects r2) x later) (left r1 earlier initial) start x (sym same) ∙ ap (λ t. byte_or_start (last_touch (effects r2) x t) start x) (sym (take_whole later)))
+      ∙ left_same (last_touch (effects r2) x later) (left r1 earlier initial) start x (sym same) ∙ ap (λ t. byte_or_start (last_touch (effects r2) x t) start x) (sym (take_whole later)))
 
 -- what the first part leaves, as a start
 start_is : (r : Report) (order : List Entry) (initial : Start) (export : Exporting) → r.export ≡ Some export → (x : ℕ) → x < export.size → start_byte (start_behind r order initial) x ≡ left r order (start_byte initial) x

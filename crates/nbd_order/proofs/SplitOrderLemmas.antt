@@ -4,7 +4,7 @@ use Rattle.std.specs.Prelude.{◌++◌, ◌⊎◌, ◌-◌}
 use Rattle.std.proofs.lemmas.Bool.{le-leb}
 use Rattle.std.proofs.Common.{append-nil, append_assoc}
 use Rattle.nbd_wire.specs.protocol.Entries.{IsServedAt, NamesWhole}
-use Rattle.nbd_laws.proofs.service.EntryLemmas.{AreFine, AreFine-as, AreFine-left, AreFine-right, HasNoFault, IsFine, IsInTime, IsInTime-right, Names-append_cases, names_served, served-append, served_at-left, served_behind}
+use Rattle.nbd_laws.proofs.service.EntryLemmas.{AreFine, AreFine-as, AreFine-left, AreFine-right, HasNoFault, IsFine, IsInTime, IsInTime-right, Names-append_cases, names_served, served-append, served_at-left, served_behind, whole_names}
 use Rattle.nbd_order.proofs.SplitCoreLemmas.{plus, same_bool}
 use Rattle.nbd_order.specs.Splits.{behind}
 
@@ -75,10 +75,6 @@ whole_cases (e ∷ es) fs k h = elim h [ inl q ↦ inl (inl q) | inr r ↦ elim 
 names_right : (es fs : List Entry) (k : ℕ) → Names fs k → Names (es ++ fs) k
 names_right [] fs k h = h
 names_right (e ∷ es) fs k h = inr (names_right es fs k h)
-
-whole_names : (es : List Entry) (k : ℕ) → NamesWhole es k → Names es k
-whole_names [] k h = h
-whole_names (e ∷ es) k h = elim h [ inl q ↦ inl q.0 | inr r ↦ inr (whole_names es k r) ]
 
 -- a request of the second part is none of those below it
 no_name : (n : ℕ) (es : List Entry) (k : ℕ) → AreLow n es → 0 < k → Names es (n + k) → ⊥

@@ -1,5 +1,5 @@
 -- What an index of pieces tells, and what one more piece changes.
-use Rattle.nbd_state.proofs.Common.{◌≡◌, ℕ, IsTrue, nat_lt, ◌-◌, ◌+◌, ◌<◌, ◌≤◌, ◌==◌, inl, inr, List, [], ◌∷◌, ◌++◌, refl, sym, ◌∙◌, ap, Option, Some, None, Bool, true, false, IsSome, MatchBool, arith, ◌&&◌, ◌||◌, nat_le, if◌then◌else◌, eqb-true, eq-eqb, subst, length, slice_index_or, and-true, and-false, and_parts, leb-true, leb-false, le-leb, lt-ltb, ltb-false, ltb-true, cases_order, BTreeMap, btree_map_len, is_at, list_all, lookup, nat_cmp, Piece, is_in, piece_offset, piece_size, is_apart, is_apart_from, Span, span_of, Covers, HasMore, IsApart, IsBare, IsHeld, IsHeldFrom, IsIndex, size_from}
+use Rattle.nbd_state.proofs.Common.{◌≡◌, ℕ, IsTrue, nat_lt, ◌-◌, ◌+◌, ◌<◌, ◌≤◌, ◌==◌, inl, inr, List, [], ◌∷◌, ◌++◌, refl, sym, ◌∙◌, ap, Option, Some, None, Bool, true, false, IsSome, MatchBool, arith, ◌&&◌, ◌||◌, nat_le, if◌then◌else◌, eqb-true, eq-eqb, subst, length, slice_index_or, and-true, and-false, and_parts, leb-true, leb-false, le-leb, lt-ltb, ltb-false, ltb-true, cases_order, BTreeMap, btree_map_len, is_at, list_all, lookup, nat_cmp, Piece, is_in, piece_offset, piece_size, is_apart, is_apart_from, Span, span_of, HasMore, IsApart, IsBare, IsHeldFrom, IsIndex, size_from}
 
 -- an offset in a range, as bounds
 pub in_bounds : (offset len x : ℕ) → IsTrue (is_in offset len x) → (offset ≤ x) × (x < offset + len)
@@ -102,16 +102,6 @@ held-from sizes offset first size held apart at lo last e = go (nat_lt offset (f
             | inr (inr after) ↦ (let up : k ≤ first = last k l (subst IsSome (sym is) refl) in omega arith)
           ]),
         ))
-
--- what a walk along the spans has covered
-pub covers-more : (sizes : ℕ → Option ℕ) (offset done held more : ℕ) → more ≤ held → Covers sizes offset done → IsHeldFrom sizes (offset + done) held → (held ≡ 0 → ⊥) → Covers sizes offset (done + more)
-covers-more sizes offset done held more l before (inl none) some = absurd (some none.0)
-covers-more sizes offset done held more l before (inr here) some = λ x i. go x i (nat_lt x (offset + done)) refl
-  where
-    go : (x : ℕ) → IsTrue (is_in offset (done + more) x) → (b : Bool) → nat_lt x (offset + done) ≡ b → IsHeld sizes x
-    go x i true q = (let b = in_bounds offset (done + more) x i in before x (bounds_in offset done x b.0 (ltb-true x (offset + done) q)))
-    go x i false q = (let b = in_bounds offset (done + more) x i in let h : x < offset + (done + more) = b.1 in let low : offset + done ≤ x = ltb-false x (offset + done) q in
-        here.1 x (bounds_in (offset + done) held x low (omega arith)))
 
 -- where none holds the next offset
 pub bare-next : (sizes : ℕ → Option ℕ) (offset size done held : ℕ) → done < size → IsHeldFrom sizes (offset + done) held → held ≡ 0 → (x : ℕ) × IsTrue (is_in offset size x) × IsBare sizes x

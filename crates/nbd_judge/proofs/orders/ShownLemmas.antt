@@ -60,9 +60,6 @@ has_first (t ∷ ws) x i s e h = go (is_in t.offset t.size x) refl i e (λ j f. 
 abbrev pub ShownBefore : List Shown → Span → (i n : ℕ) → Type 0
 ShownBefore ws span i n = (x : ℕ) × IsTrue (is_in span.offset span.size x) × ((h : HasAt ws x n) × (h.place < i))
 
-pub none_before : (ws : List Shown) (span : Span) → IsLeast (ShownBefore ws span 0) None
-none_before ws span n (x, i, (h, l)) = absurd (omega (arith, l))
-
 module _ (ws : List Shown) (span : Span) (i : ℕ) (least : Option ℕ) (before : IsLeast (ShownBefore ws span i) least) where
   grown : (n : ℕ) → ShownBefore ws span i n → ShownBefore ws span (i + 1) n
   grown n (x, j, (h, l)) = (x, j, (h, omega (arith, l)))

@@ -1,5 +1,5 @@
 -- The table of what an order serves of each request.
-use Rattle.nbd_judge.proofs.Common.{get_or-replicate, length-replicate, get_or_from_slice_get, slice_get_within, take-length, IsFaultless, MatchOption, is_some, ◌≡◌, ℕ, zero, suc, ◌+◌, ◌-◌, ◌<◌, ◌≤◌, ◌==◌, ◌&&◌, inl, inr, List, [], ◌∷◌, ◌++◌, length, refl, sym, ◌∙◌, ap, subst, Option, Some, None, Result, Ok, Err, Bool, true, false, if◌then◌else◌, arith, nat_le, nat_lt, min, eqb-true, slice_get, slice_set, take, replicate, ◌||◌, not, IsTrue, ltb-true, ltb-false, cases_eq, Entry, HasBadPart, IsTwice, MayServe, NamesWhole, inside_of, Exporting, has_range, is_chunked, IsBad, IsDue, IsLate, IsUnserved, NamesNone, Part, Profile, is_in, Asked, Report, asked_at, due_in, due_of, first_shown, inside_asked, inside_in, lesser_of, Names-left, Names-push_cases, NamesWhole-left, total, Span, IsIndex, sizes_of, Service, Unnamed, Whole, InParts, OrderFault, NoSuchRequest, Twice, Missing, BadPart, NotCovered, IsOrderFault, has_inside, AreServices, IsAllServed, IsBadAt, IsFaultAfter, IsFaultOfService, IsFirstBad, IsNext, IsServiceAfter, IsServiceOf, IsShownAt, IsSpanOf, IsUnservedBy, LieApart, TellsFaultOf, TellsUnserved, part_pieces, parts_of, span_if, span_of_asked, IsFair, nat_tests, and-false, and_assoc}
+use Rattle.nbd_judge.proofs.Common.{slice_get_within, take-length, IsFaultless, MatchOption, is_some, ◌≡◌, ℕ, zero, suc, ◌+◌, ◌-◌, ◌<◌, ◌≤◌, ◌==◌, ◌&&◌, inl, inr, List, [], ◌∷◌, ◌++◌, length, refl, sym, ◌∙◌, ap, subst, Option, Some, None, Result, Ok, Err, Bool, true, false, if◌then◌else◌, arith, nat_le, nat_lt, min, eqb-true, slice_get, slice_set, take, ◌||◌, not, IsTrue, ltb-true, ltb-false, cases_eq, Entry, HasBadPart, IsTwice, MayServe, NamesWhole, inside_of, Exporting, has_range, is_chunked, IsBad, IsDue, IsLate, IsUnserved, NamesNone, Part, Profile, is_in, Asked, Report, asked_at, due_in, due_of, first_shown, inside_asked, inside_in, lesser_of, Names-left, Names-push_cases, NamesWhole-left, total, Span, IsIndex, sizes_of, Service, Unnamed, Whole, InParts, OrderFault, Twice, Missing, BadPart, NotCovered, IsOrderFault, has_inside, AreServices, IsAllServed, IsBadAt, IsFaultAfter, IsFaultOfService, IsFirstBad, IsNext, IsServiceAfter, IsServiceOf, IsShownAt, IsSpanOf, IsUnservedBy, LieApart, TellsFaultOf, TellsUnserved, part_pieces, parts_of, span_if, span_of_asked, IsFair, nat_tests, and-false, and_assoc}
 use Rattle.nbd_wire.specs.declared.commands.TheConstants as commands
 use Rattle.nbd_judge.specs.internal.Services.{IsFaultOf}
 use Rattle.nbd_judge.proofs.orders.DueLemmas.{due_chunked, due_none, due_whole}
@@ -40,18 +40,6 @@ span_of_request r k a at x = ap (λ o. inside_asked r.export o x) at ∙ span_of
 pub request_within : (k : ℕ) (asked : List Asked) (a : Asked) → asked_at k asked ≡ Some a → (0 < k) × (k ≤ length asked) × (slice_get asked (k - 1) ≡ Some a)
 request_within zero asked a e = absurd (let q : None ≡ Some a = e in cc)
 request_within (suc k) asked a e = (omega arith, slice_get_within asked k a e, ap (slice_get asked) (omega arith) ∙ e)
-
--- a table of requests of which nothing is served
-replicated : {A : Type 0} (n k : ℕ) (x y : A) → slice_get (replicate n x) k ≡ Some y → x ≡ y
-replicated n k x y e = sym (get_or-replicate n k x x (let l = slice_get_within (replicate n x) k y e in let m = length-replicate n x in omega arith)) ∙ get_or_from_slice_get (replicate n x) k y x e
-
-pub nothing_served : (r : Report) (order : List Entry) (n : ℕ) (table : List Service) → n ≡ length r.asked → table ≡ replicate n Unnamed → AreServices r order 0 table
-nothing_served r order n table e t = record {
-  len = ap length t ∙ length-replicate n Unnamed ∙ e;
-  none_bad = λ i l. absurd (omega arith);
-  each = λ k s a at told. (let q : Unnamed ≡ s = replicated n k Unnamed s (sym (ap (λ l. slice_get l k) t) ∙ at) in
-      subst (λ s. IsServiceOf s (span_of_asked r.export a) [] (suc k)) q (λ h. h));
-}
 
 -- entries that name another request
 parts_other : (es : List Entry) (e : Entry) (k : ℕ) → (e.request ≡ k → ⊥) → parts_of (es ++ e ∷ []) k ≡ parts_of es k
@@ -239,13 +227,6 @@ module _ (profile : Profile) (r : Report) (order : List Entry) (k : ℕ) (a : As
           go : (b : Bool) (o : Option ℕ) → inside_in r k x ≡ b → first_shown a.shown x ≡ o → lesser_of (if b then o else None) None ≡ Some n → IsShownAt (inside_in r k) a.shown x
           go true (Some m) i s d = (i, (m, s))
           go b o i s d = absurd (cc)
-
--- the first bad entry is what the order is answered with
-pub answered_with : (profile : Profile) (r : Report) (order : List Entry) (entry : ℕ) (fault : OrderFault) → IsFirstBad r order entry fault → IsOrderFault profile r order entry fault
-answered_with profile r order entry NoSuchRequest h = h
-answered_with profile r order entry Twice h = h
-answered_with profile r order entry BadPart h = (h.0, h.1, h.2.0, h.2.1, h.2.2, h.3)
-answered_with profile r order entry fault h = absurd h.2
 
 bad_within : (r : Report) (order : List Entry) (i : ℕ) → IsBad (length r.asked) (inside_in r) order i → i < length order
 bad_within r order i b = elim b [

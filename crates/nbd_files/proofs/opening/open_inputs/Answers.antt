@@ -1,4 +1,4 @@
-use Rattle.nbd_files.proofs.Common.{◌≡◌, ◌++◌, ◌∷◌, [], ◌∙◌, List, None, Some, ap, append_assoc, err_from_is_err_and, Option, AsksFor, IsOpeningCause, IsOpeningFault, Path, start_path, StartWord, Image, Contents, RunFault, ImageRead, ContentsRead}
+use Rattle.nbd_files.proofs.Common.{◌++◌, ◌∷◌, [], ◌∙◌, List, None, Some, ap, append_assoc, err_from_is_err_and, Option, AsksFor, IsOpeningCause, IsOpeningFault, Path, start_path, StartWord, Image, Contents, RunFault, ImageRead, ContentsRead}
 use Rattle.nbd_files.proofs.opening.open_inputs.Goals as goal
 
 AsksFor-trans : (old mid new : Option (List Path)) (first rest : List Path) → AsksFor old mid first → AsksFor mid new rest → AsksFor old new (first ++ rest)
