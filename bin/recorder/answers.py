@@ -93,13 +93,27 @@ class Nbdcheck:
         return FILES
 
     def _answer(self, returned, text):
-        """What a run said; lines that are no objects are no answer."""
+        """What a run said; lines that are no objects are no answer, nor is a run that says nothing and does not tell why."""
         status = self._status(returned)
+        if not text.strip() and status in (YES, NO, GAVE_UP):
+            self.tell(f"{self.program}: it ended with status {status} and said nothing")
+            return answer_of(FILES, b"")
         try:
             return answer_of(status, text)
         except ValueError:
             self.tell(f"{self.program}: its lines are no JSON")
             return answer_of(FILES, b"")
+
+    def can_read(self, start, order):
+        """Whether a contents text that is the start, and an order, have their form, as an empty capture shows; nbdcheck tells the fault."""
+        if order is None and not start.startswith("contents:"):
+            return True
+        texts = [os.devnull if order is None else order, "--start", start if start.startswith("contents:") else "unknown"]
+        status, _, err = ran([self.program, "check", os.devnull, *texts, "--hints"], stdout=subprocess.DEVNULL, stderr=subprocess.PIPE)
+        if self._status(status) not in (FILES, MEMORY):
+            return True
+        sys.stderr.buffer.write(err)
+        return False
 
     def explain(self, capture, start, order=None):
         """Whether an order explains the session: this one, or some."""

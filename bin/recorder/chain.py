@@ -12,9 +12,10 @@ CAPTURE, TEXT, PART = ".cap", ".con", ".part"
 NO_EXPORT, NO_IMAGE = "no export", "no image "
 
 
-class Start(namedtuple("Start", "word left_by is_lost", defaults=(None, False))):
+class Start(namedtuple("Start", "word left_by is_lost is_open", defaults=(None, False, False))):
     """What an export held before a connection: nbdcheck's word for it; the number of the connection that left it, where
-    the word names a text of this recording; and whether it is unknown because of the connections before."""
+    the word names a text of this recording; whether it is unknown because of the connections before; and whether one of
+    these ended with a request that had no reply."""
 
     def line(self):
         """What is said of it behind the number of a connection that is judged from it."""
@@ -25,7 +26,8 @@ class Start(namedtuple("Start", "word left_by is_lost", defaults=(None, False)))
     def assumed(self):
         """What stands behind a wrong byte of a connection that is judged from it."""
         there = f"connection {self.left_by}'s changes are there for the next connection"
-        return [] if self.left_by is None else [f"assumes: {there}, nobody else changed the export"]
+        late = ", what was not answered before is carried out before this connection or not at all" if self.is_open else ""
+        return [] if self.left_by is None else [f"assumes: {there}, nobody else changed the export{late}"]
 
     def text(self):
         """The path of the text, or None."""
@@ -65,6 +67,12 @@ def is_wrong(answer):
 def loses_all(answer):
     """Whether nothing is taken as known behind this answer: the server was wrong once, or the session was refused."""
     return is_wrong(answer) or answer.is_refused() or answer.status not in (YES, NO, GAVE_UP)
+
+
+def is_open(answer):
+    """Whether some request may have had no reply."""
+    counts = answer.counts()
+    return counts is None or counts[0] > counts[1]
 
 
 class Link:
@@ -157,7 +165,7 @@ class Chain:
             status, line = self.nbdcheck.contents(held.path, order, link.start.word, part)
             if status == YES:
                 os.replace(part, path)
-                return Start(f"contents:{path}", held.number)
+                return Start(f"contents:{path}", held.number, is_open=link.start.is_open or any(map(is_open, link.answers)))
         except OSError as error:
             self.tell(f"cannot write {path}: {reason_of(error)}")
             return LOST

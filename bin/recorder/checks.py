@@ -2,6 +2,7 @@
 
 import errno
 import os
+import stat
 
 from .room import Stopped
 
@@ -12,13 +13,20 @@ def refuse(word, path, number):
 
 def check_readable(word, path):
     try:
-        os.stat(path)
+        mode = os.stat(path).st_mode
     except OSError as error:
         refuse(word, path, error.errno)
-    if os.path.isdir(path):
+    if stat.S_ISDIR(mode):
         refuse(word, path, errno.EISDIR)
     if not os.access(path, os.R_OK):
         refuse(word, path, errno.EACCES)
+    if not stat.S_ISREG(mode) and not stat.S_ISBLK(mode):
+        raise Stopped(f"{word}{path}: it is no regular file, and is read once for each connection")
+
+
+def opened(path):
+    """The file behind a name of one of this program's own, as /dev/stdin, which is not nbdcheck's."""
+    return os.path.realpath(path) if path.startswith(("/dev/", "/proc/")) else path
 
 
 def empty(path):
@@ -33,11 +41,14 @@ def empty(path):
 
 
 def check_files(words):
-    """Refuses a start or an order that cannot be read, and a report that cannot be written."""
+    """Refuses a start or an order that cannot be read, and a report that cannot be written; the words as nbdcheck gets them."""
     kind, colon, path = words.start.partition(":")
     if colon:
         check_readable(f"--start {kind}:", path)
+        words = words._replace(start=f"{kind}:{opened(path)}")
     if words.order is not None:
         check_readable("--order ", words.order)
+        words = words._replace(order=opened(words.order))
     if words.report is not None:
         empty(words.report)
+    return words

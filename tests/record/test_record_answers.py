@@ -273,7 +273,8 @@ def statuses(tally, folder):
         (["--start", "zero"], [f"explain {capture} --start zero --profile wide --hints --json",
                                f"contents {capture} --start zero --profile wide"]),
         (["--apart"], [f"explain {capture} --start unknown --profile wide --hints --json"]),
-        (["--order", notes, "--profile", "base"], [f"explain {capture} {notes} --start unknown --profile base --hints --json",
+        (["--order", notes, "--profile", "base"], [f"check /dev/null {notes} --start unknown --hints",
+                                                   f"explain {capture} {notes} --start unknown --profile base --hints --json",
                                                    f"contents {capture} {notes} --start unknown --profile base"]),
     ):
         ask(1, 0, 0, *asked)
@@ -284,6 +285,8 @@ def statuses(tally, folder):
                (f"order {capture} --arrival --profile base --hints", True))
     tally.want("lines that are no objects", ask(1, 0, plain="yes requests 1"),
                (3, f"no answer: status 3\n{NO_ANSWER}", f"nbdcheck-record: {program}: its lines are no JSON\n{kept_lines(capture)}"))
+    tally.want("no line", ask(1, 0, plain=" "), (3, f"no answer: status 3\n{NO_ANSWER}",
+               f"nbdcheck-record: {program}: it ended with status 0 and said nothing\n{kept_lines(capture)}"))
     tally.want("nbdcheck fails at once", ask(1, 0, version="3"),
                (3, "", f"nbdcheck-record: cannot run {program}: it ended with status 3\n"))
     client = ["touch", f"{folder}/came", "{uri}"]

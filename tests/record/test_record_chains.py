@@ -249,7 +249,18 @@ def real(tally, folder):
             tally.holds(f"{name}: known bytes", known > SIZE - 65536, found.stdout)
 
 
-PARTS = (chains, overlapping, leaves_late, texts, with_order, real)
+def carried_out_late(tally, folder):
+    """A WRITE that had no reply may be carried out beside the next connection, where a WRITE comes before it: the line on
+    what is assumed says so, there and behind that connection."""
+    late = [EXPORT + [write(1, 0, b"aaaa")], EXPORT + written(1, 0, b"bbbb"), EXPORT + got(1, 0, b"aaaa")]
+    status, lines, _ = recorded(folder, "late", late)
+    said = ["connection 1: " + yes(1, 0), f"connection 2{FIRST}: {yes(1)}", f"connection 3{SECOND}: {STRANGE}"]
+    tally.want("carried out late", (status, first_lines(lines)), (1, said))
+    wanted = [ASSUMED.format(2) + ", what was not answered before is carried out before this connection or not at all"]
+    tally.want("carried out late: assumes", [line for line in lines if "nobody else" in line], wanted)
+
+
+PARTS = (chains, overlapping, leaves_late, carried_out_late, texts, with_order, real)
 
 
 def run(tally):
