@@ -104,12 +104,12 @@ class Nbdcheck:
             self.tell(f"{self.program}: its lines are no JSON")
             return answer_of(FILES, b"")
 
-    def can_read(self, start, order):
-        """Whether a contents text that is the start, and an order, have their form, as an empty capture shows; nbdcheck tells the fault."""
-        if order is None and not start.startswith("contents:"):
+    def can_start(self, start):
+        """Whether the start, if it is a contents text, has the form of one, as an empty capture shows; nbdcheck tells the fault."""
+        if not start.startswith("contents:"):
             return True
-        texts = [os.devnull if order is None else order, "--start", start if start.startswith("contents:") else "unknown"]
-        status, _, err = ran([self.program, "check", os.devnull, *texts, "--hints"], stdout=subprocess.DEVNULL, stderr=subprocess.PIPE)
+        words = [self.program, "check", os.devnull, os.devnull, "--start", start, "--hints"]
+        status, _, err = ran(words, stdout=subprocess.DEVNULL, stderr=subprocess.PIPE)
         if self._status(status) not in (FILES, MEMORY):
             return True
         sys.stderr.buffer.write(err)

@@ -273,8 +273,7 @@ def statuses(tally, folder):
         (["--start", "zero"], [f"explain {capture} --start zero --profile wide --hints --json",
                                f"contents {capture} --start zero --profile wide"]),
         (["--apart"], [f"explain {capture} --start unknown --profile wide --hints --json"]),
-        (["--order", notes, "--profile", "base"], [f"check /dev/null {notes} --start unknown --hints",
-                                                   f"explain {capture} {notes} --start unknown --profile base --hints --json",
+        (["--order", notes, "--profile", "base"], [f"explain {capture} {notes} --start unknown --profile base --hints --json",
                                                    f"contents {capture} {notes} --start unknown --profile base"]),
     ):
         ask(1, 0, 0, *asked)

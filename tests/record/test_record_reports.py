@@ -265,16 +265,14 @@ def mistakes(tally, folder):
         (["--report", folder], f"--report {folder}: Is a directory"),
     ):
         tally.want(f"{asked}", ended(*asked, *here), (3, "", f"nbdcheck-record: {line}\n"))
-    pipe, text, order = f"{folder}/pipe", f"{folder}/text", f"{folder}/order"
+    pipe, text = f"{folder}/pipe", f"{folder}/text"
     os.mkfifo(pipe)
     for asked in (["--start", f"image:{pipe}"], ["--order", pipe]):
         wanted = f"nbdcheck-record: {' '.join(asked)}: it is no regular file, and is read once for each connection\n"
         tally.want(f"{asked}", ended(*asked, *here), (3, "", wanted))
     Path(text).write_text("size 8\nfoo\n")
-    Path(order).write_text("1\n2 x\n")
-    for asked, fault in ((["--start", f"contents:{text}"], "fault contents line 2"), (["--order", order], "fault order line 2")):
-        status, out, err = ended(*asked, *here)
-        tally.want(f"{asked}", (status, out, err.splitlines()[:1]), (3, "", [fault]))
+    status, out, err = ended("--start", f"contents:{text}", *here)
+    tally.want("a malformed start", (status, out, err.splitlines()[:1]), (3, "", ["fault contents line 2"]))
     for asked, line in ((["--profile", "Wide"], "--profile Wide: wanted is base or wide"),
                         (["--start", "image:"], "--start image:: wanted is"),
                         (["--start", "contents:"], "--start contents:: wanted is"),
