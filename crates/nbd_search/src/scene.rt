@@ -51,7 +51,7 @@ pub struct Scene<'a> {
     pub requests: Vec<Patch>,
     /// What they leave or read; of a READ at least one for each piece with bytes.
     pub patches: Vec<Patch>,
-    // Where the bytes of patches begin, and what they are: zeroes that no message has, or these.
+    // Where the bytes of patches begin, and what they are: unknown, zeroes that no message has, or these.
     bytes: Vec<(u64, HeldPart<'a>)>,
 }
 
