@@ -5,15 +5,16 @@ taken as soon as it says on standard input that the crate is proved. What was ch
 --copies the copies of functions, of which it says more below, are checked without their edits: each must be proved.
 
 `rt must-fail` checks a crate once for each edit, and most of that is the same every time: what the crate and its
-libraries hold is read. Here one check tries the edits of all functions, since whether a function meets its contract
-does not depend on the bodies of others. Where a function has several, the first is made in it, and each other one in a
-copy of it with the same contract and proof, which stands at the end of the file; a method of a trait and a function
-that calls itself have no copies, and one edit of theirs goes into a check. Of each edit the prover must say that the
-very function in which it stands is not proved, for a goal of its own and not because of what it calls; where it says
-less, the edit is tried once more without those of which enough was said, and then by itself. An edit outside of a body
-is tried by itself. If it says what it breaks (`breaks: module::function`, behind it the name of the clause if that has
-one), one check tries as many as break different clauses of one function, and the prover must say that this clause is
-not proved.
+libraries hold is read, and what the function calls is proved. Here one check tries the edits of all functions, since
+whether a function meets its contract does not depend on the bodies of others. Each is made in a copy of its function
+with the same contract and proof, which stands at the end of the file; a method of a trait and a function that calls
+itself have no copies, and one edit of theirs goes into a check. A function without an edit is not proved again: it has
+no body, and a hole is its proof, by which its contract is assumed. Of each edit the prover must say that the very
+function in which it stands is not proved, for a goal of its own and not because of what it calls; where it says less,
+the edit is tried once more without those of which enough was said, and then by itself. An edit outside of a body is
+tried by itself, and all is proved again. If it says what it breaks (`breaks: module::function`, behind it the name of
+the clause if that has one), one check tries as many as break different clauses of one function, and the prover must
+say that this clause is not proved.
 
 The last line is `N passed, M failed`.
 """
@@ -46,6 +47,14 @@ NAMES = re.compile("has no field|is not in scope|has no `|was not admitted")
 
 # What a check says of a function.
 FUNCTION_SAID = re.compile(r"(?m)^fn (\S+): (.*)$")
+# A proof by which a function's contract is assumed.
+ASSUMED = """use Rattle.{module}.Statement as stated
+
+pub {name}_spec : {{M : Type 1}} → stated.statement M
+{name}_spec = ?
+"""
+# The path of a function that has a name, and a folder for its proof.
+PATH = re.compile(r"\w+(?:::\w+)+")
 # The seconds above which it is told that a function was tried for long.
 LONG = 10
 # The seconds that an edit takes, or so, for the order of what waits.
@@ -88,22 +97,34 @@ def read_crates():
     return {name: (*split(uses.split()), int(seconds or 1)) for name, uses, seconds in lines}
 
 
+def body_of(lines, top):
+    """The lines that open and close the body of the function that begins here; None where it has no body."""
+    margin = FUNCTION.match(lines[top])[1]
+    for place in range(top, len(lines)):
+        line = lines[place]
+        if place > top and (FUNCTION.match(line) or (line and not line.startswith(margin))):
+            return None
+        if line == margin + "{}" or (line.endswith("{}") and place == top):
+            return place, place
+        if line == margin + "{" or (line.endswith(" {") and (place == top or line.startswith(margin + ")"))):
+            return place, next(it for it in range(place, len(lines)) if lines[it] == margin + "}")
+    return None
+
+
 def function_at(lines, place):
     """The function in whose body a line stands: its type and name, and where its lines begin and end."""
     for top in range(place, -1, -1):
         if not (match := FUNCTION.match(lines[top])):
             continue
         margin, name = match.groups()
-        rest = range(top, len(lines))
-        body = next(it for it in rest if lines[it] == margin + "{" or lines[it].endswith((" {", "{}")))
-        end = next((it for it in rest if it > body and lines[it] == margin + "}"), body)
-        if not body < place <= end:
+        opens, closes = body_of(lines, top) or (place, place)
+        if not opens < place <= closes:
             return None
         named = (SLICE.sub(lambda found: "RefSlice" + found[1].capitalize(), lines[it]) for it in range(top, -1, -1))
         headers = (IMPL.match(it) for it in named if it.startswith(("impl", "}")))
         of = next(headers, None) if margin else None
         # (of a trait's impl the prover writes the names as one)
-        return ("".join(it or "" for it in (of[3], of[1], of[2])) if of else "", name), (top, end)
+        return ("".join(it or "" for it in (of[3], of[1], of[2])) if of else "", name), (top, closes)
     return None
 
 
@@ -152,7 +173,7 @@ def can_be_copied(edit, text):
     """Whether an edit can be made in a copy of its function: that is no method of a trait, and does not call itself."""
     lines, (of, name) = text.split("\n"), edit.function
     body = "\n".join(lines[edit.lines[0] + 1 : edit.lines[1] + 1])
-    if of and IMPL.match(header_of(edit, lines))[1]:
+    if of and IMPL.match(SLICE.sub(r"\1", header_of(edit, lines)))[1]:
         return False
     return not re.search(rf"\b(?:self\.|Self::|{of}::){name}\(" if of else rf"(?<![.:\w]){name}\(", body)
 
@@ -186,9 +207,26 @@ def with_edits(edits, text):
     return made, behind
 
 
+def hollow(text, is_asked):
+    """The text with `loop {}` in place of the body of each function that is not asked for; each line stays where it is."""
+    lines, behind = text.split("\n"), 0
+    for top, line in enumerate(lines):
+        body = body_of(lines, top) if top >= behind and FUNCTION.match(line) else None
+        if body and body[0] + 1 < body[1]:
+            opens, behind = body
+            if not is_asked(*function_at(lines, behind)):
+                lines[opens + 1 : behind] = ["loop {}", *[""] * (behind - opens - 2)]
+    return "\n".join(lines)
+
+
+def is_proved(said):
+    """Whether a function is proved, given the contracts of what it calls."""
+    return said in ("proved", "no holes") or said.startswith("depends on a hole in ")
+
+
 def refusals(edit, path, told, text):
     """Why a function, with an edit in it, is refused for goals of its own; a name that is gone is no reason."""
-    if told[path] == "proved":
+    if is_proved(told[path]):
         return []
     notes = re.findall(rf"(?m)^note: ({re.escape(edit.file)}:(\d+):\d+: it is not proved that .*)$", text)
     first, last = edit.lines
@@ -224,14 +262,14 @@ class Crate:
             shutil.copytree(kept, self.over, copy_function=link_or_copy)
 
     def words(self, only):
-        """The prover's command, for the whole crate or for these functions and what they call."""
+        """The prover's command, for the whole crate or for these functions."""
         library = lambda name: self.tree / "crates" / name / f"out/rlib/{name}.rlib"
         top = "src/main.rt" if (self.home / "src/main.rt").exists() else "src/lib.rt"
         uses = {"std": KIT / "rlibs/std.rlib", **{name: KIT / f"rlibs/{name}.rlib" for name in self.beside}}
         uses |= {name: library(name) for name in self.uses}
         words = [KIT / "bin/rattle", "check", "--crate-name", self.name, top, "--jobs", "1", "--incremental", self.over]
         words += ["--antt-project", KIT / "rattle/logic/antt-project.json", "--logic-built", KIT / "logic_built"]
-        words += ["--progress", "--links", f"{self.name}=", "-L", f"dependency={KIT / 'rlibs'}"]
+        words += ["--allow-holes", "--progress", "--links", f"{self.name}=", "-L", f"dependency={KIT / 'rlibs'}"]
         words += [word for name, it in uses.items() for word in ("--extern", f"{name}={it}")]
         words += [word for name in self.below for word in ("-L", f"dependency={library(name).parent}")]
         return words + [word for path in only for word in ("--only", path.removeprefix(f"{self.name}::"))]
@@ -240,24 +278,53 @@ class Crate:
         """Whether an edit can be made in a copy of its function, whose path is known."""
         return path_of(self.name, edit, self.told) is not None and can_be_copied(edit, (self.place / edit.file).read_text())
 
+    def lay_proofs(self, edits, only):
+        """Lays the crate's proofs for a check. Where that is of these functions alone, the contracts of the others are assumed."""
+        shutil.rmtree(self.place / "proofs", ignore_errors=True)
+        if (self.home / "proofs").is_dir():
+            shutil.copytree(self.home / "proofs", self.place / "proofs")
+        for edit in edits:
+            if edit.copy:
+                self.copy_proofs(edit)
+        for path in self.told if only else ():
+            if path not in only and PATH.fullmatch(path):
+                self.assume(path)
+
     def copy_proofs(self, edit):
-        """Copies the proof of an edit's function for the copy in which the edit is made; answers its folder, if there is one."""
+        """Copies the proof of an edit's function for the copy in which the edit is made, if it has one."""
         *parts, copy = path_of(self.name, edit, self.told).split("::")[1:]
         proof, folder = (self.place.joinpath("proofs", *parts, it) for it in (edit.function[1], copy))
         module = ".".join([f"Rattle.{self.name}.proofs", *parts, ""])
         for file in sorted(proof.glob("*.antt")):
             folder.mkdir(exist_ok=True)
             (folder / file.name).write_text(file.read_text().replace(f"{module}{edit.function[1]}.", f"{module}{copy}."))
-        return [folder] * folder.is_dir()
+
+    def hollow(self, file, text, only):
+        """A file of src/ in which only these functions have their bodies, and those of which rt ci said nothing, as copies."""
+        path = lambda function, within: path_of(self.name, Edit("", file, [], function, within, None), self.told)
+        return hollow(text, lambda *of: path(*of) is None or path(*of) in only) if file.startswith("src/") else text
+
+    def assume(self, path):
+        """Puts a hole in place of a function's proof."""
+        *parts, name = path.split("::")
+        folder = self.place.joinpath("proofs", *parts[1:], name)
+        folder.mkdir(parents=True, exist_ok=True)
+        for file in folder.glob("*.antt"):
+            file.unlink()
+        module = ".".join([parts[0], "proofs", *parts[1:], name])
+        (folder / "Proof.antt").write_text(ASSUMED.format(module=module, name=name))
 
     def check(self, edits, left, only=()):
         """Checks the crate with these edits; answers what is said of each function, all that is said, and where the edits stand."""
-        files, placed = {edit.file: (self.place / edit.file).read_text() for edit in edits}, []
+        files, placed = {edit.file for edit in edits}, []
+        if only:
+            files |= {str(it.relative_to(self.place)) for it in self.place.glob("src/**/*.rt")}
+        files = {it: (self.place / it).read_text() for it in sorted(files)}
         for file, text in files.items():
             made, here = with_edits([edit for edit in edits if edit.file == file], text)
-            (self.place / file).write_text(made)
+            (self.place / file).write_text(self.hollow(file, made, only) if only else made)
             placed += here
-        proofs = [folder for edit in edits if edit.copy for folder in self.copy_proofs(edit)]
+        self.lay_proofs(edits, only)
         behind = EACH * left + self.seconds_of_build * (not self.checks)
         how = {"cwd": self.place, "stdin": subprocess.DEVNULL, "stdout": subprocess.PIPE, "stderr": subprocess.STDOUT}
         with self.lanes.lane(behind):
@@ -276,10 +343,8 @@ class Crate:
         print(f"{self.name}: {len(edits)} edits in {seconds:.0f} s of processor time{longest}", flush=True)
         for file, text in files.items():
             (self.place / file).write_text(text)
-        for folder in proofs:
-            shutil.rmtree(folder)
         told = dict(FUNCTION_SAID.findall(said))
-        self.told = {**told, **self.told}
+        self.told = self.told or told
         return told, said, placed
 
     def say(self, edit, is_refused, what):
@@ -306,7 +371,7 @@ class Crate:
         unclear = []
         for edit in placed:
             path = path_of(self.name, edit, self.told)
-            if told.get(path) == "proved":
+            if is_proved(told.get(path, "")):
                 self.say(edit, False, f"{path} is still proved")
             elif path in told and (found := refusals(edit, path, told, text)):
                 self.say(edit, True, found[0])
@@ -315,11 +380,12 @@ class Crate:
         return unclear
 
     def try_in_rounds(self, edits):
-        """Tries edits, in each round all of each function that can have copies; answers those of which nothing is known yet."""
+        """Tries edits, in each round all of functions that can have copies, and one of each other; answers those of which nothing is known
+        yet."""
         unclear = []
         while edits:
-            together = firsts(edits, lambda it: (it.file, it.function))
-            others = [it for it in edits if it not in together and self.can_be_copied(it)]
+            others = [it for it in edits if self.can_be_copied(it)]
+            together = firsts([it for it in edits if it not in others], lambda it: (it.file, it.function))
             edits = [it for it in edits if it not in together + others]
             copies = [it._replace(copy=number) for number, it in enumerate(others, 2)]
             unclear += self.try_together(together + copies, len(edits) + len(together + copies))
@@ -333,11 +399,11 @@ class Crate:
             together = firsts(firsts([it for it in edits if it.breaks[0] == function], lambda it: it.breaks), lambda it: it.changes[0][0])
             path, proofs = f"{self.name}::{function}", f"proofs/{function.replace('::', '/')}/"
             told, text, _ = self.check(together, len(edits), [path])
-            is_proved = told.get(path, "proved") == "proved"
+            is_whole = is_proved(told.get(path, "proved"))
             for edit in together:
                 goal = rf"returns-clause-{edit.breaks[1]}" if edit.breaks[1:] else r"returns[\w-]*"
                 said = rf"note: (?=src/\S+: it is not proved that .*\(`{goal}`\))|\./(?={proofs}\S+: error: `{goal}`: )"
-                found = [it for it in re.findall(rf"(?m)^(?:{said})(.*)$", text) if not NAMES.search(it) and not is_proved]
+                found = [it for it in re.findall(rf"(?m)^(?:{said})(.*)$", text) if not NAMES.search(it) and not is_whole]
                 self.say(edit, bool(found), found[0] if found else f"its clause is proved, or was not read: {text}")
             edits = [it for it in edits if it not in together]
 
@@ -347,14 +413,13 @@ class Crate:
         self.copy()
         read = [read_edit(self.place, path) for path in sorted((self.home / "must-fail").glob("*.edit"))]
         read = [it for it in read if it and it.function]
-        others = [it for it in read if it not in firsts(read, lambda it: (it.file, it.function))]
-        others = [it for it in others if self.can_be_copied(it)]
+        others = [it for it in read if self.can_be_copied(it)]
         copies = [it._replace(copy=number, changes=[]) for number, it in enumerate(others, 2)]
         said = self.check(copies, len(copies), self.only(copies))[0] if copies else {}
         for edit in copies:
-            is_proved = said.get(path_of(self.name, edit, self.told)) == "proved"
-            self.passed, self.failed = self.passed + is_proved, self.failed + (not is_proved)
-            print(f"copy for {self.name}/{edit.name}: {'proved' if is_proved else 'NOT PROVED'}", flush=True)
+            is_well = is_proved(said.get(path_of(self.name, edit, self.told), ""))
+            self.passed, self.failed = self.passed + is_well, self.failed + (not is_well)
+            print(f"copy for {self.name}/{edit.name}: {'proved' if is_well else 'NOT PROVED'}", flush=True)
 
     def try_edits(self, told):
         """Tries all edits, given what was said of each function without them."""

@@ -11,6 +11,7 @@ import edits
 from built import TOP
 
 # Notes each check with the words in the crate's text and the functions asked for, and says of each what the word in its body stands for.
+# Where functions are asked for, the others must be assumed, and only they.
 PROVER = r"""#!/usr/bin/env python3
 import os, re, sys
 crate = sys.argv[sys.argv.index("--crate-name") + 1] if "--crate-name" in sys.argv else os.path.basename(os.getcwd())
@@ -22,12 +23,15 @@ with open(os.environ["NOTES"], "a") as notes:
     words = sorted(it for it in bodies.values() if it != "right") + [f"LIMIT {it}" for it in limit if it != "7"]
     by = "rt" if sys.argv[0].endswith("/rt") else "prover"
     notes.write(f"{by} {crate}: {' '.join(words)}; {' '.join(sorted(only))}\n")
+    assumed = {it for it in bodies if os.path.exists(f"proofs/{it}/Proof.antt")}
+    if by == "prover" and assumed != (set(bodies) - set(only) if only else set()):
+        notes.write(f"prover {crate} assumed {' '.join(sorted(assumed))}\n")
 if crate == os.environ.get("FAILS") or "unread" in bodies.values():
     sys.exit("src/lib.rt:1:1: error[parse]: what is that")
 refused = {"searched", "by_hand", "noted"} & set(bodies.values())
 says = {
     "right": "proved",
-    "same": "proved",
+    "same": "depends on a hole in `Rattle.low.proofs.two.Proof.two_spec`",
     "searched": "no proof: expected answers in ./proofs/NAME/Answers.antt; `search` did not prove `returns`",
     "by_hand": "not proved; it calls `low::three`, which is not proved",
     "named": "not proved",
@@ -107,26 +111,28 @@ def limit(number, breaks=""):
 # A name, the edits, of each whether it is refused, and what stands in each check of the crate with edits.
 RUNS = [
     ("different functions", {"a": change("one", "searched"), "b": change("two", "by_hand"), "c": change("three", "searched // right // one")},
-     {"a": "refused", "b": "refused", "c": "refused"}, ["by_hand searched searched; one three two"]),
+     {"a": "refused", "b": "refused", "c": "refused"}, ["by_hand searched searched; one_copy2 three two_copy3"]),
     ("a name that is gone, and more", {"a": change("one", "noted"), "b": change("three", "noted")},
-     {"a": "refused", "b": "refused"}, ["noted noted; one three"]),
+     {"a": "refused", "b": "refused"}, ["noted noted; one_copy2 three"]),
     ("one function", {"a": change("one", "searched"), "b": change("one", "by_hand"), "c": change("two", "searched")},
-     {"a": "refused", "b": "refused", "c": "refused"}, ["by_hand searched searched; one one_copy2 two"]),
+     {"a": "refused", "b": "refused", "c": "refused"}, ["by_hand searched searched; one_copy2 one_copy3 two_copy4"]),
     ("one function, of which a copy is still proved", {"a": change("one", "searched"), "b": change("one", "same"), "c": change("one", "noted")},
-     {"a": "refused", "b": "NOT REFUSED", "c": "refused"}, ["noted same searched; one one_copy2 one_copy3"]),
+     {"a": "refused", "b": "NOT REFUSED", "c": "refused"}, ["noted same searched; one_copy2 one_copy3 one_copy4"]),
     ("one function, whose copy says too little", {"a": change("one", "searched"), "b": change("one", "hidden")},
-     {"a": "refused", "b": "refused"}, ["hidden searched; one one_copy2", "hidden; one"]),
+     {"a": "refused", "b": "refused"}, ["hidden searched; one_copy2 one_copy3", "hidden; one"]),
     ("one that calls itself", {"a": change("three", "searched"), "b": change("three", "by_hand"), "c": change("two", "searched")},
-     {"a": "refused", "b": "refused", "c": "refused"}, ["searched searched; three two", "by_hand; three"]),
-    ("what it calls is refused", {"a": change("one", "hidden"), "b": change("two", "searched")},
-     {"a": "refused", "b": "refused"}, ["hidden searched; one two", "hidden; one"]),
-    ("what two call is refused", {"a": change("one", "hidden"), "b": change("two", "searched"), "c": change("three", "hidden")},
-     {"a": "refused", "b": "refused", "c": "refused"}, ["hidden hidden searched; one three two", "hidden hidden; one three"]),
+     {"a": "refused", "b": "refused", "c": "refused"}, ["searched searched; three two_copy2", "by_hand; three"]),
+    ("what it calls is refused", {"a": change("one", "hidden"), "b": change("three", "searched")},
+     {"a": "refused", "b": "refused"}, ["hidden searched; one_copy2 three", "hidden; one"]),
+    ("what two call is refused", {"a": change("one", "hidden"), "b": change("three", "searched"), "c": change("two", "hidden")},
+     {"a": "refused", "b": "refused", "c": "refused"}, ["hidden hidden searched; one_copy2 three two_copy3", "hidden hidden; one_copy2 two_copy3"]),
     ("still proved", {"a": change("one", "same"), "b": change("two", "searched")},
-     {"a": "NOT REFUSED", "b": "refused"}, ["same searched; one two"]),
-    ("a name that is gone", {"a": change("one", "named")}, {"a": "NOT REFUSED"}, ["named; one", "named; one"]),
+     {"a": "NOT REFUSED", "b": "refused"}, ["same searched; one_copy2 two_copy3"]),
+    ("still proved, by itself", {"a": change("three", "right // same"), "b": change("two", "searched")},
+     {"a": "NOT REFUSED", "b": "refused"}, ["searched; three two_copy2"]),
+    ("a name that is gone", {"a": change("one", "named")}, {"a": "NOT REFUSED"}, ["named; one_copy2", "named; one"]),
     ("a text that is not read", {"a": change("one", "unread"), "b": change("two", "searched")},
-     {"a": "NOT REFUSED", "b": "refused"}, [*["searched unread; one two"] * 2, "unread; one", "searched; two"]),
+     {"a": "NOT REFUSED", "b": "refused"}, [*["searched unread; one_copy2 two_copy3"] * 2, "unread; one", "searched; two"]),
     ("outside of a body, refused by a lemma", {"a": limit(8)}, {"a": "refused"}, ["LIMIT 8; "]),
     ("outside of a body, still proved", {"a": limit(9)}, {"a": "NOT REFUSED"}, ["LIMIT 9; "]),
     ("a clause", {"a": limit(8, "three least")}, {"a": "refused"}, ["LIMIT 8; three"]),
@@ -160,9 +166,22 @@ COPIES = [
     ("impl Pieces {\n    ghost use A.{\n        b,\n    };\n    ghost use C;\n\n    fn one(&self) {\n        right\n    }\n}\n", True,
      "\nimpl Pieces {\n    ghost use A.{\n        b,\n    };\n    ghost use C;\n    fn one_copy2(&self) {\n        wrong\n    }\n}\n"),
     ("impl Drop for Pieces {\n    fn one(&self) {\n        right\n    }\n}\n", False, None),
+    ("impl Measured for &[u8] {\n    fn one(&self) {\n        right\n    }\n}\n", False, None),
     ("impl Pieces {\n    fn one(&self) {\n        right\n        self.one();\n    }\n}\n", False, None),
     ("impl Pieces {\n    fn one(&self) {\n        right\n        self.two.one();\n    }\n}\n", True,
      "\nimpl Pieces {\n    fn one_copy2(&self) {\n        wrong\n        self.two.one();\n    }\n}\n"),
+]
+# A text, the function in it that is asked for, and the text with the other bodies gone.
+HOLLOW = [
+    ("pub fn one() {\n    right\n    wrong\n}\n\npub fn two()\n    ensures a { (record b {\n        c = d;\n    }) }\n{\n    right\n}\n", "two",
+     "pub fn one() {\nloop {}\n\n}\n\npub fn two()\n    ensures a { (record b {\n        c = d;\n    }) }\n{\n    right\n}\n"),
+    ("pub fn one() {\n    right\n}\n\npub fn two()\n    ensures a { (record b {\n        c = d;\n    }) }\n{\n    right\n}\n", "one",
+     "pub fn one() {\n    right\n}\n\npub fn two()\n    ensures a { (record b {\n        c = d;\n    }) }\n{\nloop {}\n}\n"),
+    ("trait Size {\n    fn one(&self) -> u64\n        ensures { a };\n\n    fn two(&self) -> u64;\n}\n\nimpl Flat {\n    pub(crate) fn three(\n        &self,\n    ) -> u64 {\n"
+     "        right\n    }\n}\n", "one",
+     "trait Size {\n    fn one(&self) -> u64\n        ensures { a };\n\n    fn two(&self) -> u64;\n}\n\nimpl Flat {\n    pub(crate) fn three(\n        &self,\n    ) -> u64 {\n"
+     "loop {}\n    }\n}\n"),
+    ("pub fn law()\n    ensures { a }\n{}\n\npub fn one() {\n    right\n}\n", "law", "pub fn law()\n    ensures { a }\n{}\n\npub fn one() {\nloop {}\n}\n"),
 ]
 # A function, the functions that the prover names, and which of them it is; its file is src/low.rt.
 NAMED = [
@@ -185,6 +204,11 @@ def run_of_names(tally, edits):
         tally.want(f"a copy of {function} of {told}", edits.path_of("low", edit._replace(copy=2), told), copy)
 
 
+def run_of_hollow(tally, edits):
+    for text, asked, wanted in HOLLOW:
+        tally.want(f"{text} without the bodies of others than {asked}", edits.hollow(text, lambda of, _: of[1] == asked), wanted)
+
+
 def run_of_copies(tally, edits):
     for text, can_be, wanted in COPIES:
         lines = text.split("\n")
@@ -200,6 +224,7 @@ def run_of_copies(tally, edits):
 def run(tally):
     run_of_names(tally, edits)
     run_of_copies(tally, edits)
+    run_of_hollow(tally, edits)
     for name, edits_of_low, wanted, checks in RUNS:
         failed = sum(it != "refused" for it in wanted.values())
         ends = (int(failed > 0), wanted, f"{len(wanted) - failed} passed, {failed} failed", checks)
@@ -209,7 +234,7 @@ def run(tally):
             tally.want(f"{name}: behind rt ci", tree.over(SAID), ends)
     with tempfile.TemporaryDirectory(prefix="nbdcheck-") as folder:
         tree, refused = Tree(folder, {"a": change("one", "searched")}), {"a": "refused"}
-        tally.want("one crate", tree.run("low"), (0, refused, "1 passed, 0 failed", ["searched; one"]))
+        tally.want("one crate", tree.run("low"), (0, refused, "1 passed, 0 failed", ["searched; one_copy2"]))
         tally.want("a crate that is not proved", tree.run(FAILS="low"), (1, {}, "0 passed, 1 failed", []))
         tally.want("no such crate", tree.run("none"), (1, {}, "crates.txt has no crate none", []))
         # (where rt ci has proved it earlier it names no function, so all are asked for)
@@ -217,12 +242,12 @@ def run(tally):
         tally.want("a crate that is kept", tree.over(kept), (0, refused, "1 passed, 0 failed", ["searched; "]))
         with tempfile.TemporaryDirectory(prefix="nbdcheck-") as other:
             two = {"a": change("one", "searched"), "b": change("one", "by_hand"), "c": change("one", "noted")}
-            wanted = (0, dict.fromkeys(two, "refused"), "3 passed, 0 failed", ["searched; ", "by_hand noted; one one_copy2"])
+            wanted = (0, dict.fromkeys(two, "refused"), "3 passed, 0 failed", ["searched; ", "by_hand noted; one_copy2 one_copy3"])
             tally.want("a crate that is kept, with several edits of a function", Tree(other, two).over(kept), wanted)
         tally.want("a crate that rt ci does not prove", tree.over("rt: low NOT PROVED\n"), (1, {}, "0 passed, 2 failed", []))
         two = {"a": change("one", "searched"), "b": change("one", "by_hand"), "c": change("three", "searched"), "d": change("three", "noted")}
         with tempfile.TemporaryDirectory(prefix="nbdcheck-") as other:
-            tally.want("copies without their edits", Tree(other, two).run("--copies", "low"), (0, {}, "1 passed, 0 failed", ["; one_copy2"]))
+            tally.want("copies without their edits", Tree(other, two).run("--copies", "low"), (0, {}, "2 passed, 0 failed", ["; one_copy2 one_copy3"]))
         kept = Path(folder, "kept")
         tree.run("--keep", str(kept))
         tally.holds("what was checked is kept", (kept / "low/src/lib.rt").read_text() == LOW)
