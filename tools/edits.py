@@ -53,8 +53,8 @@ ASSUMED = """use Rattle.{module}.Statement as stated
 pub {name}_spec : {{M : Type 1}} → stated.statement M
 {name}_spec = ?
 """
-# The path of a function that has a name, and a folder for its proof.
-PATH = re.compile(r"\w+(?:::\w+)+")
+# The path of a function that has a name, and a folder for its proof; closures, which go with their function's body, stand behind `fn`.
+PATH = re.compile(r"\w+(?:::(?!fn::)\w+)+")
 # The seconds above which it is told that a function was tried for long.
 LONG = 10
 # The seconds that an edit takes, or so, for the order of what waits.
@@ -232,8 +232,10 @@ def refusals(edit, path, told, text):
     first, last = edit.lines
     # (an edit leaves each line where it was, and a copy stands behind them)
     found = [note for note, line in notes if first < int(line) <= last + 1]
-    proofs = "/".join(path.split("::")[1:])
-    errors = re.findall(rf"(?m)^\./(proofs/{proofs}/\w+\.antt:\d+:\d+: error: .*)$", text)
+    *parts, name = path.split("::")[1:]
+    # (one that calls itself has its proof behind a +)
+    proofs = "/".join(["proofs", *parts, rf"\+?{name}"])
+    errors = re.findall(rf"(?m)^\./({proofs}/\w+\.antt:\d+:\d+: error: .*)$", text)
     return [told[path]] * ("did not prove" in told[path]) + found + [it for it in errors if not NAMES.search(it)]
 
 
