@@ -1,4 +1,5 @@
 pub mod EntryLemmas
+pub mod IndexLemmas
 pub mod InsideLemmas
 pub mod ExplainingLemmas
 pub mod DueLemmas

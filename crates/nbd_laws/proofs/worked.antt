@@ -3,6 +3,5 @@ pub mod DecidingLemmas
 pub mod DecidingReadLemmas
 pub mod DecidingReplyLemmas
 pub mod DecidingRunLemmas
-pub mod IndexLemmas
 pub mod SessionLemmas
 pub mod WorkedPlaceLemmas

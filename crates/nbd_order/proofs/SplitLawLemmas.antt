@@ -6,7 +6,7 @@ use Rattle.nbd_wire.specs.protocol.Explains.{IsExplainedOf, known}
 use Rattle.nbd_wire.specs.protocol.Marks.{pairs}
 use Rattle.nbd_export.proofs.HeldLemmas.{length-held_from, slice_get-held_from}
 use Rattle.nbd_laws.proofs.service.EntryLemmas.{HasNoFault}
-use Rattle.nbd_laws.proofs.worked.IndexLemmas.{by_entries, by_index}
+use Rattle.nbd_laws.proofs.service.IndexLemmas.{by_entries, by_index}
 use Rattle.nbd_laws.specs.Soundness.{ReportsAreSound}
 use Rattle.nbd_judge.proofs.contents.CompareLemmas.{wrong_there}
 use Rattle.nbd_judge.proofs.contents.StartLemmas.{left_same, wrong_more}

@@ -10,7 +10,7 @@ pub use Rattle.nbd_laws.proofs.judge.SoundLemmas.{kept_later, sound, turn_of_rea
 pub use Rattle.nbd_laws.proofs.judge.SteadyLemmas.{IsDeciding, IsExtendedOrNot, as_chunk, as_extended, as_neither, as_other, as_simple, begun_true, bytes_are_begun, deciding, entry-append, extended_or_not, is_chunk_reply, is_extended_reply, is_no_extended, is_no_reply, is_simple_reply, long_reply, no_chunk, short_reply}
 pub use Rattle.nbd_laws.proofs.judge.TidyLemmas.{failure_kind, no_content, none_content, status_content}
 pub use Rattle.nbd_laws.proofs.reading.MarkLemmas.{AreInStep, InStep, IsRead, in_step_completed, in_step_sided, in_step_with, within_middle, within_opening}
-pub use Rattle.nbd_laws.proofs.reading.ReaderLemmas.{AreHeld, Busy, Idle, IsFilled-snoc, IsNotBusy, IsSound, IsSoundAt, Kept, Later, Later-trans, Loose, Open, Walk, at_once, behind, ended, final, get-put_other, get-put_same, held_more, held_whole, kept, kept_next, loose, middle, none_held, old-empty, old-filled, opening, reached_of, reads_held, same_or_not, serving, some_held, with_byte}
+pub use Rattle.nbd_laws.proofs.reading.ReaderLemmas.{AreHeld, Busy, Idle, IsFilled-snoc, IsNotBusy, IsSound, IsSoundAt, Kept, Later, Later-trans, Loose, Open, Walk, at_once, behind, ended, final, get-put_other, get-put_same, held_more, held_whole, kept, kept_next, led, loose, middle, none_held, old-empty, old-filled, opening, put_both, reached_of, reads_held, same_or_not, serving, some_held, with_byte}
 pub use Rattle.nbd_laws.proofs.requests.ContextLemmas.{asked_at}
 pub use Rattle.nbd_laws.proofs.requests.LaidLemmas.{pieces-snoc}
 pub use Rattle.nbd_laws.proofs.requests.OutstandingLemmas.{find}
@@ -48,22 +48,20 @@ pub use Rattle.nbd_session.specs.internal.Holdings.{holding_of, incoming_of, is_
 pub use Rattle.nbd_session.specs.internal.Incoming.{is_nothing}
 pub use Rattle.nbd_session.specs.internal.Known.{IsCome, IsExpected, IsKnown, IsShort, awaited, decided, is_come_by, is_known_by}
 pub use Rattle.nbd_session.specs.internal.Leading.{answer_fields_of, answer_head_of, choice_head_of, chunk_fields, chunk_head_length, chunk_head_of, chunk_magic, greeting_flags_of, request_fields, request_head_length, request_head_of, request_magic, simple_head_of, some_if, unless_fault}
-pub use Rattle.nbd_session.specs.internal.Logging.{log_of_pairs, log_of_rest, log_with}
 pub use Rattle.nbd_session.specs.internal.Standing.{AreStretchesOf, Holding, IsReadTo, count_at_server, held_pairs, rest_of, stretch_total, stretches_with, with_bytes, with_more}
 pub use Rattle.nbd_session.specs.internal.Steps.{AddsHeld, HoldsRun, IsExpecting, IsHeadRefused, IsKept, IsRefused, IsSame, IsShut, IsTaken, IsWhole, Knows, Stands, knows_by}
 pub use Rattle.nbd_session.specs.internal.Stopped.{IsStopped}
 pub use Rattle.nbd_state.proofs.HeadLemmas.{chunk_cookie, chunk_ends, chunk_fails, chunk_gives}
-pub use Rattle.nbd_state.proofs.KnownLemmas.{core_from_with, known_by-snoc, known_here-other, known_or, or_none}
 pub use Rattle.nbd_state.proofs.PlacedLemmas.{place_shows_operation, shown_length}
 pub use Rattle.nbd_state.proofs.RecordingLemmas.{told_with, told_without}
 pub use Rattle.nbd_state.proofs.ReplyLemmas.{any-snoc, or-false, proper-same}
-pub use Rattle.nbd_state.specs.Completions.{Answers, MayTake, core_from}
+pub use Rattle.nbd_state.proofs.TellingLemmas.{unnoted}
+pub use Rattle.nbd_state.specs.Completions.{Answers, MayTake}
 pub use Rattle.nbd_state.specs.Heads.{chunk_of, chunk_with}
-pub use Rattle.nbd_state.specs.Logs.{LogEntry, known_by, known_here, known_if, messages_of}
 pub use Rattle.nbd_state.specs.Moments.{shown_in}
 pub use Rattle.nbd_state.specs.Places.{place_at}
 pub use Rattle.nbd_state.specs.Showing.{IsShown, exporting_if}
-pub use Rattle.nbd_state.specs.Shows.{AreKnown, AreShown, Shows, ended_if, export_shown_if, phase_shown, place_of, shown_if}
+pub use Rattle.nbd_state.specs.Shows.{AreKnown, AreShown, Shows, ended_if, export_shown_if, known_if, phase_shown, place_of, shown_if}
 pub use Rattle.nbd_state.specs.Transcripts.{export_of, report_of_request, transcript_report}
 pub use Rattle.nbd_state.specs.declared.asked.Exchange.{Exchange}
 pub use Rattle.nbd_state.specs.declared.state.Chosen.{Chosen}
@@ -109,7 +107,7 @@ pub use Rattle.nbd_wire.specs.protocol.Places.{IsUnderWayOf}
 pub use Rattle.nbd_wire.specs.protocol.Reading.{Bad, Both, IsFilled, Judge, More, Reader, Reading, Rest, Whole, by_tests, decision, decision_with, fresh_of, get, last_reading, old_of, on_ok, put, read_by, reading_by_decision, reads, request_unless, rest_with, settle, step}
 pub use Rattle.nbd_wire.specs.protocol.Reports.{Report, asked_list, asked_of, first_known, known_count, known_from}
 unfoldable pub use Rattle.nbd_wire.specs.protocol.Reports.{report}
-pub use Rattle.nbd_wire.specs.protocol.Rules.{IsRunBut, IsRunOf, MayComplete, Obeys, after, complete, cookie_of, ends_at, request_of_reply}
+pub use Rattle.nbd_wire.specs.protocol.Rules.{IsRunBut, IsRunOf, MayComplete, Obeys, after, complete, cookie_of, ends_at, is_reply_to, is_this, noted, request_of_reply}
 pub use Rattle.nbd_wire.specs.protocol.Sendable.{IsSendable}
 pub use Rattle.nbd_wire.specs.protocol.Sides.{same_side, side}
 pub use Rattle.nbd_wire.specs.protocol.States.{Aborting, Answering, Choosing, Core, Ended, Flags, Greet, Naming, Phase, Shown, Transmission, export_in, in_force, operation, start, start_of, target_from, with_reply}

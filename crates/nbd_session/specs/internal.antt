@@ -5,7 +5,6 @@ pub mod Holdings
 pub mod Incoming
 pub mod Known
 pub mod Leading
-pub mod Logging
 pub mod Standing
 pub mod Steps
 pub mod Stopped

@@ -15,15 +15,14 @@ pub use Rattle.nbd_laws.specs.Allowed.{MayAsk}
 pub use Rattle.nbd_laws.specs.Profiles.{with_profile}
 pub use Rattle.nbd_laws.specs.Reached.{IsReached, after_message, at_start}
 pub use Rattle.nbd_laws.specs.Selecting.{AreAskedWith}
-pub use Rattle.nbd_state.specs.Completions.{MayTake, core_from}
+pub use Rattle.nbd_state.specs.Completions.{MayTake}
 pub use Rattle.nbd_state.specs.Filters.{Asks, filter_of_head, is_settled_by}
 pub use Rattle.nbd_state.specs.Heads.{chunk_of, chunk_with}
 pub use Rattle.nbd_state.specs.Indexes.{Covers, HasMore, IsApart, IsBare, IsHeld, IsHeldFrom, IsIndex, size_from}
-pub use Rattle.nbd_state.specs.Logs.{LogEntry, known_by, known_here, known_if, messages_of}
 pub use Rattle.nbd_state.specs.Moments.{shown_in, with_counts}
 pub use Rattle.nbd_state.specs.Places.{place_at}
 pub use Rattle.nbd_state.specs.Showing.{AreCounted, IsShown, exporting, outcome_of}
-pub use Rattle.nbd_state.specs.Shows.{AreKnown, AreShown, HasSelection, Shows, TellsThese, ended_if, export_shown, export_shown_if, phase_shown, place_of, shown_if}
+pub use Rattle.nbd_state.specs.Shows.{AreKnown, AreShown, HasSelection, Shows, TellsThese, ended_if, export_shown, export_shown_if, known_if, phase_shown, place_of, shown_if}
 pub use Rattle.nbd_state.specs.Spans.{span_of}
 pub use Rattle.nbd_state.specs.Transcripts.{report_of_request}
 pub use Rattle.nbd_state.specs.declared.asked.Asked.{Asked}
@@ -38,7 +37,7 @@ pub use Rattle.nbd_state.specs.declared.span.Span.{Span}
 pub use Rattle.nbd_state.specs.declared.state.Chosen.{Chosen}
 pub use Rattle.nbd_state.specs.declared.state.Export.{Export}
 pub use Rattle.nbd_state.specs.declared.state.State.{State}
-pub use Rattle.nbd_state.specs.internal.Completing.{AddsUnanswered, IsTransmitting, TellsOne, is_allocation_told, known_first}
+pub use Rattle.nbd_state.specs.internal.Completing.{AddsUnanswered, IsTransmitting, TellsOne, is_allocation_told}
 pub use Rattle.nbd_state.specs.internal.Noting.{IsNotedWith}
 pub use Rattle.nbd_state.specs.internal.Showing.{carried, operation_of_head}
 pub use Rattle.nbd_wire.specs.codec.Contents.{extent_of}
@@ -61,7 +60,7 @@ unfoldable pub use Rattle.nbd_wire.specs.protocol.Payloads.{content_of}
 pub use Rattle.nbd_wire.specs.protocol.Pieces.{byte_at, chunk_piece, is_in, piece_offset, piece_size, simple_piece}
 unfoldable pub use Rattle.nbd_wire.specs.protocol.Pieces.{piece_of}
 pub use Rattle.nbd_wire.specs.protocol.Reports.{asked_at}
-pub use Rattle.nbd_wire.specs.protocol.Rules.{AnswersOne, cookie_of, core_with_reply, core_with_request, filter_in, grants_extended, grants_structured, is_this, noted, operation_asked, reply_to, request_of_reply, shown_with, target_of}
+pub use Rattle.nbd_wire.specs.protocol.Rules.{AnswersOne, cookie_of, core_with_reply, core_with_request, filter_in, grants_extended, grants_structured, is_reply_to, is_this, noted, operation_asked, reply_to, request_of_reply, shown_with, target_of}
 unfoldable pub use Rattle.nbd_wire.specs.protocol.Rules.{MayComplete, complete}
 pub use Rattle.nbd_wire.specs.protocol.Sizes.{sizes_for, sizes_kept, sizing_after, sizing_at}
 pub use Rattle.nbd_wire.specs.protocol.States.{Aborting, Answering, Choosing, Core, Ended, Flags, Greet, Naming, Phase, Shown, Transmission, export_in, has_contexts, in_force, is_awaiting, operation, start, start_of, target_from, with_reply, with_reply_at}

@@ -1,5 +1,5 @@
 -- What a state shows once a message has completed.
-use Rattle.nbd_state.proofs.Common.{◌≡◌, ℕ, zero, suc, ◌<◌, ◌≤◌, ◌⊎◌, ◌==◌, ◌&&◌, List, [], ◌∷◌, ◌++◌, length, refl, sym, ◌∙◌, ap, subst, Option, Some, None, Bool, true, false, if◌then◌else◌, arith, slice_get, slice_index_or, slice_set, Result, Ok, Err, IfOk, OnOk, inl, inr, not, is_some, ◌^◌, slice_get_read, place_at, Message, Operation, Exporting, ends_reply, is_finished, cookie_of, core_with_reply, noted, reply_to, shown_with, target_of, Context, Core, Transmission, with_reply_at, operation, target, with_reply, export_in, in_force, Asked, Exchange, Counts, Export, State, AddsUnanswered, is_none_yet, IsShown, exporting, IsReached, AreAskedWith, asked_answered, asked_snoc, AreShown, HasSelection, Shows, ended_if, export_shown, phase_shown, place_of, shown_if, shown_in, IsNotedWith, InPhase, open_target, sound}
+use Rattle.nbd_state.proofs.Common.{◌≡◌, ℕ, zero, suc, ◌<◌, ◌==◌, ◌&&◌, List, [], ◌∷◌, ◌++◌, length, refl, sym, ◌∙◌, ap, subst, Option, Some, None, Bool, true, false, if◌then◌else◌, arith, slice_get, slice_index_or, slice_set, Result, Ok, Err, IfOk, OnOk, ◌^◌, slice_get_read, place_at, Message, Operation, Exporting, ends_reply, is_finished, cookie_of, core_with_reply, noted, reply_to, shown_with, target_of, Context, Core, Transmission, with_reply_at, operation, target, with_reply, export_in, in_force, Asked, Exchange, Counts, Export, State, AddsUnanswered, IsShown, exporting, IsReached, AreAskedWith, asked_answered, asked_snoc, AreShown, HasSelection, Shows, ended_if, export_shown, phase_shown, place_of, shown_if, shown_in, IsNotedWith, InPhase, open_target, sound, known_if}
 use Rattle.nbd_wire.specs.protocol.States as definitions
 use Rattle.nbd_state.specs.declared.state.Phase.TheVariants as shown
 use Rattle.nbd_laws.proofs.requests.ContextLemmas.{asked_at}
@@ -178,12 +178,11 @@ exporting_is state core export x s p q =
     let v : x ≡ export_shown export = cc in
     ap exporting v
 
-at_end : (xs : List Exchange) (x y : Exchange) (place : ℕ) → slice_get (xs ++ x ∷ []) place ≡ Some y → (slice_get xs place ≡ Some y) ⊎ (length xs ≤ place) × (y ≡ x)
-at_end [] x y zero q = inr (omega arith, (cc))
-at_end [] x y (suc place) q = absurd (cc)
-at_end (z ∷ xs) x y zero q = inl q
-at_end (z ∷ xs) x y (suc place) q = elim (at_end xs x y place q) [ inl a ↦ inl a | inr b ↦ inr (let l : length xs ≤ place = b.0 in (omega (arith, l), b.1)) ]
+at_end : (xs : List Exchange) (x : Exchange) → x.asked.known_at ≡ None → AddsUnanswered xs (xs ++ x ∷ [])
+at_end [] x none zero = none
+at_end [] x none (suc place) = refl
+at_end (z ∷ xs) x none zero = refl
+at_end (z ∷ xs) x none (suc place) = at_end xs x none place
 
 pub added_unanswered : (x : Exchange) (old new : List Exchange) → x.asked.known_at ≡ None → new ≡ old ++ x ∷ [] → AddsUnanswered old new
-added_unanswered x old new none is place y q =
-    elim (at_end old x y place (subst (λ xs. slice_get xs place ≡ Some y) is q)) [ inl a ↦ inl a | inr b ↦ inr (b.0, ap (λ (z : Exchange). z.asked.known_at) b.1 ∙ none) ]
+added_unanswered x old new none is place = ap (λ xs. known_if (slice_get xs place)) is ∙ at_end old x none place

@@ -4,7 +4,6 @@ pub mod CompletionLemmas
 pub mod FilterLemmas
 pub mod HeadLemmas
 pub mod IndexLemmas
-pub mod KnownLemmas
 pub mod PhaseLemmas
 pub mod PlaceLemmas
 pub mod PlacedLemmas

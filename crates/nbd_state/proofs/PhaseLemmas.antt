@@ -1,5 +1,5 @@
 -- What a state shows once a message of the negotiation has completed.
-use Rattle.nbd_state.proofs.Common.{◌≡◌, ℕ, ◌<◌, ◌||◌, ◌&&◌, ◌==◌, List, length, refl, sym, ◌∙◌, ap, subst, Option, Some, None, Bool, slice_get_within, place_at, ask_allow, extended_ask_allow, MayAsk, Message, Greeting, ClientFlags, Choice, Answer, Exported, Request, ExtendedRequest, Simple, Chunk, ExtendedChunk, Sizing, sizing_after, sizing_at, agrees, reply_phase, choice_phase, is_proper_option, next_phase, selection_after, selection_at, takes_contexts, Exporting, AnswersOne, MayComplete, complete, grants_extended, grants_structured, Core, Phase, Greet, Flags, Choosing, Naming, Aborting, Answering, Ended, Transmission, export_in, has_contexts, Chosen, State, MayTake, IsTransmitting, Selection, HasSelection, Shows, export_shown, export_shown_if, phase_shown}
+use Rattle.nbd_state.proofs.Common.{◌≡◌, ℕ, ◌<◌, ◌||◌, ◌&&◌, ◌==◌, List, length, refl, sym, ◌∙◌, ap, subst, Option, Some, None, Bool, slice_get_within, place_at, ask_allow, extended_ask_allow, MayAsk, Message, Greeting, ClientFlags, Choice, Answer, Exported, Request, ExtendedRequest, Simple, Chunk, ExtendedChunk, Sizing, sizing_after, sizing_at, agrees, reply_phase, choice_phase, is_proper_option, next_phase, selection_after, selection_at, takes_contexts, Exporting, AnswersOne, MayComplete, complete, grants_extended, grants_structured, Core, Phase, Greet, Flags, Choosing, Naming, Aborting, Answering, Ended, Transmission, export_in, Chosen, State, MayTake, IsTransmitting, Selection, HasSelection, Shows, export_shown, export_shown_if, phase_shown}
 use Rattle.nbd_wire.specs.declared.commands.TheConstants as commands
 use Rattle.nbd_state.specs.declared.state.Phase as states
 use Rattle.nbd_state.specs.declared.state.Phase.TheVariants as shown

@@ -2,7 +2,6 @@ pub mod Completions
 pub mod Filters
 pub mod Heads
 pub mod Indexes
-pub mod Logs
 pub mod Moments
 pub mod Places
 pub mod Showing

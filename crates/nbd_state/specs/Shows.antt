@@ -1,5 +1,5 @@
 -- How the program's state shows what the completed messages have led to.
-use Rattle.std.specs.Prelude.{◌≡◌, ℕ, suc, ◌+◌, ◌-◌, ◌||◌, true, Bool, List, [], ◌∷◌, Option, Some, None, slice_get}
+use Rattle.std.specs.Prelude.{◌≡◌, ℕ, suc, ◌-◌, ◌||◌, true, Bool, List, [], ◌∷◌, Option, Some, None, slice_get}
 use Rattle.nbd_state.specs.Places.{place_at}
 use Rattle.std.specs.BTreeSet.{contains}
 use Rattle.std.specs.Ordering.{nat_cmp}
@@ -20,7 +20,6 @@ use Rattle.nbd_state.specs.declared.state.Phase.{Phase}
 use Rattle.nbd_state.specs.declared.state.Phase.TheVariants.{Greet, Flags, Choosing, Naming, Aborting, Answering, Ended, Transmission}
 use Rattle.nbd_state.specs.declared.state.State.{State}
 use Rattle.nbd_wire.specs.protocol.Rules.{is_this}
-use Rattle.nbd_state.specs.Logs.{LogEntry, known_by}
 use Rattle.nbd_state.specs.Moments.{shown_in}
 use Rattle.nbd_state.specs.Showing.{IsShown}
 
@@ -101,7 +100,11 @@ pub record Shows (state : State) (core : Core) : Type 0 where
   pub ended : (place : ℕ) → core.ended_at (suc place) ≡ ended_if (slice_get state.exchanges.items place)
   pub places : (cookie : ℕ) → place_at state.outstanding cookie ≡ place_of (target cookie core.entries)
 
--- each exchange knows what the log says of its request
-abbrev pub AreKnown : List LogEntry → List Exchange → Type 0
-AreKnown log exchanges = (place : ℕ) (x : Exchange) → slice_get exchanges place ≡ Some x
-    → x.asked.known_at ≡ known_by start.core (place + 1) log
+-- how many requests had completed when the first reply to the request of an exchange started, if there is one
+abbrev pub known_if : Option Exchange → Option ℕ
+known_if (Some e) = e.asked.known_at
+known_if None = None
+
+-- the exchanges have what is known of the numbered requests
+abbrev pub AreKnown : (ℕ → Option ℕ) → List Exchange → Type 0
+AreKnown known exchanges = (place : ℕ) → known (suc place) ≡ known_if (slice_get exchanges place)

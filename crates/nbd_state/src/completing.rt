@@ -4,22 +4,20 @@ ghost use Rattle.std.specs.Prelude.{◌≡◌, ◌<◌, ◌==◌, ◌&&◌, ◌+
 ghost use Rattle.nbd_state.specs.Places.{place_at};
 ghost use Rattle.nbd_wire.specs.declared.commands.TheConstants as commands;
 ghost use Rattle.nbd_wire.specs.declared.message.Message.TheVariants.{Answer, Choice, Simple};
-ghost use Rattle.nbd_wire.specs.declared.profile.Profile.{Profile};
 ghost use Rattle.nbd_wire.specs.protocol.Options as options;
 ghost use Rattle.nbd_wire.specs.protocol.Options.{ack_phase, agrees, reply_phase, is_proper_option, next_phase, takes_contexts};
 ghost use Rattle.nbd_wire.specs.protocol.Operations.{Exporting};
-ghost use Rattle.nbd_wire.specs.protocol.Rules.{MayComplete, complete, grants_extended, grants_structured, core_with_reply, core_with_request};
+ghost use Rattle.nbd_wire.specs.protocol.Rules.{MayComplete, complete, grants_extended, grants_structured, core_with_reply, core_with_request, is_reply_to, noted};
 ghost use Rattle.nbd_wire.specs.protocol.Sendable.{IsSendable};
 ghost use Rattle.nbd_wire.specs.protocol.States as definitions;
-ghost use Rattle.nbd_wire.specs.protocol.States.{Core, has_contexts, in_force, start_of, target};
+ghost use Rattle.nbd_wire.specs.protocol.States.{Core, has_contexts, in_force, target};
 ghost use Rattle.nbd_state.specs.Filters.{filter_of_head};
 ghost use Rattle.nbd_state.specs.Heads.{chunk_of};
 ghost use Rattle.nbd_state.specs.internal.Showing.{carried, operation_of_head};
 ghost use Rattle.nbd_wire.specs.protocol.Sizes.{sizes_for, sizes_kept};
 ghost use Rattle.nbd_wire.specs.protocol.Statuses.{status_in};
 ghost use Rattle.nbd_state.specs.internal.Completing.{AddsUnanswered, IsTransmitting, TellsOne, is_allocation_told};
-ghost use Rattle.nbd_state.specs.Completions.{Answers, MayTake, core_from};
-ghost use Rattle.nbd_state.specs.Logs.{LogEntry, messages_of};
+ghost use Rattle.nbd_state.specs.Completions.{Answers, MayTake};
 ghost use Rattle.nbd_laws.specs.Reached.{IsReached};
 ghost use Rattle.nbd_state.specs.Shows.{AreKnown, Shows, export_shown_if, phase_shown};
 
@@ -55,11 +53,9 @@ impl State {
         ensures shown { OnOk result ((core : Core) → IsReached core → Shows self.old core →
             IsSendable message.now → MayComplete core core.phase message.now →
             Shows self.new (complete core message.now)) }
-        ensures known { OnOk result ((core : Core) (profile : Profile) (log : List LogEntry) → IsReached core →
-            Shows self.old core → MayComplete core core.phase message.now →
-            core ≡ core_from (start_of profile).core (messages_of log) →
-            AreKnown log self.old.exchanges.items →
-            AreKnown (log ++ record { message = message.now; known = known } ∷ []) self.new.exchanges.items) }
+        ensures known { OnOk result ((core : Core) (before : ℕ → Option ℕ) → IsReached core →
+            Shows self.old core → AreKnown before self.old.exchanges.items →
+            AreKnown (λ k. noted (before k) (is_reply_to core message.now k) known) self.new.exchanges.items) }
     {
         match message {
             Message::Greeting { flags } => {

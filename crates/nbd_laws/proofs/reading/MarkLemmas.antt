@@ -1,5 +1,5 @@
 -- A run's pairs are read without a fault, and what completes is the run's.
-use Rattle.nbd_laws.proofs.Common.{◌≡◌, ℕ, ◌<◌, List, [], ◌∷◌, ◌++◌, length, refl, sym, ◌∙◌, ap, subst, Ok, append_assoc, append-nil, Entry, Side, Message, enc, side, Item, pairs, Pair, ArePairs, Core, IsSendable, MayStart, MayComplete, complete, Obeys, within, Both, get, put, IsFilled, Rest, Reader, Reading, More, Whole, Bad, old_of, settle, Judge, rest_with, reads, on_ok}
+use Rattle.nbd_laws.proofs.Common.{◌≡◌, ℕ, ◌<◌, List, [], ◌∷◌, ◌++◌, length, refl, sym, ◌∙◌, ap, subst, Ok, append_assoc, append-nil, Entry, Side, Message, enc, side, Item, pairs, Pair, ArePairs, Core, IsSendable, MayStart, MayComplete, complete, Obeys, within, Both, get, put, IsFilled, Rest, Reader, Reading, More, Whole, Bad, old_of, settle, Judge, rest_with, reads, on_ok, with_message}
 use Rattle.nbd_laws.proofs.reading.ReaderLemmas.{put_both, IsFilled-snoc, old-empty, old-filled, Kept, AreHeld, kept_next, held_more, held_whole, get-put_same, Open, Idle, Busy, Loose, Walk, ended, serving, opening, middle, final, loose, Later, at_once, behind, Later-trans, IsExact}
 use Rattle.nbd_laws.proofs.runs.FollowLemmas.{HasEnd, IsSidedOpen, completes_later, each_with, follows}
 use Rattle.nbd_laws.proofs.runs.TraceLemmas.{IsWithin}
@@ -31,9 +31,9 @@ pub in_step_with : (reader : Reader) (o : Both Open) (s : Side) (rest : Rest) (x
 in_step_with reader o s rest x all h u = put_both (λ u r y. InStep reader.core r u y) reader.rests o s rest x h (λ u ne. all u) u
 
 -- a completed message of side s leaves the other side in step
-pub in_step_completed : (reader : Reader) (o : Both Open) (s : Side) (m : Message) (rest : Rest) (ms : List Message) → AreInStep reader o → side m ≡ s → MayComplete reader.core reader.core.phase m → rest.bytes ≡ [] →
-    AreInStep (record { core = complete reader.core m; rests = put reader.rests s rest; messages = ms }) (put o s Idle)
-in_step_completed reader o s m rest ms all sd ok e u = put_both (λ u r y. InStep (complete reader.core m) r u y) reader.rests o s rest Idle e (λ u ne. moved u (get o u) ne (all u)) u
+pub in_step_completed : (reader : Reader) (o : Both Open) (s : Side) (m : Message) (rest : Rest) → AreInStep reader o → side m ≡ s → MayComplete reader.core reader.core.phase m →
+    AreInStep (with_message reader s rest m) (put o s Idle)
+in_step_completed reader o s m rest all sd ok u = put_both (λ u r y. InStep (complete reader.core m) r u y) reader.rests o s (record rest { bytes = [] }) Idle refl (λ u ne. moved u (get o u) ne (all u)) u
   where
     moved : (u : Side) (x : Open) → (s ≡ u → ⊥) → InStep reader.core (get reader.rests u) u x → InStep (complete reader.core m) (get reader.rests u) u x
     moved u Idle ne i = i
@@ -45,7 +45,7 @@ reads_next judge reader s b ps messages More =
     IsRead judge (record reader { rests = put reader.rests s (rest_with reader.core (get reader.rests s) b) }) ps messages
 reads_next judge reader s b ps messages (Whole m) =
     (rest : List Message) × (messages ≡ m ∷ rest)
-    × IsRead judge (record { core = complete reader.core m; rests = put reader.rests s (record { bytes = []; since = old_of reader.core (get reader.rests s) }); messages = reader.messages ++ m ∷ [] }) ps rest
+    × IsRead judge (with_message reader s (rest_with reader.core (get reader.rests s) b) m) ps rest
 reads_next judge reader s b ps messages (Bad f) = ⊥
 
 -- a step and what follows it
@@ -143,6 +143,6 @@ marks judge exact {o} (final s m b {items = items} is w) reader js ob st hd (p �
     let i0 : InStep reader.core (get reader.rests s) s (Busy m (b ∷ [])) = subst (InStep reader.core (get reader.rests s) s) is (st s) in
     subst (λ q. IsRead judge reader (q ∷ ps) (m ∷ within (length ps) items)) p_is
     (read_on judge reader s b ps _ (Whole m) (judged_whole judge exact reader.core (get reader.rests s) s m b i0 ob.1.0.0 (kept_next judge reader.core s (get reader.rests s) b b_lt (hd s)))
-    (within (length ps) items, refl, marks judge exact w _ js ob.1.1 (in_step_completed reader o s m _ (reader.messages ++ m ∷ []) st i0.0.sided ob.1.0.0 refl) (held_whole judge reader s m _ refl hd i0.0.sided i0.0.sendable ob.1.0.0) ps more lt.1 e'))
+    (within (length ps) items, refl, marks judge exact w _ js ob.1.1 (in_step_completed reader o s m (rest_with reader.core (get reader.rests s) b) st i0.0.sided ob.1.0.0) (held_whole judge reader s m _ refl hd i0.0.sided i0.0.sendable ob.1.0.0) ps more lt.1 e'))
 marks judge exact (loose s b absent is w) reader js ob st hd ps more lt e = absurd absent
 marks judge exact w reader js ob st hd [] more lt e = nothing_read judge reader _ refl

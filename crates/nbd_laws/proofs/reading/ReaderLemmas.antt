@@ -1,4 +1,4 @@
-use Rattle.nbd_laws.proofs.Common.{◌≡◌, ℕ, ◌<◌, ◌⊎◌, List, [], ◌∷◌, ◌++◌, refl, sym, ◌∙◌, ap, subst, inl, inr, Ok, Entry, Side, Client, Server, Message, enc, side, Item, Byte, Starts, Completes, Serves, Pair, ArePairs, Core, IsSendable, MayStart, MayComplete, complete, Both, get, put, IsFilled, Rest, Reader, Reading, old_by, old_of, settle, Judge, rest_with, on_ok, reads, More, Whole, Bad, IsReached, after_message}
+use Rattle.nbd_laws.proofs.Common.{◌≡◌, ℕ, ◌<◌, ◌⊎◌, List, [], ◌∷◌, ◌++◌, refl, sym, ◌∙◌, ap, subst, inl, inr, Ok, Entry, Side, Client, Server, Message, enc, side, Item, Byte, Starts, Completes, Serves, Pair, ArePairs, Core, IsSendable, MayStart, MayComplete, complete, Both, get, put, IsFilled, Rest, Reader, Reading, old_by, old_of, settle, Judge, rest_with, on_ok, reads, More, Whole, Bad, IsReached, after_message, with_message}
 
 pub get-put_same : {A : Type 0} (p : Both A) (s : Side) (a : A) → get (put p s a) s ≡ a
 get-put_same p Client a = refl
@@ -65,17 +65,13 @@ pub data Kept (judge : Judge) (s : Side) (old : Core) : Core → List ℕ → Ty
   begun : (b : ℕ) → b < 256 → IsReached old → Kept judge s old old (b ∷ [])
   kept : {now next : Core} {bytes : List ℕ} (b : ℕ) → b < 256 → Kept judge s old now bytes → judge old now s bytes ≡ More → Later s now next → IsReached next → Kept judge s old next (bytes ++ b ∷ [])
 
--- no byte of the next message has come
-abbrev pub ended_by : Rest → Rest
-ended_by rest = record { bytes = []; since = rest.since }
-
 -- the reader that the items lead to
 abbrev pub led : Reader → List Item → Reader
 led reader [] = reader
 led reader (Byte s b ∷ items) = led (record reader { rests = put reader.rests s (rest_with reader.core (get reader.rests s) b) }) items
 led reader (Starts s m ∷ items) = led reader items
 led reader (Completes s m ∷ items) =
-    led (record { core = complete reader.core m; rests = put reader.rests s (ended_by (get reader.rests s)); messages = reader.messages ++ m ∷ [] }) items
+    led (with_message reader s (get reader.rests s) m) items
 led reader (Serves k ∷ items) = led reader items
 
 abbrev pub with_byte : Reader → Side → ℕ → Reader

@@ -1,5 +1,5 @@
 -- What a request keeps as replies to it complete.
-use Rattle.nbd_laws.proofs.Common.{◌≡◌, Option, ℕ, zero, suc, ◌≤◌, ◌⊎◌, ◌==◌, List, [], ◌∷◌, ◌++◌, length, refl, sym, ◌∙◌, ap, subst, inl, inr, Some, None, Bool, true, false, ◌&&◌, if◌then◌else◌, eqb-true, eq-eqb, arith, IsTrue, append-nil, nat_le, nat_lt, le_refl, leb-true, ltb-true, IsChunk, Profile, read_as, status_kind, done_fault, simple_length, Message, Request, Simple, Chunk, ExtendedRequest, ExtendedChunk, Failure, Piece, Sizes, Context, length_by, content_of, failure_of, MayReply, filter_in, written, Covers, Operation, Exporting, Outcome, Success, Pending, any, ends_reply, has_failed, has_range, is_failing, is_finished, is_proper, outcome, pieces, pieces_of, chunk_piece, piece_of, simple_piece, has, IsSendable, with_reply_at, operation, with_reply}
+use Rattle.nbd_laws.proofs.Common.{◌≡◌, Option, ℕ, zero, suc, ◌≤◌, ◌⊎◌, ◌==◌, List, [], ◌∷◌, ◌++◌, length, refl, sym, ◌∙◌, ap, subst, inl, inr, Some, None, Bool, true, false, ◌&&◌, if◌then◌else◌, eqb-true, eq-eqb, arith, IsTrue, append-nil, nat_le, nat_lt, le_refl, leb-true, ltb-true, IsChunk, Profile, read_as, status_kind, done_fault, simple_length, Message, Request, Simple, Chunk, ExtendedRequest, ExtendedChunk, Failure, Piece, Sizes, Context, length_by, content_of, failure_of, MayReply, filter_in, written, Covers, Operation, Exporting, Success, Pending, any, ends_reply, has_failed, is_failing, is_finished, is_proper, outcome, pieces, chunk_piece, piece_of, simple_piece, has, IsSendable, with_reply_at, operation, with_reply}
 use Rattle.nbd_laws.proofs.judge.AllowLemmas.{chunk_allow, extended_allow, finish_allow, simple_allow, total_covers}
 use Rattle.nbd_laws.proofs.judge.KindLemmas.{kind_content}
 use Rattle.nbd_wire.specs.declared.chunks.TheConstants as chunks

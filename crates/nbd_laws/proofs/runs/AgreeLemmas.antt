@@ -278,7 +278,7 @@ abbrev pub rest_in : Profile → Rest → Rest
 rest_in q rest = record { bytes = rest.bytes; since = with_profile q rest.since }
 
 abbrev pub reader_in : Profile → Reader → Reader
-reader_in q reader = record { core = with_profile q reader.core; rests = record { client = rest_in q reader.rests.client; server = rest_in q reader.rests.server }; messages = reader.messages }
+reader_in q reader = record { core = with_profile q reader.core; rests = record { client = rest_in q reader.rests.client; server = rest_in q reader.rests.server }; messages = reader.messages; known = reader.known }
 
 abbrev pub result_in : Profile → Result Reader WireFault → Result Reader WireFault
 result_in q (Ok reader) = Ok (reader_in q reader)
@@ -401,7 +401,7 @@ module _ (p q : Profile) where
       let fit = sound r.since (with_profile q reader.core) s r.bytes m (kept_next by_tests (with_profile q reader.core) s (get (reader_in q reader).rests s) b lt.0 (held s)) jq in (
         fit.completes,
         carries w _ js (done ++ record { from = s; byte = b } ∷ []) (read_more done s b reader _ e (ap (settle reader s (grown reader s b)) j)) (are_more done s b are lt.0) lt.1
-            (subst (NothingFrom (fresh_of p)) (sym (append_assoc done (record { from = s; byte = b } ∷ []) (pairs items))) none) ob.1.1 (in_step_completed reader o s m _ (reader.messages ++ m ∷ []) st i0.0.sided ob.1.0.0 refl),
+            (subst (NothingFrom (fresh_of p)) (sym (append_assoc done (record { from = s; byte = b } ∷ []) (pairs items))) none) ob.1.1 (in_step_completed reader o s m (grown reader s b) st i0.0.sided ob.1.0.0),
       )
   carries (loose s b absent is w) reader js done e are lt none ob st = absurd absent
 

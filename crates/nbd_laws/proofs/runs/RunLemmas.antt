@@ -2,7 +2,7 @@
 use Rattle.nbd_laws.proofs.Common.{◌≡◌, ℕ, List, [], ◌∷◌, ◌++◌, length, refl, sym, subst, inr, Bool, Option, Ok, Err, arith, Profile, Entry, Side, Client, Server, Item, Completes, Serves, pairs, completed_messages, service_order, IsMarkedBut, Pair, ArePairs, Core, start, start_of, IsRunOf, IsRunBut, Obeys, complete, ends_at, inside_at, operations_of, WireFault, fresh_of, Both, get, IsFilled, Rest, Reader, Judge, reads, at_start, within}
 use Rattle.nbd_laws.proofs.service.DueLemmas.{due_from}
 use Rattle.nbd_laws.proofs.service.EntryLemmas.{AreFine, HasNoFault}
-use Rattle.nbd_laws.proofs.reading.ReaderLemmas.{AreHeld, none_held, Walk, Open, Idle, Busy, Loose, IsSound, IsExact}
+use Rattle.nbd_laws.proofs.reading.ReaderLemmas.{AreHeld, none_held, Walk, Open, Idle, Busy, Loose, IsSound, IsExact, led}
 use Rattle.nbd_laws.proofs.runs.TraceLemmas.{trace, IsTrace, IsCanonical, IsStray, Guess, not_empty}
 use Rattle.nbd_laws.proofs.reading.MarkLemmas.{marks, IsRead}
 use Rattle.nbd_laws.proofs.runs.ProfileLemmas.{at_base}
@@ -73,13 +73,13 @@ both_idle o c s = λ i. record { client = c i; server = s i }
 pub fresh_canonical : {profile : Profile} → IsCanonical (start_of profile)
 fresh_canonical = record { all = λ k p h. absurd (omega arith); only = λ k h. absurd h }
 
--- what the reader reads to its end is a run with exactly these pairs and messages
+-- what the reader reads to its end is a run with exactly these pairs, which leads it there
 pub run_law : {profile : Profile} (judge : Judge) → IsSound judge → (ps : List Pair) (end : Reader) → ArePairs ps → reads judge (fresh_of profile) ps ≡ Ok end → ((s : Side) → (get end.rests s).bytes ≡ []) →
-    (items : List Item) × IsRunOf profile items × (pairs items ≡ ps) × (completed_messages items ≡ end.messages)
+    (items : List Item) × IsRunOf profile items × (pairs items ≡ ps) × (led (fresh_of profile) items ≡ end)
 run_law {profile} judge sound ps end lt e none =
     let t : IsTrace judge (fresh_of profile) end (start_of profile) ps = trace judge sound ps (fresh_of profile) end [] lt (fresh_held judge) fresh_canonical e in
     let idle : t.open_ ≡ Idles = both_idle t.open_ (idle_at profile Client (get end.rests Client) (get t.open_ Client) (t.guess Client)) (idle_at profile Server (get end.rests Server) (get t.open_ Server) (t.guess Server)) in
-    (t.items, run_of (λ p. not_empty (get end.rests p.0).bytes p.1 (none p.0)) (subst (λ o. Walk (IsStray end) o t.items) idle t.walk) t.obeys, t.has_pairs, t.messages)
+    (t.items, run_of (λ p. not_empty (get end.rests p.0).bytes p.1 (none p.0)) (subst (λ o. Walk (IsStray end) o t.items) idle t.walk) t.obeys, t.has_pairs, t.leads)
 
 -- what the reader reads without a fault is a run with exactly these pairs and messages, but for loose bytes of a side
 -- that is within a message

@@ -1,7 +1,7 @@
 -- What a reader read is a run with exactly the pairs that it read.
-use Rattle.nbd_laws.proofs.Common.{◌≡◌, ℕ, suc, zero, ◌+◌, ◌<◌, ◌≤◌, ◌⊎◌, List, [], ◌∷◌, ◌++◌, length, refl, sym, ◌∙◌, ap, subst, inl, inr, Ok, Option, Some, None, append_assoc, append-nil, arith, true, false, Bool, not, ◌==◌, ◌&&◌, if◌then◌else◌, length-append, add-one, le_refl, eq-or-lt_of_le, eqb-true, IsTrue, and_parts, Names, NamesWhole, whole, Entry, Side, Client, Server, Message, Greeting, Request, Simple, enc, head, side, Item, Byte, Starts, Completes, Serves, pairs, completed_messages, Pair, ArePairs, Operation, is_finished, Core, State, operation, target, target_from, with_reply_at, IsSendable, MayStart, complete, reply_to, core_with_request, is_by_chunk, is_reply_to, makes_due, Obeys, request_of_reply, IsServedFor, Both, get, put, IsFilled, Rest, Reader, Reading, More, Whole, Bad, settle, Judge, rest_with, reads, on_ok}
+use Rattle.nbd_laws.proofs.Common.{◌≡◌, ℕ, suc, zero, ◌+◌, ◌<◌, ◌≤◌, ◌⊎◌, List, [], ◌∷◌, ◌++◌, length, refl, sym, ◌∙◌, ap, subst, inl, inr, Ok, Option, Some, None, append_assoc, append-nil, arith, true, false, Bool, not, ◌==◌, ◌&&◌, if◌then◌else◌, length-append, add-one, le_refl, eq-or-lt_of_le, eqb-true, IsTrue, and_parts, Names, NamesWhole, whole, Entry, Side, Client, Server, Message, Greeting, Request, Simple, enc, head, side, Item, Byte, Starts, Completes, Serves, pairs, completed_messages, Pair, ArePairs, Operation, is_finished, Core, State, operation, target, target_from, with_reply_at, IsSendable, MayStart, complete, reply_to, core_with_request, is_by_chunk, is_reply_to, makes_due, Obeys, request_of_reply, IsServedFor, Both, get, put, IsFilled, Rest, Reader, Reading, More, Whole, Bad, settle, Judge, rest_with, reads, on_ok, with_message}
 use Rattle.nbd_laws.proofs.service.EntryLemmas.{Names-push_cases, NamesWhole-left, NamesWhole-push, served_atomically}
-use Rattle.nbd_laws.proofs.reading.ReaderLemmas.{old-empty, old-filled, IsFilled-snoc, IsMoreAt, AreHeld, kept_next, held_more, held_whole, led, ended_by, with_byte, IsMore, Tracks, get-put_same, put-put, Open, Idle, Busy, Loose, IsNotBusy, Walk, ended, serving, opening, middle, final, loose, IsSoundAt, IsSound}
+use Rattle.nbd_laws.proofs.reading.ReaderLemmas.{old-empty, old-filled, IsFilled-snoc, IsMoreAt, AreHeld, kept_next, held_more, held_whole, led, with_byte, IsMore, Tracks, get-put_same, put-put, Open, Idle, Busy, Loose, IsNotBusy, Walk, ended, serving, opening, middle, final, loose, IsSoundAt, IsSound}
 
 -- each request that has completed was served atomically, and no other
 pub record IsCanonical (state : State) : Type 0 where
@@ -177,11 +177,10 @@ put-again p Client a c = refl
 put-again p Server a c = refl
 
 pub led_whole : (reader : Reader) (s : Side) (b : ℕ) (m : Message) → led reader (Byte s b ∷ Completes s m ∷ [])
-    ≡ record { core = complete reader.core m; rests = put reader.rests s (record (rest_with reader.core (get reader.rests s) b) { bytes = [] }); messages = reader.messages ++ m ∷ [] }
+    ≡ with_message reader s (rest_with reader.core (get reader.rests s) b) m
 led_whole reader s b m =
-    ap (λ (r : Both Rest). let x : Reader = record { core = complete reader.core m; rests = r; messages = reader.messages ++ m ∷ [] } in x)
-    (ap (λ (r : Rest). put (put reader.rests s (rest_with reader.core (get reader.rests s) b)) s (ended_by r)) (get-put_same reader.rests s (rest_with reader.core (get reader.rests s) b))
-    ∙ put-again reader.rests s _ _)
+    ap (λ (r : Rest). with_message (with_byte reader s b) s r m) (get-put_same reader.rests s (rest_with reader.core (get reader.rests s) b))
+    ∙ ap (λ (rests : Both Rest). record (with_message reader s (rest_with reader.core (get reader.rests s) b) m) { rests = rests }) (put-again reader.rests s _ _)
 
 led_service : (old new : Core) (g : IsGrown old new) (reader : Reader) (items : List Item) → led reader (service old new g ++ items) ≡ led reader items
 led_service old new (inl e) reader items = refl
@@ -277,7 +276,7 @@ module _ (judge : Judge) (reader end : Reader) (js : List Entry) (canonical : Is
 
   -- the byte completes its message
   whole_step : (m : Message) (grow : IsGrown reader.core (complete reader.core m)) → IsSoundAt more_of.since reader.core s more_of.bytes m →
-      IsTrace judge (record { core = complete reader.core m; rests = put reader.rests s (record more_of { bytes = [] }); messages = reader.messages ++ m ∷ [] }) end
+      IsTrace judge (with_message reader s more_of m) end
       (record { core = complete reader.core m; served = serviced reader.core (complete reader.core m) grow js }) ps → Goal
   whole_step m grow sound t = go (get t.open_ s) refl (subst (λ r. Guess r (get end.rests s) s (get t.open_ s)) (get-put_same reader.rests s (record more_of { bytes = [] })) (t.guess s))
     where

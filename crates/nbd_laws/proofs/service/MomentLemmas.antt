@@ -1,7 +1,7 @@
 -- The moments of service of the runs with given bytes are the orders without a fault.
 use Rattle.nbd_laws.proofs.Common.{◌≡◌, ℕ, ◌≤◌, ◌==◌, List, [], length, refl, sym, ◌∙◌, ap, subst, Option, Some, None, Bool, true, false, arith, if◌then◌else◌, nat_le, leb-true, Entry, Profile, Base, Wide, Item, service_order, Operation, HasNoOrderFault, Asked, asked_at, known_from, due_by_chunk, due_in, due_of, export_of, first_shown, inside_asked, inside_in, known_count, lesser_of, operations_of, report, IsRunOf, ends_at, inside_at, inside_operation, is_by_chunk, Core, export_in, operation, start, start_of, LatestMoments, OrdersAreFaultless, with_profile}
 use Rattle.nbd_wire.specs.declared.commands.TheConstants as commands
-use Rattle.nbd_laws.proofs.worked.IndexLemmas.{by_entries, by_index}
+use Rattle.nbd_laws.proofs.service.IndexLemmas.{by_entries, by_index}
 use Rattle.nbd_laws.proofs.service.DueLemmas.{by_chunk, due_chunk, due_from, due_known, known_within, or_later, shown_at}
 use Rattle.nbd_laws.proofs.service.EntryLemmas.{HasNoFault}
 use Rattle.nbd_laws.proofs.service.InsideLemmas.{core_end}

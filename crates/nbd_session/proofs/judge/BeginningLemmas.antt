@@ -1,5 +1,5 @@
 -- A session before its first byte, and one that is told of.
-use Rattle.nbd_session.proofs.Common.{◌≡◌, ℕ, List, [], ◌∷◌, length, refl, sym, ◌∙◌, ap, subst, append-nil, Option, Some, None, Profile, Side, Client, Server, start_of, Exchange, SessionFault, Held, by_tests, fresh_of, get, holding_of, incoming_of, bytes_come, nothing_come, IsKnown, decided, log_of_pairs, AddsPrefix, IsOfRun, SessionView, pairs_of, AreKnown, Shows, Holding, IsReadTo, held_pairs, rest_of, HoldsRun, IsKept, Stands, session_view, stretches_of}
+use Rattle.nbd_session.proofs.Common.{◌≡◌, ℕ, List, [], length, refl, sym, ◌∙◌, ap, subst, append-nil, Option, Some, None, Profile, Side, Client, Server, start_of, SessionFault, Held, fresh_of, get, holding_of, incoming_of, bytes_come, nothing_come, IsKnown, decided, AddsPrefix, IsOfRun, SessionView, pairs_of, known_if, slice_get, Shows, Holding, IsReadTo, held_pairs, rest_of, HoldsRun, IsKept, Stands, session_view, stretches_of}
 use Rattle.nbd_session.proofs.steps.KnownLemmas.{nothing_known}
 use Rattle.nbd_session.proofs.judge.PieceLemmas.{standing_run}
 
@@ -13,10 +13,6 @@ rest_empty profile Server = refl
 read_empty : (profile : Profile) → IsReadTo (empty profile) (fresh_of profile)
 read_empty profile = record { are_pairs = tt; reads_it = refl; messages_are = refl; rests_are = rest_empty profile; count_is = λ f. absurd f; are_stretches = record { of_client = refl; of_server = refl } }
 
-none_known : (profile : Profile) (xs : List Exchange) → xs ≡ [] → AreKnown (log_of_pairs by_tests (fresh_of profile) []) xs
-none_known profile [] e place x at = absurd (cc)
-none_known profile (y ∷ xs) e place x at = absurd (cc)
-
 pub begins : (profile : Profile) (held : Held) → Shows held.state (start_of profile).core → held.state.exchanges.items ≡ [] → held.client ≡ nothing_come → held.server ≡ nothing_come →
     (held.messages.items ≡ []) × (held.stretches.items ≡ []) × (held.counted ≡ 0) × (held.taken ≡ 0) → Stands held
 begins profile held shows none client server nothing =
@@ -25,7 +21,7 @@ begins profile held shows none client server nothing =
       reader = fresh_of profile;
       read_to = subst (λ h. IsReadTo h (fresh_of profile)) (sym holds) (read_empty profile);
       shows = shows;
-      known = subst (λ h. AreKnown (log_of_pairs by_tests (fresh_of h.profile) (held_pairs h)) held.state.exchanges.items) (sym holds) (none_known profile held.state.exchanges.items none);
+      known = λ place. sym (ap (λ xs. known_if (slice_get xs place)) none);
       taken_is = nothing.3 ∙ sym (ap (λ h. length (held_pairs h)) holds);
       knows = known;
     }

@@ -1,8 +1,6 @@
 -- What a chunk and the end of its reply are refused for, by the sizes of pieces.
-use Rattle.nbd_session.proofs.Common.{◌≡◌, ◌⊎◌, ℕ, ◌+◌, ◌≤◌, ◌==◌, if◌then◌else◌, eqb-true, List, [], ◌∷◌, ◌++◌, length, min, refl, sym, ◌∙◌, ap, arith, Bool, true, false, not, ◌&&◌, ◌||◌, nat_le, Option, Some, None, fold, subst, inl, inr, add_assoc, zero-add, is_some, Message, Failure, Piece, content_of, failure_of, status_of, number_at, Operation, Exporting, has_failed, is_error_chunk, is_failing, is_proper, pieces, has, piece_size, chunk_piece, with_reply, WireFault, BadChunk, BadContent, option_to_list, Context, Status, chunk_with, chunk_fails, chunk_gives, is_settled, status_in, done_by, elsewhere_fault, finish_by, is_status, lacks_by, chunk_fault_by, fault_if, chunk_fault, content_fault, done_fault, finish_fault, fits_failure, fits_read, fits_status, read_as, status_if, status_kind, total, offset_fault, any-snoc, or-false, proper-same, and_true, kind_content, kind_error, kind_status, no_other, Profile, pieces-snoc, failure_kind, no_content, none_content, status_content}
+use Rattle.nbd_session.proofs.Common.{◌≡◌, ◌⊎◌, ℕ, ◌+◌, ◌≤◌, ◌==◌, if◌then◌else◌, eqb-true, List, [], ◌∷◌, ◌++◌, length, min, refl, sym, ◌∙◌, ap, arith, Bool, true, false, not, ◌&&◌, ◌||◌, nat_le, Option, Some, None, fold, subst, inl, inr, add_assoc, zero-add, is_some, Message, Failure, Piece, content_of, failure_of, status_of, number_at, Operation, Exporting, has_failed, is_error_chunk, is_failing, is_proper, pieces, has, piece_size, chunk_piece, with_reply, WireFault, BadChunk, BadContent, option_to_list, Context, Status, chunk_with, chunk_fails, chunk_gives, is_settled, status_in, done_by, elsewhere_fault, finish_by, is_status, lacks_by, chunk_fault_by, fault_if, chunk_fault, content_fault, done_fault, finish_fault, fits_failure, fits_read, fits_status, read_as, status_if, status_kind, total, any-snoc, or-false, proper-same, and_true, kind_content, kind_error, kind_status, no_other, Profile, pieces-snoc, failure_kind, no_content, none_content, status_content}
 use Rattle.std.proofs.Common.{ne_eqb}
-use Rattle.nbd_wire.specs.protocol.Pieces.{piece_of}
-use Rattle.nbd_wire.specs.declared.message.Message.TheVariants.{Chunk}
 use Rattle.nbd_wire.specs.declared.chunks.TheConstants as chunks
 
 -- a sum that stops at a limit

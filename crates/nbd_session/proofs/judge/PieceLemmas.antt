@@ -1,5 +1,5 @@
 -- A piece of a side's bytes: how far it is taken at once, and what it adds.
-use Rattle.nbd_session.proofs.Common.{◌≡◌, ℕ, zero, suc, ◌+◌, ◌<◌, ◌≤◌, List, [], ◌∷◌, ◌++◌, length, refl, sym, ◌∙◌, ap, subst, arith, append_assoc, append-nil, length-append, take, drop, slice_index_or, Fits, w8, length-map, length-take-le, take-append-drop, Message, Side, Client, Server, AreBytes, Pair, side_pairs, Stretch, mixture, SessionFault, Memory, Held, holding_of, incoming_of, incoming_with, bytes_come, IsCome, IsKnown, awaited, decided, stretches_of, IsFilled, Reader, fresh_of, get, by_tests, Adds, log_of_pairs, AreKnown, Shows, AreStretchesOf, Holding, IsReadTo, held_pairs, rest_of, stretch_total, with_bytes, AddsHeld, HoldsRun, IsRefused, IsSame, IsShut, IsTaken, Stands, held_short, shown_length, bytes_of}
+use Rattle.nbd_session.proofs.Common.{◌≡◌, ℕ, zero, suc, ◌+◌, ◌<◌, ◌≤◌, List, [], ◌∷◌, ◌++◌, length, refl, sym, ◌∙◌, ap, subst, arith, append_assoc, append-nil, length-append, take, drop, slice_index_or, Fits, w8, length-map, length-take-le, take-append-drop, Message, Side, Client, Server, AreBytes, Pair, side_pairs, Stretch, mixture, SessionFault, Memory, Held, holding_of, incoming_of, incoming_with, IsCome, IsKnown, awaited, decided, stretches_of, IsFilled, Reader, get, Adds, AreKnown, Shows, AreStretchesOf, Holding, IsReadTo, held_pairs, rest_of, stretch_total, with_bytes, AddsHeld, HoldsRun, IsRefused, IsSame, IsShut, IsTaken, Stands, held_short, shown_length}
 use Rattle.nbd_session.proofs.steps.KnownLemmas.{come_with}
 use Rattle.nbd_session.proofs.steps.HoldingLemmas.{rest_is}
 use Rattle.nbd_session.proofs.pushed.OpenByteLemmas.{read_is_run_but}
@@ -84,7 +84,7 @@ module _ (held taken : Held) (s : Side) (left : List ℕ) (count : ℕ) (st : St
         up_to = up_to;
         holding_is = counts;
         shows = subst (λ state. Shows state st.reader.core) (sym state_is) st.shows;
-        known = subst (λ state. AreKnown (log_of_pairs by_tests (fresh_of held.state.profile) (held_pairs (holding_of held))) state.exchanges.items) (sym state_is) st.known;
+        known = subst (λ state. AreKnown st.reader.known state.exchanges.items) (sym state_is) st.known;
         taken_is = taken_counts e;
         come = subst (IsCome (decided st.reader s) st.reader.core) (sym here)
             (come_with (held_of (holding_of held) st.reader st.read_to s) (incoming_of held s) (sym (rest_is held s) ∙ sym (st.read_to.rests_are s)) (take count left) up_to (st.knows s));

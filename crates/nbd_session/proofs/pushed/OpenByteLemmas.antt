@@ -1,5 +1,6 @@
 -- The bytes that belong to no completed message are the rests, and more of them may come.
-use Rattle.nbd_session.proofs.Common.{◌≡◌, ℕ, List, [], ◌∷◌, ◌++◌, map, flat_map, refl, sym, ◌∙◌, ap, subst, Ok, Bool, true, false, if◌then◌else◌, append_assoc, append-nil, append_cancel_left, map-append, Profile, Entry, whole, Side, Client, Server, Message, enc, Item, Byte, Starts, Completes, Serves, IsSided, IsTight, MayFollow, block, completed_messages, of_side, pairs, Pair, ArePairs, side_pairs, bytes_of, bytes_from, IsRunBut, Obeys, after, complete, side, same_side, start_of, by_tests, Bad, Both, Judge, Reader, More, Reading, Rest, Whole, fresh_of, get, rest_with, on_ok, put, reads, settle, AreHeld, IsSound, IsSoundAt, Open, Walk, ended, final, held_more, held_whole, kept_next, loose, middle, opening, serving, with_byte, IsCalm, byte_other, byte_same, marked_is_walk, with_more, fresh_held, run_but_law, AreBytesOf, byte_from, bytes_from-cons, run_bytes, sound}
+use Rattle.nbd_session.proofs.Common.{◌≡◌, ℕ, List, [], ◌∷◌, ◌++◌, map, flat_map, refl, sym, ◌∙◌, ap, subst, Ok, Bool, true, false, if◌then◌else◌, append_assoc, append-nil, append_cancel_left, map-append, Profile, Entry, whole, Side, Client, Server, Message, enc, Item, Byte, Starts, Completes, Serves, IsSided, IsTight, MayFollow, block, completed_messages, of_side, pairs, Pair, ArePairs, side_pairs, bytes_of, bytes_from, IsRunBut, Obeys, after, side, same_side, start_of, by_tests, Bad, Both, Judge, Reader, More, Reading, Rest, Whole, fresh_of, get, rest_with, on_ok, put, reads, settle, AreHeld, IsSound, IsSoundAt, Open, Walk, ended, final, held_more, held_whole, kept_next, loose, middle, opening, serving, with_byte, IsCalm, byte_other, byte_same, marked_is_walk, with_more, fresh_held, run_but_law, AreBytesOf, byte_from, bytes_from-cons, run_bytes, sound}
+use Rattle.nbd_wire.specs.protocol.Reading.{with_message}
 use Rattle.nbd_wire.specs.protocol.States.{State}
 use Rattle.nbd_session.proofs.pushed.PushLemmas.{bytes_of-snoc}
 
@@ -14,7 +15,7 @@ bytes_more Server Client b reader = sym (append-nil (held_bytes Server reader))
 bytes_more Server Server b reader = sym (append_assoc (bytes_of Server reader.messages) reader.rests.server.bytes (b ∷ []))
 
 abbrev emptied : Reader → Side → ℕ → Message → Reader
-emptied reader t b m = record { core = complete reader.core m; rests = put reader.rests t (record (rest_with reader.core (get reader.rests t) b) { bytes = [] }); messages = reader.messages ++ m ∷ [] }
+emptied reader t b m = with_message reader t (rest_with reader.core (get reader.rests t) b) m
 
 bytes_whole : (s t : Side) (b : ℕ) (m : Message) (reader : Reader) → side m ≡ t → (rest_with reader.core (get reader.rests t) b).bytes ≡ enc m → held_bytes s (emptied reader t b m) ≡ held_bytes s reader ++ byte_from s t b
 bytes_whole s t b m reader sd e =

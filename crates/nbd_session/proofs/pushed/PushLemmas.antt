@@ -1,5 +1,5 @@
 -- The pushed pairs: one more piece of a side, and a message that completes.
-use Rattle.nbd_session.proofs.Common.{◌≡◌, ℕ, ◌+◌, ◌≤◌, List, [], ◌∷◌, ◌++◌, length, take, refl, sym, ◌∙◌, ap, subst, append_assoc, append-nil, arith, length-append, length-drop, if◌then◌else◌, Bool, true, false, take-append-le, drop-append-le, take-length, Side, Client, Server, Message, enc, side_pairs, bytes_of, of_two, Stretch, bytes_after_stretch, mixture, side, same_side, stretch_total, AreStretchesOf, stretches_with, with_more}
+use Rattle.nbd_session.proofs.Common.{◌≡◌, ℕ, ◌+◌, ◌≤◌, List, [], ◌∷◌, ◌++◌, length, take, refl, sym, ◌∙◌, ap, subst, append_assoc, append-nil, arith, length-append, length-drop, if◌then◌else◌, take-append-le, drop-append-le, take-length, Side, Client, Server, Message, enc, side_pairs, bytes_of, of_two, Stretch, bytes_after_stretch, mixture, side, same_side, stretch_total, AreStretchesOf, stretches_with, with_more}
 
 no_length : (xs : List ℕ) → 0 ≡ length xs → xs ≡ []
 no_length [] e = refl

@@ -1,23 +1,11 @@
 -- A whole message is accepted.
-use Rattle.nbd_session.proofs.Common.{◌≡◌, ℕ, ◌+◌, List, [], ◌∷◌, ◌++◌, length, refl, sym, ◌∙◌, ap, subst, inl, inr, Ok, Some, None, append-nil, Profile, Message, Side, Client, Server, Pair, MayComplete, request_of_reply, complete, IsSendable, side, start_of, Memory, Held, Exchange, by_tests, decision, Reader, Rest, Whole, fresh_of, get, old_of, put, reads, State, MayTake, core_from, bytes_come, nothing_come, holding_of, incoming_of, IsKnown, decided, stretches_of, messages_of, log_of_pairs, IsReached, at_once, behind, get-put_other, get-put_same, reached_of, same_or_not, AreKnown, Shows, Holding, IsReadTo, count_at_server, held_pairs, rest_of, with_bytes, HoldsRun, IsSame, IsShut, IsTaken, Stands, asks_only}
+use Rattle.nbd_session.proofs.Common.{◌≡◌, List, [], ◌∷◌, ◌++◌, length, refl, sym, ◌∙◌, ap, subst, inl, inr, append-nil, Message, Side, Client, Server, MayComplete, complete, IsSendable, Memory, Held, Exchange, decision, Reader, Rest, Whole, get, old_of, State, MayTake, bytes_come, nothing_come, holding_of, incoming_of, IsKnown, decided, stretches_of, IsReached, at_once, behind, get-put_other, get-put_same, reached_of, same_or_not, AreKnown, Shows, Holding, IsReadTo, count_at_server, held_pairs, rest_of, with_bytes, HoldsRun, IsSame, IsShut, IsTaken, Stands, asks_only, noted, is_reply_to, is_this, suc, unnoted}
 use Rattle.nbd_session.proofs.judge.PieceLemmas.{read_run}
-use Rattle.nbd_session.proofs.log.CountLemmas.{count_of}
-use Rattle.nbd_session.proofs.log.FoldLemmas.{core_is}
-use Rattle.nbd_session.proofs.log.LogKnownLemmas.{known-unanswered, logged-whole}
-use Rattle.nbd_session.proofs.log.LogStepLemmas.{logged_messages}
+use Rattle.nbd_session.proofs.reports.CountLemmas.{count_of}
 use Rattle.nbd_session.proofs.steps.HoldingLemmas.{rest_is}
 use Rattle.nbd_session.proofs.steps.KnownLemmas.{known_stays, nothing_known}
 use Rattle.nbd_session.proofs.steps.SettleLemmas.{IsRead, says_so}
-use Rattle.nbd_session.proofs.steps.StepLemmas.{IsWholeTaken, count_at, held_of, pairs-message, pairs-taken, says, whole_taken, with_message, profile_message}
-
--- the count that is logged for a message of the client does not matter
-known-client : (profile : Profile) (ps : List Pair) (reader : Reader) (m : Message) (a b : ℕ) (xs : List Exchange) → reads by_tests (fresh_of profile) ps ≡ Ok reader → side m ≡ Client →
-    AreKnown (log_of_pairs by_tests (fresh_of profile) ps ++ record { message = m; known = a } ∷ []) xs → AreKnown (log_of_pairs by_tests (fresh_of profile) ps ++ record { message = m; known = b } ∷ []) xs
-known-client profile ps reader m a b xs e sd known place x at =
-    let none : (k : ℕ) → request_of_reply reader.core m ≡ Some k → ⊥ = λ k q. (let r : None ≡ Some k = sym (asks_only reader.core m sd) ∙ q in (cc)) in
-    known place x at
-    ∙ known-unanswered profile by_tests ps reader (place + 1) (record { message = m; known = a }) e (none (place + 1))
-    ∙ sym (known-unanswered profile by_tests ps reader (place + 1) (record { message = m; known = b }) e (none (place + 1)))
+use Rattle.nbd_session.proofs.steps.StepLemmas.{IsWholeTaken, count_at, reader_behind, held_of, pairs-message, whole_taken, with_message, profile_message}
 
 module _ (held : Held) (s : Side) (t : IsTaken held s) (m : Message) (whole : IsRead held s t (Whole m)) where
   abbrev after : Holding
@@ -29,27 +17,17 @@ module _ (held : Held) (s : Side) (t : IsTaken held s) (m : Message) (whole : Is
   pub reached : IsReached t.reader.core
   reached = reached_of (held_of t.before t.reader t.read_to s)
 
-  pub folded : t.reader.core ≡ core_from (start_of t.before.profile).core (messages_of (log_of_pairs by_tests (fresh_of t.before.profile) (held_pairs t.before)))
-  folded = core_is t.before.profile by_tests (held_pairs t.before) t.reader t.read_to.reads_it ∙ sym (ap (core_from (start_of t.before.profile).core) (logged_messages by_tests (held_pairs t.before) (fresh_of t.before.profile) t.reader t.read_to.reads_it))
-
-  judged_so : by_tests (old_of t.reader.core (get t.reader.rests s)) t.reader.core s ((get t.reader.rests s).bytes ++ t.more) ≡ Whole m
-  judged_so = says t.before t.reader t.read_to s t.more t.filled t.are_bytes t.up_to (Whole m) (says_so held s t (Whole m) whole)
-
-  log_with_it : log_of_pairs by_tests (fresh_of (with_message after s m).profile) (held_pairs (with_message after s m)) ≡ log_of_pairs by_tests (fresh_of t.before.profile) (held_pairs t.before) ++ record { message = m; known = count_of t.reader.core (get t.reader.rests s) } ∷ []
-  log_with_it =
-      ap (λ q. log_of_pairs by_tests (fresh_of q) (held_pairs (with_message after s m))) (profile_message after s m)
-      ∙ ap (log_of_pairs by_tests (fresh_of t.before.profile)) (pairs-message after s m is_taken.at.encodes is_taken.at.sided)
-      ∙ ap (log_of_pairs by_tests (fresh_of t.before.profile)) (pairs-taken t.before s t.more (length t.reader.core.entries) t.read_to.are_stretches)
-      ∙ logged-whole t.before.profile (held_pairs t.before) t.reader s t.more t.read_to.reads_it (held_of t.before t.reader t.read_to) t.filled t.up_to m judged_so
-
-  -- the count that is logged is the one that is held, where it matters
-  known_as_held : (xs : List Exchange) → AreKnown (log_of_pairs by_tests (fresh_of t.before.profile) (held_pairs t.before) ++ record { message = m; known = held.counted } ∷ []) xs →
-      AreKnown (log_of_pairs by_tests (fresh_of t.before.profile) (held_pairs t.before) ++ record { message = m; known = count_of t.reader.core (get t.reader.rests s) } ∷ []) xs
+  -- the count that is noted is the one that is held, where it matters
+  known_as_held : (xs : List Exchange) → AreKnown (λ k. noted (t.reader.known k) (is_reply_to t.reader.core m k) held.counted) xs → AreKnown (reader_behind t.reader s m).known xs
   known_as_held xs known = go s refl
     where
-      go : (u : Side) → s ≡ u → AreKnown (log_of_pairs by_tests (fresh_of t.before.profile) (held_pairs t.before) ++ record { message = m; known = count_of t.reader.core (get t.reader.rests s) } ∷ []) xs
-      go Client e = known-client t.before.profile (held_pairs t.before) t.reader m held.counted (count_of t.reader.core (get t.reader.rests s)) xs t.read_to.reads_it (is_taken.at.sided ∙ e) known
-      go Server e = subst (λ n. AreKnown (log_of_pairs by_tests (fresh_of t.before.profile) (held_pairs t.before) ++ record { message = m; known = n } ∷ []) xs) same known
+      go : (u : Side) → s ≡ u → AreKnown (λ k. noted (t.reader.known k) (is_reply_to t.reader.core m k) (count_of t.reader.core (get t.reader.rests s))) xs
+      go Client e place =
+          let none = asks_only t.reader.core m (is_taken.at.sided ∙ e) in
+          let before = t.reader.known (suc place) in
+          ap (λ a. noted before (is_this a (suc place)) (count_of t.reader.core (get t.reader.rests s))) none ∙ unnoted before (count_of t.reader.core (get t.reader.rests s))
+          ∙ sym (unnoted before held.counted) ∙ sym (ap (λ a. noted before (is_this a (suc place)) held.counted) none) ∙ known place
+      go Server e place = subst (λ n. AreKnown (λ k. noted (t.reader.known k) (is_reply_to t.reader.core m k) n) xs) same known place
         where
           same : held.counted ≡ count_of t.reader.core (get t.reader.rests s)
           same =
@@ -91,14 +69,17 @@ module _ (held : Held) (s : Side) (t : IsTaken held s) (m : Message) (whole : Is
   }
 
   abbrev reader : Reader
-  reader = record { core = complete t.reader.core m; rests = put t.reader.rests s is_taken.next; messages = t.reader.messages ++ m ∷ [] }
+  reader = reader_behind t.reader s m
+
+  abbrev next : Rest
+  next = record { bytes = []; since = old_of t.reader.core (get t.reader.rests s) }
 
   known_after : (new : Held) → incoming_of new s ≡ nothing_come → ((u : Side) → (s ≡ u → ⊥) → incoming_of new u ≡ incoming_of held u) → (u : Side) → IsKnown (decided reader u) reader.core (incoming_of new u)
   known_after new empty others u = elim (same_or_not s u) [
     | inl e ↦ subst (λ v. IsKnown (decided reader v) reader.core (incoming_of new v)) e
-        (subst (λ (r : Rest). IsKnown (decision reader.core.phase (old_of reader.core r) reader.core s) reader.core (incoming_of new s)) (sym (get-put_same t.reader.rests s is_taken.next))
-        (subst (IsKnown (decision reader.core.phase (old_of reader.core is_taken.next) reader.core s) reader.core) (sym empty) (nothing_known reader.core s is_taken.next is_taken.next_empty)))
-    | inr ne ↦ subst (λ (r : Rest). IsKnown (decision reader.core.phase (old_of reader.core r) reader.core u) reader.core (incoming_of new u)) (sym (get-put_other t.reader.rests s u is_taken.next ne))
+        (subst (λ (r : Rest). IsKnown (decision reader.core.phase (old_of reader.core r) reader.core s) reader.core (incoming_of new s)) (sym (get-put_same t.reader.rests s next))
+        (subst (IsKnown (decision reader.core.phase (old_of reader.core next) reader.core s) reader.core) (sym empty) (nothing_known reader.core s next refl)))
+    | inr ne ↦ subst (λ (r : Rest). IsKnown (decision reader.core.phase (old_of reader.core r) reader.core u) reader.core (incoming_of new u)) (sym (get-put_other t.reader.rests s u next ne))
         (subst (IsKnown (decision reader.core.phase (old_of reader.core (get t.reader.rests u)) reader.core u) reader.core) (sym (others u ne))
         (known_stays (held_of t.before t.reader t.read_to u) reader.core (behind m (λ e. ne (sym is_taken.at.sided ∙ e)) is_taken.at.completes at_once) (incoming_of held u) (rest_other u ne) (t.knows u ne)))
   ]
@@ -115,9 +96,8 @@ module _ (held : Held) (s : Side) (t : IsTaken held s) (m : Message) (whole : Is
   -- what is held then stands
   pub accepted_stands : (new : Held) → holding_of new ≡ with_message (holding_of held) s m → incoming_of new s ≡ nothing_come → ((u : Side) → (s ≡ u → ⊥) → incoming_of new u ≡ incoming_of held u) →
       (IsReached t.reader.core → Shows held.state t.reader.core → IsSendable m → MayComplete t.reader.core t.reader.core.phase m → Shows new.state (complete t.reader.core m)) →
-      (IsReached t.reader.core → Shows held.state t.reader.core → MayComplete t.reader.core t.reader.core.phase m →
-      t.reader.core ≡ core_from (start_of t.before.profile).core (messages_of (log_of_pairs by_tests (fresh_of t.before.profile) (held_pairs t.before))) → AreKnown (log_of_pairs by_tests (fresh_of t.before.profile) (held_pairs t.before)) held.state.exchanges.items →
-      AreKnown (log_of_pairs by_tests (fresh_of t.before.profile) (held_pairs t.before) ++ record { message = m; known = held.counted } ∷ []) new.state.exchanges.items) →
+      (IsReached t.reader.core → Shows held.state t.reader.core → AreKnown t.reader.known held.state.exchanges.items →
+      AreKnown (λ k. noted (t.reader.known k) (is_reply_to t.reader.core m k) held.counted) new.state.exchanges.items) →
       new.taken ≡ held.taken → Stands new
   accepted_stands new holding empty others shows knows same =
       let holding_is : holding_of new ≡ with_message after s m = holding_after new holding in
@@ -125,9 +105,7 @@ module _ (held : Held) (s : Side) (t : IsTaken held s) (m : Message) (whole : Is
         reader = reader;
         read_to = subst (λ h. IsReadTo h reader) (sym holding_is) is_taken.read_to;
         shows = shows reached t.shows is_taken.at.sendable is_taken.at.completes;
-        known = subst (λ h. AreKnown (log_of_pairs by_tests (fresh_of h.profile) (held_pairs h)) new.state.exchanges.items) (sym holding_is)
-            (subst (λ log. AreKnown log new.state.exchanges.items) (sym log_with_it)
-            (known_as_held new.state.exchanges.items (knows reached t.shows is_taken.at.completes folded t.known)));
+        known = known_as_held new.state.exchanges.items (knows reached t.shows t.known);
         taken_is = same ∙ t.taken_is ∙ ap (λ h. length (held_pairs h)) t.holding_is ∙ sym (ap length pairs_after) ∙ sym (ap (λ h. length (held_pairs h)) holding_is);
         knows = known_after new empty others;
       }

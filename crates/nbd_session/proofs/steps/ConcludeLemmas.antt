@@ -1,5 +1,5 @@
 -- What is decided of a side's bytes once they were taken.
-use Rattle.nbd_session.proofs.Common.{◌≡◌, ℕ, suc, ◌-◌, ◌<◌, ◌≤◌, List, [], ◌∷◌, ◌++◌, length, refl, sym, ◌∙◌, ap, subst, Option, Some, None, Bool, true, false, Result, Ok, Err, OnOk, OnErr, append-nil, arith, same_Some, place_at, WireFault, Side, Client, Server, RequestHead, cookie_of, Core, target, chunk_cookie, shown_length, Answers, AreKnown, Shows, place_of, State, decision_by_count, Decision, by_tests, reading_by_decision, Bad, IsFilled, More, Whole, fresh_of, Expected, Wire, Held, IncomingView, bytes_come, HasHeadLength, IsExpectedOf, IsPlaced, IsRefusedHead, IsWholeHead, StandsIn, last_fault_by, message_of, payload_length_of, place_answered, request_with, incoming_of, with_expected, IsCome, IsExpected, IsKnown, decided, is_come_by, log_of_pairs, Holding, count_at_server, held_pairs, rest_of, with_bytes, IsExpecting, IsHeadRefused, IsShut, IsTaken, IsWhole, Knows, Stands, knows_by, IsSame}
+use Rattle.nbd_session.proofs.Common.{◌≡◌, ℕ, suc, ◌-◌, ◌<◌, ◌≤◌, List, [], ◌∷◌, ◌++◌, length, refl, sym, ◌∙◌, ap, subst, Option, Some, None, Bool, true, false, Result, Ok, Err, OnOk, OnErr, append-nil, arith, same_Some, place_at, WireFault, Side, Client, Server, RequestHead, cookie_of, Core, target, chunk_cookie, shown_length, Answers, AreKnown, Shows, place_of, State, decision_by_count, Decision, reading_by_decision, Bad, IsFilled, More, Whole, Expected, Wire, Held, IncomingView, bytes_come, HasHeadLength, IsExpectedOf, IsPlaced, IsRefusedHead, IsWholeHead, StandsIn, last_fault_by, message_of, payload_length_of, place_answered, request_with, incoming_of, with_expected, IsCome, IsExpected, IsKnown, decided, is_come_by, Holding, count_at_server, held_pairs, rest_of, with_bytes, IsExpecting, IsHeadRefused, IsShut, IsTaken, IsWhole, Knows, Stands, knows_by, IsSame}
 use Rattle.nbd_session.specs.declared.expected.Expected.TheVariants as expectations
 use Rattle.nbd_session.proofs.expecting.ReplyLemmas.{placed_within}
 use Rattle.nbd_session.proofs.expecting.KnownLemmas.{expected_bad, expected_more, expected_whole, refused_head, short_more}
@@ -83,7 +83,7 @@ module _ (held : Held) (s : Side) (e : Option Expected) (t : IsTaken held s) (k 
     up_to = t.up_to;
     holding_is = holding_expected held s e ∙ t.holding_is;
     shows = subst (λ state. Shows state t.reader.core) (sym state_same) t.shows;
-    known = subst (λ (state : State). AreKnown (log_of_pairs by_tests (fresh_of t.before.profile) (held_pairs t.before)) state.exchanges.items) (sym state_same) t.known;
+    known = subst (λ (state : State). AreKnown t.reader.known state.exchanges.items) (sym state_same) t.known;
     taken_is = ap (λ (h : Held). h.taken) (same_but held s (record (incoming_of held s) { expected = e })) ∙ t.taken_is ∙ sym (ap (λ h. length (held_pairs h)) (holding_expected held s e));
     come = subst (IsCome (decided t.reader s) t.reader.core) (sym here) (come e k);
     knows = λ u ne. subst (IsKnown (decided t.reader u) t.reader.core) (sym (incoming_other held s u (record (incoming_of held s) { expected = e }) ne)) (t.knows u ne);

@@ -1,10 +1,9 @@
 -- What was taken of a side is judged.
-use Rattle.nbd_session.proofs.Common.{◌≡◌, ℕ, List, [], ◌++◌, length, refl, sym, ◌∙◌, ap, subst, Option, Result, Ok, Err, IfErr, IsErrAnd, append-nil, arith, same_Some, Side, Client, Server, Memory, Wire, WireFault, Held, Core, by_tests, reading_by_decision, Bad, IsFilled, Reader, More, Reading, Rest, fresh_of, get, old_of, put, holding_of, incoming_of, Expected, bytes_come, IsKnown, decided, log_of_pairs, get-put_other, get-put_same, old-filled, same_or_not, AreKnown, Holding, IsReadTo, held_pairs, rest_of, with_bytes, HoldsRun, IsSame, IsShut, IsTaken, Stands, knows_by, IsStopped, extended}
-use Rattle.nbd_session.proofs.log.LogKnownLemmas.{logged-kept}
+use Rattle.nbd_session.proofs.Common.{◌≡◌, ℕ, List, [], length, refl, sym, ◌∙◌, subst, Option, Result, Ok, Err, IfErr, IsErrAnd, append-nil, arith, same_Some, Side, Client, Server, Memory, Wire, WireFault, Held, Core, by_tests, reading_by_decision, Bad, IsFilled, Reader, More, Reading, Rest, get, old_of, put, holding_of, incoming_of, Expected, bytes_come, IsKnown, decided, get-put_other, get-put_same, old-filled, same_or_not, Holding, IsReadTo, held_pairs, rest_of, with_bytes, HoldsRun, IsSame, IsShut, IsTaken, Stands, knows_by, IsStopped, extended}
 use Rattle.nbd_session.proofs.pushed.OpenByteLemmas.{more_is_run_but}
 use Rattle.nbd_session.proofs.judge.RefusalLemmas.{stopped}
 use Rattle.nbd_session.proofs.steps.HoldingLemmas.{rest_is}
-use Rattle.nbd_session.proofs.steps.StepLemmas.{held_of, more_taken, pairs-taken, pairs_taken, refused_taken, says}
+use Rattle.nbd_session.proofs.steps.StepLemmas.{more_taken, pairs-taken, pairs_taken, refused_taken}
 
 pub same_held : (held : Held) → IsSame held held
 same_held held = record {
@@ -45,17 +44,11 @@ module _ (held : Held) (s : Side) (t : IsTaken held s) where
   pub settled_more : IsRead held s t More → (e : Option Expected) → (incoming_of held s).expected ≡ e → knows_by (decided t.reader s) t.reader.core (incoming_of held s).head (incoming_of held s).payload e → Stands held
   settled_more more e is k =
       let word = says_so More more in
-      let judged_so : by_tests (old_of t.reader.core (get t.reader.rests s)) t.reader.core s ((get t.reader.rests s).bytes ++ t.more) ≡ More =
-      says t.before t.reader t.read_to s t.more t.filled t.are_bytes t.up_to More word in
-      let log : log_of_pairs by_tests (fresh_of t.before.profile) (held_pairs after) ≡ log_of_pairs by_tests (fresh_of t.before.profile) (held_pairs t.before) =
-      ap (log_of_pairs by_tests (fresh_of t.before.profile)) (pairs-taken t.before s t.more (length t.reader.core.entries) t.read_to.are_stretches)
-      ∙ logged-kept t.before.profile (held_pairs t.before) t.reader s t.more t.read_to.reads_it (held_of t.before t.reader t.read_to) t.filled t.up_to judged_so in
       record {
         reader = longer;
         read_to = subst (λ h. IsReadTo h longer) (sym t.holding_is) (more_taken t.before t.reader t.read_to s t.more t.filled t.are_bytes t.up_to word);
         shows = t.shows;
-        known = subst (λ h. AreKnown (log_of_pairs by_tests (fresh_of h.profile) (held_pairs h)) held.state.exchanges.items) (sym t.holding_is)
-            (subst (λ log. AreKnown log held.state.exchanges.items) (sym log) t.known);
+        known = t.known;
         taken_is = t.taken_is;
         knows = all_known (known_longer e k is);
       }

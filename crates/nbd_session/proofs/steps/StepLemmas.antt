@@ -1,8 +1,9 @@
 -- What a session holds after one more piece, and after one more message.
-use Rattle.nbd_session.proofs.Common.{◌≡◌, ℕ, ◌≤◌, List, [], ◌∷◌, ◌++◌, length, refl, sym, ◌∙◌, ap, subst, append_assoc, append-nil, Err, if◌then◌else◌, Side, Client, Server, Message, AreBytes, enc, Pair, ArePairs, side_pairs, bytes_of, mixture, complete, side, same_side, Core, Phase, Greet, WireFault, awaited_length, decision_by_count, operation_counted, by_tests, decision, decision_with, Reader, Rest, Reading, More, Whole, Bad, get, put, reads, fresh_of, old_of, settle, on_ok, IsFilled, IsSoundAt, AreHeld, reads_held, old-empty, old-filled, Holding, IsReadTo, AreStretchesOf, stretches_with, held_pairs, rest_of, with_more, with_bytes, count_at_server, reads_up_to, judged_at_once, extended, reads-append, fresh_held, sound}
-use Rattle.nbd_session.proofs.log.CountLemmas.{held_counted, count_of}
+use Rattle.nbd_session.proofs.Common.{◌≡◌, ℕ, ◌≤◌, List, [], ◌∷◌, ◌++◌, length, refl, sym, ◌∙◌, ap, subst, append_assoc, append-nil, Err, if◌then◌else◌, Side, Client, Server, Message, AreBytes, enc, Pair, ArePairs, side_pairs, bytes_of, mixture, side, same_side, Core, Phase, Greet, WireFault, awaited_length, decision_by_count, operation_counted, by_tests, decision, decision_with, Reader, Rest, Reading, More, Whole, Bad, get, put, reads, fresh_of, old_of, settle, on_ok, IsFilled, IsSoundAt, AreHeld, reads_held, old-empty, old-filled, Holding, IsReadTo, AreStretchesOf, stretches_with, held_pairs, rest_of, with_more, with_bytes, count_at_server, reads_up_to, judged_at_once, extended, reads-append, fresh_held, sound}
+use Rattle.nbd_session.proofs.reports.CountLemmas.{held_counted, count_of}
 use Rattle.nbd_session.proofs.pushed.PushLemmas.{bytes_of-snoc, mixed-noted, stretches-noted}
 use Rattle.nbd_session.proofs.steps.TakeLemmas.{kept_more}
+use Rattle.nbd_wire.specs.protocol.Reading.{with_message as read_with}
 
 -- with a message of a side whose bytes were its rest
 abbrev pub with_message : Holding → Side → Message → Holding
@@ -188,12 +189,14 @@ count_message : (h : Holding) (reader : Reader) (s : Side) (m : Message) (more :
 count_message h reader Client m more entries r f = r.count_is f
 count_message h reader Server m more entries r f = absurd f
 
+-- what was read once a side's bytes have become this message
+abbrev pub reader_behind : Reader → Side → Message → Reader
+reader_behind reader s m = read_with reader s (record (get reader.rests s) { since = old_of reader.core (get reader.rests s) }) m
+
 -- what is held of a side whose bytes have become this message
 pub record IsWholeTaken (h : Holding) (reader : Reader) (s : Side) (after : Holding) (m : Message) : Type 0 where
   pub at : IsSoundAt (old_of reader.core (get reader.rests s)) reader.core s (rest_of after s) m
-  pub next : Rest
-  pub next_empty : next.bytes ≡ []
-  pub read_to : IsReadTo (with_message after s m) (record { core = complete reader.core m; rests = put reader.rests s next; messages = reader.messages ++ m ∷ [] })
+  pub read_to : IsReadTo (with_message after s m) (reader_behind reader s m)
 
 module _ (h : Holding) (reader : Reader) (r : IsReadTo h reader) (s : Side) (more : List ℕ) (filled : IsFilled more) (bytes : AreBytes more)
     (up_to : length ((get reader.rests s).bytes ++ more) ≤ awaited_length (old_of reader.core (get reader.rests s)) reader.core s (get reader.rests s).bytes) where
@@ -209,8 +212,6 @@ module _ (h : Holding) (reader : Reader) (r : IsReadTo h reader) (s : Side) (mor
       let both = both-completed held s m at.encodes at.sided in
       record {
         at = at;
-        next = record (extended reader.core (get reader.rests s) more) { bytes = [] };
-        next_empty = refl;
         read_to = record {
           are_pairs = subst ArePairs (sym same) (pairs_taken h reader r s more filled bytes up_to);
           reads_it =

@@ -9,11 +9,10 @@ use Rattle.nbd_session.specs.declared.fault.SessionFault.{SessionFault}
 use Rattle.nbd_session.specs.declared.fault.SessionFault.TheVariants.{Memory, Wire}
 use Rattle.nbd_session.specs.declared.held.Held.{Held}
 use Rattle.nbd_wire.specs.protocol.Decisions.{Decision}
-use Rattle.nbd_wire.specs.protocol.Reading.{by_tests, reading_by_decision, Bad, IsFilled, Reader, fresh_of, get}
+use Rattle.nbd_wire.specs.protocol.Reading.{reading_by_decision, Bad, IsFilled, Reader, get}
 use Rattle.nbd_session.specs.internal.Holdings.{holding_of, incoming_of}
 use Rattle.nbd_session.specs.internal.Known.{IsCome, IsExpected, IsKnown, awaited, decided}
 use Rattle.nbd_session.specs.internal.Expecting.{last_fault_by, payload_length_of}
-use Rattle.nbd_session.specs.internal.Logging.{log_of_pairs}
 use Rattle.nbd_session.specs.Sessions.{Adds, HasRunOf}
 use Rattle.nbd_state.specs.Shows.{AreKnown, Shows}
 use Rattle.nbd_session.specs.internal.Standing.{Holding, IsReadTo, held_pairs, with_bytes}
@@ -24,8 +23,7 @@ pub record Stands (held : Held) : Type 0 where
   pub reader : Reader
   pub read_to : IsReadTo (holding_of held) reader
   pub shows : Shows held.state reader.core
-  pub known : AreKnown (log_of_pairs by_tests (fresh_of held.state.profile) (held_pairs (holding_of held)))
-      held.state.exchanges.items
+  pub known : AreKnown reader.known held.state.exchanges.items
   pub taken_is : held.taken ≡ length (held_pairs (holding_of held))
   pub knows : (s : Side) → IsKnown (decided reader s) reader.core (incoming_of held s)
 
@@ -55,7 +53,7 @@ pub record IsTaken (held : Held) (s : Side) : Type 0 where
   pub up_to : length ((get reader.rests s).bytes ++ more) ≤ awaited reader s
   pub holding_is : holding_of held ≡ with_bytes before s more (length reader.core.entries)
   pub shows : Shows held.state reader.core
-  pub known : AreKnown (log_of_pairs by_tests (fresh_of before.profile) (held_pairs before)) held.state.exchanges.items
+  pub known : AreKnown reader.known held.state.exchanges.items
   pub taken_is : held.taken ≡ length (held_pairs (holding_of held))
   pub come : IsCome (decided reader s) reader.core (incoming_of held s)
   pub knows : (u : Side) → (s ≡ u → ⊥) → IsKnown (decided reader u) reader.core (incoming_of held u)

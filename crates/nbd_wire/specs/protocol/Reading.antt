@@ -13,7 +13,7 @@ use Rattle.nbd_wire.specs.protocol.Decisions.{Decision, abort_answer, answer, ch
 use Rattle.nbd_wire.specs.protocol.Flags.{has}
 use Rattle.nbd_wire.specs.protocol.Operations.{Operation}
 use Rattle.nbd_wire.specs.protocol.Options.{is_proper_option, takes_contexts}
-use Rattle.nbd_wire.specs.protocol.Rules.{complete}
+use Rattle.nbd_wire.specs.protocol.Rules.{complete, is_reply_to, noted}
 use Rattle.nbd_wire.specs.protocol.States.{Phase, Greet, Flags, Choosing, Naming, Aborting, Answering, Transmission, Core, start_of}
 
 -- after a DISC the client sends nothing ("Request types")
@@ -108,11 +108,13 @@ pub record Rest : Type 0 where
   pub bytes : List ℕ
   pub since : Core
 
--- what was read: what the completed messages have led to, each side's bytes after them, and the messages
+-- what was read: what the completed messages have led to, each side's bytes after them, the messages, and how many
+-- numbered requests had completed when the first reply to each request started, where that reply has completed
 pub record Reader : Type 0 where
   pub core : Core
   pub rests : Both Rest
   pub messages : List Message
+  pub known : ℕ → Option ℕ
 
 -- what had completed before the first byte of these, or now where there is none
 abbrev pub old_by : List ℕ → Core → Core → Core
@@ -123,15 +125,19 @@ old_by (b ∷ bs) core old = old
 abbrev pub old_of : Core → Rest → Core
 old_of core rest = old_by rest.bytes core rest.since
 
+-- once a message of a side is whole
+abbrev pub with_message : Reader → Side → Rest → Message → Reader
+with_message reader s rest m = record {
+  core = complete reader.core m;
+  rests = put reader.rests s (record rest { bytes = [] });
+  messages = reader.messages ++ m ∷ [];
+  known = λ k. noted (reader.known k) (is_reply_to reader.core m k) (length rest.since.entries);
+}
+
 -- what is left after a byte, by what reading says of its side's bytes
 abbrev pub settle : Reader → Side → Rest → Reading → Result Reader WireFault
 settle reader s rest More = Ok (record reader { rests = put reader.rests s rest })
-settle reader s rest (Whole m) =
-    Ok (record {
-      core = complete reader.core m;
-      rests = put reader.rests s (record rest { bytes = [] });
-      messages = reader.messages ++ m ∷ [];
-    })
+settle reader s rest (Whole m) = Ok (with_message reader s rest m)
 settle reader s rest (Bad fault) = Err fault
 
 -- a side's bytes with one more
@@ -163,4 +169,5 @@ fresh_of profile = record {
     server = record { bytes = []; since = (start_of profile).core };
   };
   messages = [];
+  known = λ k. None;
 }

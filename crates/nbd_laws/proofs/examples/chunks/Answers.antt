@@ -1,6 +1,5 @@
 -- Explicit runs of structured replies: each is checked by computing.
-use Rattle.nbd_laws.proofs.Common.{[], ◌∷◌, ◌++◌, refl, whole, Zeroes, Serves, flat, IsNo, IsYes}
-use Rattle.nbd_laws.specs.captures.Chunks as captures
+use Rattle.nbd_laws.proofs.Common.{[], ◌∷◌, ◌++◌, refl, whole, Serves}
 use Rattle.nbd_laws.proofs.worked.SessionLemmas.{broken, content, done, gone, greeted, hole, read, sends, structured, write}
 use Rattle.nbd_laws.proofs.worked.AnswerLemmas.{computing, no, yes}
 use Rattle.nbd_laws.proofs.examples.chunks.Goals as goal

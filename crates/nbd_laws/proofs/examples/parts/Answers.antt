@@ -1,5 +1,5 @@
 -- Explicit runs of requests that are served in parts: each is checked by computing.
-use Rattle.nbd_laws.proofs.Common.{◌≡◌, List, [], ◌∷◌, ◌++◌, refl, inl, inr, lit<, lit≤, true, false, part, whole, Zeroes, Item, Serves, flat, Base, IsRunOf, IsNo, IsYes}
+use Rattle.nbd_laws.proofs.Common.{◌≡◌, List, [], ◌∷◌, ◌++◌, refl, inl, inr, lit<, lit≤, true, false, part, whole, Zeroes, Item, Serves, flat, Base, IsRunOf}
 use Rattle.nbd_laws.specs.captures.Reads as captures
 use Rattle.nbd_laws.proofs.worked.DecidingRunLemmas.{is_run}
 use Rattle.nbd_laws.proofs.service.ExplainingLemmas.{failing_is_no}

@@ -1,5 +1,5 @@
 -- Refusals that need no search over runs.
-use Rattle.nbd_laws.proofs.Common.{◌≡◌, ℕ, List, [], ◌∷◌, ◌++◌, length, map, refl, subst, inl, inr, arith, Entry, whole, image, Some, Start, Item, Pair, flat, Base, report, IsRunOf, MayStartIn, IsFaultless, IsNo}
+use Rattle.nbd_laws.proofs.Common.{◌≡◌, List, [], ◌∷◌, ◌++◌, length, map, refl, subst, inl, inr, arith, whole, image, Some, Item, flat, Base, report, IsRunOf, MayStartIn, IsFaultless}
 use Rattle.std.proofs.lemmas.List.{length-map}
 use Rattle.nbd_laws.specs.captures.Openings as captures
 use Rattle.nbd_laws.proofs.worked.DecidingRunLemmas.{is_run}

@@ -1,4 +1,4 @@
-use Rattle.nbd_session.proofs.Common.{◌≡◌, ◌∙◌, ◌++◌, ◌∷◌, [], ap, sym, refl, subst, Side, Answers, AreKnown, Shows, State, by_tests, Whole, fresh_of, Held, IncomingView, message_of, holding_of, incoming_of, log_of_pairs, held_pairs, Stands}
+use Rattle.nbd_session.proofs.Common.{◌≡◌, ◌∙◌, ◌++◌, ◌∷◌, [], ap, sym, refl, subst, Side, Answers, AreKnown, Shows, State, Whole, Held, IncomingView, message_of, holding_of, incoming_of, is_reply_to, noted, Stands}
 use Rattle.nbd_session.proofs.steps.ConcludeLemmas.{answers_at, on_err, on_ok_both, whole_read}
 use Rattle.nbd_session.proofs.steps.EmptiedLemmas.{emptied_here, kept_other, mid_counted, mid_messages, mid_state, mid_stretches, mid_taken, new_holding, same_room, sides_same}
 use Rattle.nbd_session.proofs.steps.AcceptLemmas.{accepted_shut, accepted_stands, may_take, same_but_message}
@@ -59,15 +59,14 @@ returns c =
     let same = mid_taken held roomy mid new s is sides refl refl in
     let state = mid_state held roomy mid new s is sides refl refl in
     let counted = mid_counted held roomy mid new s is sides refl refl in
-    let log = log_of_pairs by_tests (fresh_of t.before.profile) (held_pairs t.before) in
     record {
       stands =
           on_ok_both c.complete-completed.result _ _ (Stands new) c.complete-completed.ensures.shown c.complete-completed.ensures.known (λ shown known.
           accepted_stands held s t m whole new holding (emptied_here held roomy mid new s is sides refl refl) (kept_other held roomy mid new s is sides refl refl)
           (λ reached shows sendable completes. shown t.reader.core reached (subst (λ state. Shows state t.reader.core) (sym state) shows) sendable completes)
-          (λ reached shows completes folded knew.
-          subst (λ n. AreKnown (log ++ record { message = m; known = n } ∷ []) c.complete-completed.new.self.exchanges.items) counted
-          (known t.reader.core t.before.profile log reached (subst (λ state. Shows state t.reader.core) (sym state) shows) completes folded (subst (λ (state : State). AreKnown log state.exchanges.items) (sym state) knew)))
+          (λ reached shows knew.
+          subst (λ n. AreKnown (λ k. noted (t.reader.known k) (is_reply_to t.reader.core m k) n) c.complete-completed.new.self.exchanges.items) counted
+          (known t.reader.core t.reader.known reached (subst (λ state. Shows state t.reader.core) (sym state) shows) (subst (λ (state : State). AreKnown t.reader.known state.exchanges.items) (sym state) knew)))
           same);
       same = same_but_message held s t m whole new holding messages same;
       shut = on_err c.complete-completed.result _ (accepted_shut held s t m whole new holding same);

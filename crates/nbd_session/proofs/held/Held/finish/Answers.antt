@@ -1,5 +1,5 @@
 use Rattle.nbd_session.proofs.Common.{sym, subst, None, Client, Server, IsReported, bytes_taken, open_end_fault, session_view}
-use Rattle.nbd_session.proofs.log.ReportLemmas.{reported, sound_told}
+use Rattle.nbd_session.proofs.reports.ReportLemmas.{reported, sound_told}
 use Rattle.nbd_session.proofs.steps.TakenLemmas.{none_on}
 use Rattle.nbd_session.proofs.held.Held.finish.Goals as goal
 

@@ -1,4 +1,4 @@
-use Rattle.nbd_state.proofs.Common.{ℕ, ◌≡◌, ◌&&◌, ◌∙◌, ap, false, not, refl, rules, sym, true, contains, nat_cmp, are_once, has_id, is_among, ids_of}
+use Rattle.nbd_state.proofs.Common.{ℕ, ◌≡◌, ◌&&◌, ◌∙◌, ap, false, not, refl, rules, sym, contains, nat_cmp, is_among, ids_of}
 use Rattle.nbd_state.proofs.selection.Selection.asking_with.Goals as goal
 use Rattle.nbd_state.proofs.selection.Selection.asking_with.Goals.{then-has, else-has}
 

@@ -1,4 +1,4 @@
-use Rattle.nbd_state.proofs.Common.{◌<◌, ◌∙◌, ◌&&◌, ◌==◌, if◌then◌else◌, ap, length, refl, sym, subst, None, slice_set, place_at, chunk_of, State, in_force, status_in, is_allocation_told, known_first, Counts}
+use Rattle.nbd_state.proofs.Common.{◌<◌, ◌∙◌, ◌&&◌, ◌==◌, ap, length, refl, sym, subst, None, slice_set, place_at, chunk_of, State, in_force, status_in, is_allocation_told, Counts, if◌then◌else◌, is_some, Some}
 use Rattle.nbd_state.proofs.HeadLemmas.{chunk_cookie, chunk_ends}
 use Rattle.nbd_state.proofs.CompletionLemmas.{counted_now, indexed, on_both, on_one, replied_shows, size_fits}
 use Rattle.nbd_state.proofs.TellingLemmas.{tells_at}
@@ -31,6 +31,6 @@ returns-clause-tells c = on_one c.take_chunk.result (λ _ first.
     tells_at (place_at state.outstanding c.args.head.now.cookie) c.args.known place state.exchanges.items (slice_set mid.exchanges.items place c.take_chunk.new.self) x c.take_chunk.new.self
     c.requires.place
     (indexed state mid place x c.end_if.ensures.kept (subst (λ (z : State). place < length z.exchanges.items) (sym c.end_if.ensures.kept) c.requires.within) c.index_mut.ensures.value)
-    (first ∙ ap (λ (k : Counts). known_first c.index_mut.result.now.asked.known_at k.known) c.counts-counts.ensures)
+    (first ∙ ap (λ (k : Counts). if is_some c.index_mut.result.now.asked.known_at then c.index_mut.result.now.asked.known_at else Some k.known) c.counts-counts.ensures)
     (ap (λ (z : State). slice_set z.exchanges.items place c.take_chunk.new.self) c.end_if.ensures.kept))
     c.take_chunk.ensures.first

@@ -1,8 +1,8 @@
-use Rattle.nbd_state.proofs.Common.{◌==◌, None, ap, false, refl, subst, MayAsk, Chunk, ExtendedChunk, ExtendedRequest, Request, Simple, MayComplete, complete, cookie_of, core_with_reply, core_with_request, operation_asked, MayTake, Shows}
+use Rattle.nbd_state.proofs.Common.{◌==◌, None, ap, false, refl, subst, MayAsk, Chunk, ExtendedChunk, ExtendedRequest, Request, Simple, MayComplete, complete, cookie_of, core_with_request, operation_asked, MayTake, Shows, known_if, slice_get}
 use Rattle.nbd_wire.specs.declared.commands.TheConstants as commands
 use Rattle.nbd_state.proofs.CompletionLemmas.{on}
 use Rattle.nbd_state.proofs.PhaseLemmas.{answered_chunk, answered_extended, answered_simple, asked_in, chunk_in, extended_asked_in, extended_chunk_in, extended_transmits, shows_exported, shows_flags, shows_greeted, shows_same, simple_in, transmits}
-use Rattle.nbd_state.proofs.TellingLemmas.{known_added, known_kept, known_told}
+use Rattle.nbd_state.proofs.TellingLemmas.{known_asked, known_told}
 use Rattle.nbd_state.proofs.state.State.complete.Goals as goal
 
 pub returns-in-Greeting-clause-shown : goal.returns-in-Greeting-clause-shown
@@ -11,8 +11,7 @@ returns-in-Greeting-clause-shown c = λ core r s sn ok.
     (shows_greeted c.args.self.now _ core s c.in-Greeting.flags (subst (λ m. MayComplete core core.phase m) c.in-Greeting.is ok) refl)
 
 pub returns-in-Greeting-clause-known : goal.returns-in-Greeting-clause-known
-returns-in-Greeting-clause-known c = λ core profile log r s ok e h.
-    known_kept core profile log c.args.message.now c.args.known e c.args.self.now.exchanges.items (ap cookie_of c.in-Greeting.is) h
+returns-in-Greeting-clause-known c = λ core noted r s h. known_asked core c.args.message.now c.args.known noted _ _ (ap cookie_of c.in-Greeting.is) (λ place. refl) h
 
 pub returns-in-ClientFlags-clause-shown : goal.returns-in-ClientFlags-clause-shown
 returns-in-ClientFlags-clause-shown c = λ core r s sn ok.
@@ -20,8 +19,7 @@ returns-in-ClientFlags-clause-shown c = λ core r s sn ok.
     (shows_flags c.args.self.now _ core s c.in-ClientFlags.flags (subst (λ m. MayComplete core core.phase m) c.in-ClientFlags.is ok) refl)
 
 pub returns-in-ClientFlags-clause-known : goal.returns-in-ClientFlags-clause-known
-returns-in-ClientFlags-clause-known c = λ core profile log r s ok e h.
-    known_kept core profile log c.args.message.now c.args.known e c.args.self.now.exchanges.items (ap cookie_of c.in-ClientFlags.is) h
+returns-in-ClientFlags-clause-known c = λ core noted r s h. known_asked core c.args.message.now c.args.known noted _ _ (ap cookie_of c.in-ClientFlags.is) (λ place. refl) h
 
 pub returns-in-Choice-clause-shown : goal.returns-in-Choice-clause-shown
 returns-in-Choice-clause-shown c = on c.choice.result (λ f core r s sn ok.
@@ -29,8 +27,8 @@ returns-in-Choice-clause-shown c = on c.choice.result (λ f core r s sn ok.
     c.choice.ensures.shown
 
 pub returns-in-Choice-clause-known : goal.returns-in-Choice-clause-known
-returns-in-Choice-clause-known c = on c.choice.result (λ f core profile log r s ok e h.
-    rw c.choice.ensures.exchanges (known_kept core profile log c.args.message.now c.args.known e c.args.self.now.exchanges.items (ap cookie_of c.in-Choice.is) h)) c.choice.ensures.shown
+returns-in-Choice-clause-known c = on c.choice.result (λ f core noted r s h.
+    known_asked core c.args.message.now c.args.known noted _ _ (ap cookie_of c.in-Choice.is) (λ place i. known_if (slice_get (c.choice.ensures.exchanges i).items place)) h) c.choice.ensures.shown
 
 pub returns-in-Answer-clause-shown : goal.returns-in-Answer-clause-shown
 returns-in-Answer-clause-shown c = on c.answer.result (λ f core r s sn ok.
@@ -38,8 +36,8 @@ returns-in-Answer-clause-shown c = on c.answer.result (λ f core r s sn ok.
     c.answer.ensures.shown
 
 pub returns-in-Answer-clause-known : goal.returns-in-Answer-clause-known
-returns-in-Answer-clause-known c = on c.answer.result (λ f core profile log r s ok e h.
-    rw c.answer.ensures.exchanges (known_kept core profile log c.args.message.now c.args.known e c.args.self.now.exchanges.items (ap cookie_of c.in-Answer.is) h)) c.answer.ensures.shown
+returns-in-Answer-clause-known c = on c.answer.result (λ f core noted r s h.
+    known_asked core c.args.message.now c.args.known noted _ _ (ap cookie_of c.in-Answer.is) (λ place i. known_if (slice_get (c.answer.ensures.exchanges i).items place)) h) c.answer.ensures.shown
 
 pub returns-in-Exported-clause-shown : goal.returns-in-Exported-clause-shown
 returns-in-Exported-clause-shown c = λ core r s sn ok.
@@ -47,8 +45,7 @@ returns-in-Exported-clause-shown c = λ core r s sn ok.
     (shows_exported c.args.self.now _ core s c.in-Exported.size c.in-Exported.flags c.in-Exported.padded c.phase_after_export-self.result (subst (λ m. MayComplete core core.phase m) c.in-Exported.is ok) c.phase_after_export-self.ensures refl)
 
 pub returns-in-Exported-clause-known : goal.returns-in-Exported-clause-known
-returns-in-Exported-clause-known c = λ core profile log r s ok e h.
-    known_kept core profile log c.args.message.now c.args.known e c.args.self.now.exchanges.items (ap cookie_of c.in-Exported.is) h
+returns-in-Exported-clause-known c = λ core noted r s h. known_asked core c.args.message.now c.args.known noted _ _ (ap cookie_of c.in-Exported.is) (λ place. refl) h
 
 pub request-requires : goal.request-requires
 request-requires c = transmits c.args.self.now c.in-Request.flags c.in-Request.command c.in-Request.cookie c.in-Request.offset c.in-Request.length c.in-Request.payload (subst (MayTake c.args.self.now) c.in-Request.is c.requires.may)
@@ -85,8 +82,7 @@ returns-in-Request-clause-shown c = on c.request.result (λ f core r s sn ok.
     c.request.ensures.shown
 
 pub returns-in-Request-clause-known : goal.returns-in-Request-clause-known
-returns-in-Request-clause-known c = on c.request.result (λ f core profile log r s ok e h.
-    known_added core profile log c.args.message.now c.args.known e c.args.self.now c.request.new.self.exchanges.items s (ap cookie_of c.in-Request.is) f h)
+returns-in-Request-clause-known c = on c.request.result (λ f core noted r s h. known_asked core c.args.message.now c.args.known noted _ _ (ap cookie_of c.in-Request.is) f h)
     c.request.ensures.adds
 
 pub returns-in-ExtendedRequest-clause-shown : goal.returns-in-ExtendedRequest-clause-shown
@@ -99,8 +95,7 @@ returns-in-ExtendedRequest-clause-shown c = on c.request-in-ExtendedRequest.resu
     c.request-in-ExtendedRequest.ensures.shown
 
 pub returns-in-ExtendedRequest-clause-known : goal.returns-in-ExtendedRequest-clause-known
-returns-in-ExtendedRequest-clause-known c = on c.request-in-ExtendedRequest.result (λ f core profile log r s ok e h.
-    known_added core profile log c.args.message.now c.args.known e c.args.self.now c.request-in-ExtendedRequest.new.self.exchanges.items s (ap cookie_of c.in-ExtendedRequest.is) f h)
+returns-in-ExtendedRequest-clause-known c = on c.request-in-ExtendedRequest.result (λ f core noted r s h. known_asked core c.args.message.now c.args.known noted _ _ (ap cookie_of c.in-ExtendedRequest.is) f h)
     c.request-in-ExtendedRequest.ensures.adds
 
 pub returns-in-Simple-clause-shown : goal.returns-in-Simple-clause-shown
@@ -112,8 +107,7 @@ returns-in-Simple-clause-shown c = on c.simple.result (λ f core r s sn ok.
     c.simple.ensures.shown
 
 pub returns-in-Simple-clause-known : goal.returns-in-Simple-clause-known
-returns-in-Simple-clause-known c = on c.simple.result (λ f core profile log r s ok e h.
-    known_told core profile log c.args.message.now c.args.known e c.args.self.now c.in-Simple.cookie c.simple.new.self.exchanges.items s (ap cookie_of c.in-Simple.is) f h)
+returns-in-Simple-clause-known c = on c.simple.result (λ f core noted r s h. known_told core c.args.message.now c.args.known noted c.args.self.now c.in-Simple.cookie _ s (ap cookie_of c.in-Simple.is) f h)
     c.simple.ensures.tells
 
 pub returns-in-Chunk-clause-shown : goal.returns-in-Chunk-clause-shown
@@ -125,8 +119,7 @@ returns-in-Chunk-clause-shown c = on c.chunk.result (λ f core r s sn ok.
     c.chunk.ensures.shown
 
 pub returns-in-Chunk-clause-known : goal.returns-in-Chunk-clause-known
-returns-in-Chunk-clause-known c = on c.chunk.result (λ f core profile log r s ok e h.
-    known_told core profile log c.args.message.now c.args.known e c.args.self.now c.in-Chunk.cookie c.chunk.new.self.exchanges.items s (ap cookie_of c.in-Chunk.is) f h)
+returns-in-Chunk-clause-known c = on c.chunk.result (λ f core noted r s h. known_told core c.args.message.now c.args.known noted c.args.self.now c.in-Chunk.cookie _ s (ap cookie_of c.in-Chunk.is) f h)
     c.chunk.ensures.tells
 
 pub returns-in-ExtendedChunk-clause-shown : goal.returns-in-ExtendedChunk-clause-shown
@@ -139,6 +132,5 @@ returns-in-ExtendedChunk-clause-shown c = on c.chunk-in-ExtendedChunk.result (λ
     c.chunk-in-ExtendedChunk.ensures.shown
 
 pub returns-in-ExtendedChunk-clause-known : goal.returns-in-ExtendedChunk-clause-known
-returns-in-ExtendedChunk-clause-known c = on c.chunk-in-ExtendedChunk.result (λ f core profile log r s ok e h.
-    known_told core profile log c.args.message.now c.args.known e c.args.self.now c.in-ExtendedChunk.cookie c.chunk-in-ExtendedChunk.new.self.exchanges.items s (ap cookie_of c.in-ExtendedChunk.is) f h)
+returns-in-ExtendedChunk-clause-known c = on c.chunk-in-ExtendedChunk.result (λ f core noted r s h. known_told core c.args.message.now c.args.known noted c.args.self.now c.in-ExtendedChunk.cookie _ s (ap cookie_of c.in-ExtendedChunk.is) f h)
     c.chunk-in-ExtendedChunk.ensures.tells

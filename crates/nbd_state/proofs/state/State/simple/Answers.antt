@@ -1,4 +1,4 @@
-use Rattle.nbd_state.proofs.Common.{◌<◌, ◌∙◌, ap, length, refl, sym, subst, slice_set, place_at, Simple, ends_reply, State, Counts, known_first}
+use Rattle.nbd_state.proofs.Common.{◌<◌, ◌∙◌, ap, length, refl, sym, subst, slice_set, place_at, Simple, ends_reply, State, Counts, if◌then◌else◌, is_some, Some}
 use Rattle.nbd_state.proofs.CompletionLemmas.{counted_now, indexed, on_both, on_one, replied_shows}
 use Rattle.nbd_state.proofs.TellingLemmas.{tells_at}
 use Rattle.nbd_state.proofs.state.State.simple.Goals as goal
@@ -28,6 +28,6 @@ returns-clause-tells c = on_one c.take_simple.result (λ _ first.
     tells_at (place_at state.outstanding c.args.cookie) c.args.known place state.exchanges.items (slice_set mid.exchanges.items place c.take_simple.new.self) x c.take_simple.new.self
     c.requires.place
     (indexed state mid place x c.end_if.ensures.kept (subst (λ (z : State). place < length z.exchanges.items) (sym c.end_if.ensures.kept) c.requires.within) c.index_mut.ensures.value)
-    (first ∙ ap (λ (k : Counts). known_first c.index_mut.result.now.asked.known_at k.known) c.counts-counts.ensures)
+    (first ∙ ap (λ (k : Counts). if is_some c.index_mut.result.now.asked.known_at then c.index_mut.result.now.asked.known_at else Some k.known) c.counts-counts.ensures)
     (ap (λ (z : State). slice_set z.exchanges.items place c.take_simple.new.self) c.end_if.ensures.kept))
     c.take_simple.ensures.first

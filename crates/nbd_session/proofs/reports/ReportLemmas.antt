@@ -1,8 +1,40 @@
 -- What a session that ends states is the report of the runs with its bytes.
-use Rattle.nbd_session.proofs.Common.{◌≡◌, ℕ, suc, ◌+◌, List, [], ◌∷◌, map, refl, sym, ◌∙◌, ap, subst, arith, Option, Some, None, slice_get, Side, Client, Server, Item, pairs, report, asked_of, asked_list, Operation, Exporting, IsRunOf, IsRunBut, Core, Phase, Shown, Greet, start, export_in, Exchange, Held, State, by_tests, fresh_of, get, holding_of, LogEntry, known_by, log_of_pairs, IsReported, IsShown, exporting_if, AreKnown, AreShown, Shows, ended_if, phase_shown, shown_if, shown_in, IsSoundReport, held_pairs, HoldsRun, Stands, bytes_come, session_view, report_of_request, export_of, transcript_report, reports_are_sound}
-use Rattle.nbd_session.proofs.log.Logs.{report_by}
-use Rattle.nbd_session.proofs.log.LogStepLemmas.{read_report}
+use Rattle.nbd_session.proofs.Common.{◌≡◌, ℕ, suc, ◌+◌, List, [], ◌∷◌, map, refl, sym, ◌∙◌, ap, subst, arith, Option, Some, None, slice_get, Side, Client, Server, Item, pairs, report, asked_of, asked_list, Operation, Exporting, IsRunOf, IsRunBut, Core, Phase, Shown, Greet, start, export_in, Exchange, Held, State, by_tests, fresh_of, get, holding_of, IsReported, IsShown, exporting_if, AreKnown, AreShown, known_if, Shows, ended_if, phase_shown, shown_if, shown_in, IsSoundReport, held_pairs, HoldsRun, Stands, bytes_come, session_view, report_of_request, export_of, transcript_report, reports_are_sound, Profile, Base, Report, Reader, Pair, ArePairs, Ok, reads, led, known_count, known_at_base, at_base, with_profile, follows, walk_of, ends_at, start_of, run_law, same_reports, sound}
+use Rattle.nbd_laws.proofs.runs.RunLemmas.{core_end-ends_at}
+use Rattle.nbd_session.proofs.reports.KnownLemmas.{core_led, known_at_end}
 use Rattle.nbd_session.proofs.judge.PieceLemmas.{standing_run}
+
+-- what a core states, and what is known of its requests
+abbrev report_by : Core → (ℕ → Option ℕ) → Report
+report_by core known = record { export = export_in core.phase; asked = asked_list 0 core known core.entries }
+
+-- that does not hang on the profile
+stated_in : (q : Profile) (n : ℕ) (core : Core) (known : ℕ → Option ℕ) (es : List Operation) → asked_list n (with_profile q core) known es ≡ asked_list n core known es
+stated_in q n core known [] = refl
+stated_in q n core known (e ∷ es) = ap (λ l. asked_of (export_in core.phase) (known (suc n)) (core.shown (suc n)) (core.ended_at (suc n)) e ∷ l) (stated_in q (suc n) core known es)
+
+report_in : (q : Profile) (core : Core) (known : ℕ → Option ℕ) → report_by (with_profile q core) known ≡ report_by core known
+report_in q core known = λ i. record { export = export_in core.phase; asked = stated_in q 0 core known core.entries i }
+
+-- of a run that leads a reader to its end
+led_report : {profile : Profile} (items : List Item) (end : Reader) → IsRunOf profile items → led (fresh_of profile) items ≡ end → report items ≡ report_by end.core end.known
+unfolding report
+led_report {profile} items end run leads =
+    let first : Core = (start_of profile).core in
+    let core_same : (ends_at start items).core ≡ with_profile Base end.core =
+    sym (at_base profile items) ∙ ap (with_profile Base) (sym (core_end-ends_at first [] items) ∙ sym (core_led (fresh_of profile) items) ∙ ap (λ (r : Reader). r.core) leads) in
+    let known : (k : ℕ) → known_count items k ≡ end.known k =
+    λ k. sym (known_at_base profile items k)
+    ∙ sym (known_at_end (fresh_of profile) (walk_of run) refl (follows items (start_of profile) run.obeys) (elim [ Client ↦ tt | Server ↦ tt ]) (elim [ Client ↦ refl | Server ↦ refl ]) k refl)
+    ∙ ap (λ (r : Reader). r.known k) leads in
+    ap (λ known. report_by (ends_at start items).core known) (λ i k. known k i) ∙ ap (λ core. report_by core end.known) core_same ∙ report_in Base end.core end.known
+
+-- of any run with the pairs that the reader has read to their end
+read_report : {profile : Profile} (ps : List Pair) (end : Reader) → ArePairs ps → reads by_tests (fresh_of profile) ps ≡ Ok end → ((s : Side) → (get end.rests s).bytes ≡ []) →
+    (items : List Item) → IsRunOf profile items → pairs items ≡ ps → report items ≡ report_by end.core end.known
+read_report {profile} ps end lt e none items run has =
+    let r = run_law by_tests sound ps end lt e none in
+    same_reports profile items r.0 run r.1 (has ∙ sym r.2) ∙ led_report r.0 end r.1 r.3
 
 export_same : (phase : Phase) → exporting_if (export_of (phase_shown phase)) ≡ export_in phase
 export_same Greet = refl
@@ -14,7 +46,7 @@ one_told export e x known shown ended s k sh en = grind arith
 
 -- the exchanges have what is noted of the requests from number n + 1 on
 record AreNotedFrom (n : ℕ) (core : Core) (known : ℕ → Option ℕ) (xs : List Exchange) : Type 0 where
-  known_are : (place : ℕ) (x : Exchange) → slice_get xs place ≡ Some x → x.asked.known_at ≡ known (suc (n + place))
+  known_are : (place : ℕ) → known (suc (n + place)) ≡ known_if (slice_get xs place)
   shown_are : (place : ℕ) → core.shown (suc (n + place)) ≡ shown_if (slice_get xs place)
   ended_are : (place : ℕ) → core.ended_at (suc (n + place)) ≡ ended_if (slice_get xs place)
 
@@ -23,7 +55,7 @@ next_place n place = omega arith
 
 noted_rest : (n : ℕ) (core : Core) (known : ℕ → Option ℕ) (x : Exchange) (xs : List Exchange) → AreNotedFrom n core known (x ∷ xs) → AreNotedFrom (suc n) core known xs
 noted_rest n core known x xs h = record {
-  known_are = λ place y at. h.known_are (suc place) y at ∙ ap (λ m. known (suc m)) (next_place n place);
+  known_are = λ place. ap (λ m. known (suc m)) (sym (next_place n place)) ∙ h.known_are (suc place);
   shown_are = λ place. ap (λ m. core.shown (suc m)) (sym (next_place n place)) ∙ h.shown_are (suc place);
   ended_are = λ place. ap (λ m. core.ended_at (suc m)) (sym (next_place n place)) ∙ h.ended_are (suc place);
 }
@@ -33,7 +65,7 @@ all_told : (n : ℕ) (core : Core) (export : Option Exporting) → export_in cor
 all_told n core export q known [] [] s h = refl
 all_told n core (Some export) q known (e ∷ es) (x ∷ xs) s h =
     let first : n ≡ n + 0 = omega arith in
-    (λ i. (one_told export e x (known (suc n)) (core.shown (suc n)) (core.ended_at (suc n)) s.0 (h.known_are 0 x refl ∙ ap (λ m. known (suc m)) (sym first))
+    (λ i. (one_told export e x (known (suc n)) (core.shown (suc n)) (core.ended_at (suc n)) s.0 (sym (ap (λ m. known (suc m)) first ∙ h.known_are 0))
     (sym (ap (λ m. core.shown (suc m)) first ∙ h.shown_are 0)) (sym (ap (λ m. core.ended_at (suc m)) first ∙ h.ended_are 0))
     ∙ ap (λ o. asked_of o (known (suc n)) (core.shown (suc n)) (core.ended_at (suc n)) e) (sym q)) i
     ∷ all_told (suc n) core (Some export) q known es xs s.1 (noted_rest n core known x xs h) i)
@@ -41,14 +73,11 @@ all_told n core None q known (e ∷ es) (x ∷ xs) s h = absurd s
 all_told n core (Some export) q known [] (x ∷ xs) s h = absurd s
 all_told n core export q known es xs s h = absurd s
 
-by_place : (log : List LogEntry) (xs : List Exchange) → AreKnown log xs → (place : ℕ) (x : Exchange) → slice_get xs place ≡ Some x → x.asked.known_at ≡ known_by start.core (suc (0 + place)) log
-by_place log xs known place x at = grind arith
-
-told_by_log : (state : State) (core : Core) (log : List LogEntry) → Shows state core → AreKnown log state.exchanges.items → transcript_report (export_of state.phase) state.exchanges.items ≡ report_by core log
-told_by_log state core log shows known = λ i. record {
+told_by : (state : State) (core : Core) (noted : ℕ → Option ℕ) → Shows state core → AreKnown noted state.exchanges.items → transcript_report (export_of state.phase) state.exchanges.items ≡ report_by core noted
+told_by state core noted shows known = λ i. record {
   export = (ap (λ phase. exporting_if (export_of phase)) shows.phase_is ∙ export_same core.phase) i;
-  asked = all_told 0 core (export_in core.phase) refl (λ k. known_by start.core k log) core.entries state.exchanges.items shows.are_shown (record {
-    known_are = by_place log state.exchanges.items known;
+  asked = all_told 0 core (export_in core.phase) refl noted core.entries state.exchanges.items shows.are_shown (record {
+    known_are = λ place. ap (λ m. noted (suc m)) (from_none place) ∙ known place;
     shown_are = λ place. ap (λ m. core.shown (suc m)) (from_none place) ∙ shows.shown place;
     ended_are = λ place. ap (λ m. core.ended_at (suc m)) (from_none place) ∙ shows.ended place;
   }) i;
@@ -66,7 +95,7 @@ module _ (held : Held) (st : Stands held) (client : (bytes_come held.client) ≡
   told_of : (items : List Item) → IsRunOf held.state.profile items → pairs items ≡ held_pairs (holding_of held) → report items ≡ transcript_report (export_of held.state.phase) held.state.exchanges.items
   told_of items run has =
       read_report (held_pairs (holding_of held)) st.reader st.read_to.are_pairs st.read_to.reads_it none_left items run has
-      ∙ sym (told_by_log held.state st.reader.core (log_of_pairs by_tests (fresh_of held.state.profile) (held_pairs (holding_of held))) st.shows st.known)
+      ∙ sym (told_by held.state st.reader.core st.reader.known st.shows st.known)
 
   whole_run : (run : HoldsRun (holding_of held)) → IsRunOf held.state.profile run.items
   whole_run run = subst (λ c. IsRunBut held.state.profile run.items c []) client (subst (λ s. IsRunBut held.state.profile run.items (bytes_come held.client) s) server run.is_run)
