@@ -69,7 +69,7 @@ pub use Rattle.nbd_wire.specs.protocol.Pieces.{SharesNone, byte_at, chunk_piece,
 unfoldable pub use Rattle.nbd_wire.specs.protocol.Pieces.{piece_of}
 pub use Rattle.nbd_wire.specs.protocol.Places.{IsPlace, IsPlaceOf, IsUnderWayOf}
 pub use Rattle.nbd_wire.specs.protocol.Reading.{Bad, Both, IsFilled, Judge, More, Reader, Reading, Rest, Whole, by_tests, decision, fresh_of, get, judge_in, last_reading, old_by, old_of, on_ok, put, read_by, reading_by_decision, reads, request_unless, rest_with, settle, staged_reading, staged_reading_by, step, with_message}
-pub use Rattle.nbd_wire.specs.protocol.Reports.{Asked, Report, asked_at, asked_list, asked_of, due_by_chunk, due_in, due_of, export_of, first_known, first_shown, inside_asked, inside_in, known_count, known_from, known_if, lesser_of, operations_of}
+pub use Rattle.nbd_wire.specs.protocol.Reports.{Asked, Report, asked_at, asked_list, asked_of, due_by_chunk, due_in, due_of, export_of, first_shown, inside_asked, inside_in, known_count, known_from, lesser_of, operations_of}
 unfoldable pub use Rattle.nbd_wire.specs.protocol.Reports.{report}
 pub use Rattle.nbd_wire.specs.protocol.Rules.{Allows, AnswersOne, IsRunBut, IsRunOf, IsServedFor, MayStart, Obeys, after, cookie_of, core_with_request, ends_at, filter_in, gives, grants_extended, grants_structured, inside_at, inside_operation, is_by_chunk, is_extended, is_reply_to, is_request, is_this, makes_due, noted, reply_to, request_of_reply, shown_with, target_of, written}
 unfoldable pub use Rattle.nbd_wire.specs.protocol.Rules.{MayComplete, MayReply, MayStartIn, complete}

@@ -1,3 +1,4 @@
 pub mod ReaderLemmas
 pub mod MarkLemmas
 pub mod TwinLemmas
+pub mod NotedLemmas

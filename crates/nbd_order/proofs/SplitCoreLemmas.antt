@@ -7,7 +7,6 @@ use Rattle.nbd_wire.specs.declared.message.Message.{Message}
 use Rattle.nbd_wire.specs.declared.message.Message.TheVariants.{Request, Simple, Chunk, ExtendedRequest, ExtendedChunk}
 use Rattle.nbd_wire.specs.protocol.Marks.{Byte, Starts, Completes, Serves, without_service}
 use Rattle.nbd_wire.specs.protocol.Operations.{Operation, any, ends_reply, is_finished}
-use Rattle.nbd_wire.specs.protocol.Reports.{known_if}
 use Rattle.nbd_wire.specs.protocol.Rules.{Obeys, cookie_of, core_with_request, filter_in, gives, inside_at, inside_operation, is_by_chunk, is_reply_to, is_this, makes_due, noted, operation_asked, reply_to, request_of_reply, target_of, written}
 use Rattle.nbd_wire.specs.declared.sizes.Sizes.{Sizes}
 use Rattle.nbd_wire.specs.protocol.Contexts.{Context, Filter, length_by}
@@ -17,7 +16,7 @@ unfoldable use Rattle.nbd_wire.specs.protocol.States.{target}
 use Rattle.nbd_wire.specs.protocol.States.{Core, Transmission, export_in, has_contexts, in_force, is_awaiting, operation, target_from, with_reply, with_reply_at}
 use Rattle.nbd_laws.proofs.runs.PrefixLemmas.{InTransmission, asks, asks_more, gives as gives_chunk, gives_more, in_transmission, phase-complete, replies}
 use Rattle.nbd_laws.proofs.runs.TraceLemmas.{answered_by-within, due_within}
-use Rattle.nbd_laws.proofs.service.DueLemmas.{due_from, or_later}
+use Rattle.nbd_laws.proofs.service.DueLemmas.{known_if, due_from, or_later}
 use Rattle.nbd_laws.proofs.service.InsideLemmas.{core_end, entries_grow}
 
 -- so many more, where there is a number

@@ -105,7 +105,7 @@ unfoldable pub use Rattle.nbd_wire.specs.protocol.Payloads.{content_of}
 pub use Rattle.nbd_wire.specs.protocol.Pieces.{chunk_piece, piece_size}
 pub use Rattle.nbd_wire.specs.protocol.Places.{IsUnderWayOf}
 pub use Rattle.nbd_wire.specs.protocol.Reading.{Bad, Both, IsFilled, Judge, More, Reader, Reading, Rest, Whole, by_tests, decision, decision_with, fresh_of, get, last_reading, old_of, on_ok, put, read_by, reading_by_decision, reads, request_unless, rest_with, settle, step}
-pub use Rattle.nbd_wire.specs.protocol.Reports.{Report, asked_list, asked_of, first_known, known_count, known_from}
+pub use Rattle.nbd_wire.specs.protocol.Reports.{Report, asked_list, asked_of, known_count, known_from}
 unfoldable pub use Rattle.nbd_wire.specs.protocol.Reports.{report}
 pub use Rattle.nbd_wire.specs.protocol.Rules.{IsRunBut, IsRunOf, MayComplete, Obeys, after, complete, cookie_of, ends_at, is_reply_to, is_this, noted, request_of_reply}
 pub use Rattle.nbd_wire.specs.protocol.Sendable.{IsSendable}

@@ -1,5 +1,5 @@
 -- What holds of each request of a core that completed messages lead to, and of every report.
-use Rattle.nbd_laws.proofs.Common.{◌≡◌, ℕ, ◌≤◌, ◌+◌, ◌==◌, List, [], ◌∷◌, length, refl, sym, ◌∙◌, ap, subst, inl, inr, Option, Some, None, Bool, true, false, eqb-true, arith, IsTrue, nat_le, ◌⊎◌, ◌++◌, ◌≢◌, append-nil, leb-true, IsInfo, MayAcknowledge, MayAnswer, MayTell, EXPORT_SIZE, Server, Message, Greeting, ClientFlags, Choice, Answer, Exported, Info, Export, Item, Starts, Completes, Profile, sizes_for, sizes_kept, ack_phase, reply_phase, choice_phase, last_info, next_phase, info_of, Asked, operations_of, export_of, known_count, known_from, report, asked_of, asked_list, Covers, Operation, Exporting, has_range, is_finished, is_outside, is_proper, pieces, has, MayComplete, complete, ends_at, reply_to, core_with_request, IsSendable, Core, Phase, Greet, Flags, Choosing, Naming, Aborting, Answering, Transmission, with_reply_at, operation, start, target, with_reply, export_in, has_contexts, in_force, IsAfter, IsSoundAsked, IsSoundReport, ReportsAreSound, zeroes, IsReached, at_start, after_message, Selection}
+use Rattle.nbd_laws.proofs.Common.{◌≡◌, ℕ, ◌≤◌, ◌+◌, ◌==◌, List, [], ◌∷◌, length, refl, sym, ◌∙◌, ap, subst, inl, inr, Option, Some, None, Bool, true, false, eqb-true, arith, IsTrue, nat_le, ◌⊎◌, ◌++◌, ◌≢◌, append-nil, leb-true, IsInfo, MayAcknowledge, MayAnswer, MayTell, EXPORT_SIZE, Message, Greeting, ClientFlags, Choice, Answer, Exported, Info, Export, Item, Starts, Completes, Profile, sizes_for, sizes_kept, ack_phase, reply_phase, choice_phase, last_info, next_phase, info_of, Asked, operations_of, export_of, known_count, known_from, report, asked_of, asked_list, Covers, Operation, Exporting, has_range, is_finished, is_outside, is_proper, pieces, has, MayComplete, complete, ends_at, reply_to, core_with_request, IsSendable, Core, Phase, Greet, Flags, Choosing, Naming, Aborting, Answering, Transmission, with_reply_at, operation, start, target, with_reply, export_in, has_contexts, in_force, IsAfter, IsSoundAsked, IsSoundReport, ReportsAreSound, zeroes, IsReached, at_start, after_message, Selection}
 use Rattle.nbd_laws.proofs.judge.AllowLemmas.{answer_allow, export_allow}
 use Rattle.nbd_wire.specs.declared.commands.TheConstants as commands
 use Rattle.nbd_wire.specs.declared.options.TheConstants as options
@@ -94,7 +94,7 @@ sound (after_message {c = c} m r sn ok) = sound_complete c c.phase m refl ok sn 
 -- known counts lie between a request's own number and the number of all requests
 known_between : (core : Core) (items : List Item) (k n : ℕ) → known_from core k items ≡ Some n → (k ≤ n) × (n ≤ length (core_end core items).entries)
 known_between core [] k n e = absurd (cc)
-known_between core (Starts Server m ∷ items) k n e = grind (arith, core_end, answered_by-within, eqb-true, entries_grow, known_between core items k n)
+known_between core (Starts s m ∷ items) k n e = grind (arith, core_end, answered_by-within, eqb-true, entries_grow, known_between core items k n)
 known_between core (Completes s m ∷ items) k n e = known_between (complete core m) items k n e
 known_between core (item ∷ items) k n e = known_between core items k n e
 

@@ -1,5 +1,5 @@
 -- What messages lead to does not hang on the profile that a session is held to.
-use Rattle.nbd_laws.proofs.Common.{◌≡◌, ℕ, ◌==◌, List, [], ◌∷◌, ◌++◌, refl, sym, ◌∙◌, ap, Option, Some, None, Bool, true, false, Entry, Message, Request, Server, Profile, Base, Item, Starts, Completes, Serves, Operation, first_known, known_count, known_from, known_if, complete, core_with_request, ends_at, reply_to, request_of_reply, Core, start, start_of, EndsAgree, with_profile}
+use Rattle.nbd_laws.proofs.Common.{◌≡◌, ℕ, ◌==◌, List, [], ◌∷◌, ◌++◌, refl, sym, ◌∙◌, ap, Option, Some, None, Bool, true, false, Entry, Message, Request, Profile, Base, Item, Starts, Completes, Serves, Operation, known_count, known_from, complete, core_with_request, ends_at, reply_to, request_of_reply, Core, start, start_of, EndsAgree, with_profile, if◌then◌else◌, is_reply_to, length}
 use Rattle.nbd_wire.specs.declared.commands.TheConstants as commands
 
 requested_with : (q : Profile) (is_disc : Bool) (core : Core) (e : Operation) → core_with_request is_disc (with_profile q core) e ≡ with_profile q (core_with_request is_disc core e)
@@ -44,17 +44,9 @@ phase_at_base p items = ap (λ (c : Core). c.phase) (at_base p items)
 pub reply_at_base : (p : Profile) (items : List Item) (m : Message) → request_of_reply (ends_at (start_of p) items).core m ≡ request_of_reply (ends_at start items).core m
 reply_at_base p items m = ap (λ c. request_of_reply c m) (at_base p items)
 
-first_known_with : (q : Profile) (o : Option ℕ) (core : Core) (k : ℕ) (later : Option ℕ) → first_known o (with_profile q core) k later ≡ first_known o core k later
-first_known_with q None core k later = refl
-first_known_with q (Some j) core k later = go (j == k)
-  where
-    go : (b : Bool) → known_if b (with_profile q core) later ≡ known_if b core later
-    go true = refl
-    go false = refl
-
 known_with : (q : Profile) (core : Core) (k : ℕ) (items : List Item) → known_from (with_profile q core) k items ≡ known_from core k items
 known_with q core k [] = refl
-known_with q core k (Starts Server m ∷ items) = search (first_known_with, known_with q core k items)
+known_with q core k (Starts s m ∷ items) = ap (λ later. if is_reply_to core m k then Some (length core.entries) else later) (known_with q core k items)
 known_with q core k (Completes s m ∷ items) = ap (λ c. known_from c k items) (complete_with q core m) ∙ known_with q (complete core m) k items
 known_with q core k (item ∷ items) = known_with q core k items
 

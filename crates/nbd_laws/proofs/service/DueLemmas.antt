@@ -1,11 +1,14 @@
 -- When requests have to be served in a run, walking from a moment on.
-use Rattle.nbd_laws.proofs.Common.{◌≡◌, ℕ, ◌<◌, ◌≤◌, ◌⊎◌, ◌==◌, ◌||◌, ◌&&◌, not, List, [], ◌∷◌, ◌++◌, length, map, is_some, refl, sym, ◌∙◌, ap, inl, inr, Option, Some, None, Bool, true, false, arith, nat_le, if◌then◌else◌, leb-true, le-leb, Entry, Message, Request, Client, Server, Profile, Item, Byte, Starts, Completes, Serves, Operation, ends_reply, first_known, first_shown, known_from, known_if, lesser_of, Obeys, complete, core_with_request, gives, inside_at, is_by_chunk, is_reply_to, is_this, makes_due, noted, reply_to, request_of_reply, shown_with, Core, Shown, operation, Piece, byte_at, piece_offset, piece_size}
+use Rattle.nbd_laws.proofs.Common.{◌≡◌, ℕ, ◌<◌, ◌≤◌, ◌⊎◌, ◌==◌, ◌||◌, ◌&&◌, not, List, [], ◌∷◌, ◌++◌, length, map, is_some, refl, sym, ◌∙◌, ap, inl, inr, Option, Some, None, Bool, true, false, arith, nat_le, if◌then◌else◌, leb-true, le-leb, Entry, Message, Request, Profile, Item, Byte, Starts, Completes, Serves, Operation, ends_reply, first_shown, known_from, lesser_of, Obeys, complete, core_with_request, gives, inside_at, is_by_chunk, is_reply_to, is_this, makes_due, noted, reply_to, shown_with, Core, Shown, operation, Piece, byte_at, piece_offset, piece_size}
 use Rattle.std.proofs.lemmas.Bool.{eqb-true}
 use Rattle.nbd_wire.specs.declared.commands.TheConstants as commands
 use Rattle.nbd_laws.proofs.service.InsideLemmas.{IsSettled, chunk_end, core_end, entries_grow, inside_end, settled_complete}
-use Rattle.nbd_laws.proofs.runs.BegunLemmas.{asks_only}
 use Rattle.nbd_laws.proofs.runs.ProfileLemmas.{profile_stays}
 use Rattle.nbd_laws.proofs.runs.TraceLemmas.{answering, length-complete}
+
+-- the count of requests here where the condition holds, or else what came later
+abbrev pub known_if : Bool → Core → Option ℕ → Option ℕ
+known_if b core later = if b then Some (length core.entries) else later
 
 -- how many requests had completed when request k had to be served for x
 abbrev pub due_from : Core → List Item → (k x : ℕ) → Option ℕ
@@ -15,14 +18,10 @@ due_from core (Starts s m ∷ items) k x = known_if (makes_due core (Starts s m)
 due_from core (Completes s m ∷ items) k x = known_if (makes_due core (Completes s m) k x) core (due_from (complete core m) items k x)
 due_from core (Serves e ∷ items) k x = due_from core items k x
 
-pub first_is : (o : Option ℕ) (core : Core) (k : ℕ) (later : Option ℕ) → first_known o core k later ≡ known_if (is_this o k) core later
-first_is None core k later = refl
-first_is (Some j) core k later = refl
-
 -- what is known of a request has completed
 pub known_within : (core : Core) (items : List Item) (k n : ℕ) → known_from core k items ≡ Some n → (0 < k) × (k ≤ length (core_end core items).entries)
 known_within core [] k n e = absurd (cc)
-known_within core (Starts Server m ∷ items) k n e = grind (arith, first_is, core_end, answering, entries_grow, known_within core items k n)
+known_within core (Starts s m ∷ items) k n e = grind (arith, core_end, answering, entries_grow, known_within core items k n)
 known_within core (Completes s m ∷ items) k n e = known_within (complete core m) items k n e
 known_within core (item ∷ items) k n e = known_within core items k n e
 
@@ -31,10 +30,7 @@ pub due_known : (q : Profile) (items : List Item) (core : Core) (js : List Entry
     is_by_chunk q (operation k (core_end core items).entries) ≡ false → due_from core items k x ≡ known_from core k items
 due_known q [] core js ob prof k x other = refl
 due_known q (Byte s b ∷ items) core js ob prof k x other = due_known q items core js ob.1 prof k x other
-due_known q (Starts Client m ∷ items) core js ob prof k x other =
-    ap (λ o. known_if (is_this o k && not (is_by_chunk core.profile (operation k core.entries))) core (due_from core items k x)) (asks_only core m ob.0.0)
-    ∙ due_known q items core js ob.1 prof k x other
-due_known q (Starts Server m ∷ items) core js ob prof k x other = go (is_reply_to core m k) refl (due_known q items core js ob.1 prof k x other) ∙ sym (first_is (request_of_reply core m) core k (known_from core k items))
+due_known q (Starts s m ∷ items) core js ob prof k x other = go (is_reply_to core m k) refl (due_known q items core js ob.1 prof k x other)
   where
     go : (b : Bool) → is_reply_to core m k ≡ b → due_from core items k x ≡ known_from core k items → known_if (b && not (is_by_chunk core.profile (operation k core.entries))) core (due_from core items k x) ≡ known_if b core (known_from core k items)
     go true r ih =

@@ -1,6 +1,6 @@
 -- The service of a run is an order without a fault.
-use Rattle.nbd_laws.proofs.Common.{◌≡◌, ℕ, ◌<◌, ◌≤◌, List, [], ◌∷◌, ◌++◌, length, refl, sym, ◌∙◌, ap, subst, inl, inr, Option, Some, Bool, true, false, IsTrue, append_assoc, arith, Entry, Profile, Base, IsServedAt, MayServe, is_served, Item, Byte, Starts, Completes, Serves, service_order, Core, start, start_of, IsRunOf, IsServedFor, Obeys, complete, ends_at, inside_at, makes_due, operations_of, known_if, with_profile}
-use Rattle.nbd_laws.proofs.service.DueLemmas.{due_from}
+use Rattle.nbd_laws.proofs.Common.{◌≡◌, ℕ, ◌<◌, ◌≤◌, List, [], ◌∷◌, ◌++◌, length, refl, sym, ◌∙◌, ap, subst, inl, inr, Option, Some, Bool, true, false, IsTrue, append_assoc, arith, Entry, Profile, Base, IsServedAt, MayServe, is_served, Item, Byte, Starts, Completes, Serves, service_order, Core, start, start_of, IsRunOf, IsServedFor, Obeys, complete, ends_at, inside_at, makes_due, operations_of, with_profile}
+use Rattle.nbd_laws.proofs.service.DueLemmas.{known_if, due_from}
 use Rattle.nbd_laws.proofs.service.EntryLemmas.{AreFine, HasNoFault, IsInTime, closed_unserved, served_at-left, served_behind}
 use Rattle.nbd_laws.proofs.runs.TraceLemmas.{due_within, length-complete}
 use Rattle.nbd_laws.proofs.service.InsideLemmas.{IsSettled, core_end, entries_grow, inside_end, settled_complete}

@@ -1,5 +1,5 @@
 -- What a run leads to and states does not depend on the moments of service.
-use Rattle.nbd_laws.proofs.Common.{◌≡◌, ℕ, List, [], ◌∷◌, refl, sym, ◌∙◌, ap, Option, Client, Server, Report, first_known, known_count, known_from, report, asked_list, Item, Starts, Completes, without_service, request_of_reply, complete, ends_at, Core, start, start_of, export_in, SameMarks, SameReports, ReportsIgnoreService}
+use Rattle.nbd_laws.proofs.Common.{◌≡◌, ℕ, List, [], ◌∷◌, refl, sym, ◌∙◌, ap, Option, Client, Server, Report, known_count, known_from, report, asked_list, Item, Starts, Completes, without_service, complete, ends_at, Core, start, start_of, export_in, SameMarks, SameReports, ReportsIgnoreService, if◌then◌else◌, is_reply_to, Some, length}
 use Rattle.nbd_laws.proofs.runs.FollowLemmas.{bare, follows, follows_unserved, pairs_unserved, walk_unserved}
 use Rattle.nbd_laws.proofs.service.InsideLemmas.{core_end}
 use Rattle.nbd_laws.proofs.runs.RunLemmas.{core_end-ends_at, walk_of}
@@ -13,7 +13,7 @@ core_end_unserved core (item ∷ items) = core_end_unserved core items
 
 known_unserved : (core : Core) (k : ℕ) (items : List Item) → known_from core k items ≡ known_from core k (without_service items)
 known_unserved core k [] = refl
-known_unserved core k (Starts Server m ∷ items) = ap (first_known (request_of_reply core m) core k) (known_unserved core k items)
+known_unserved core k (Starts s m ∷ items) = ap (λ later. if is_reply_to core m k then Some (length core.entries) else later) (known_unserved core k items)
 known_unserved core k (Completes s m ∷ items) = known_unserved (complete core m) k items
 known_unserved core k (item ∷ items) = known_unserved core k items
 

@@ -1,40 +1,7 @@
 -- What a session that ends states is the report of the runs with its bytes.
-use Rattle.nbd_session.proofs.Common.{◌≡◌, ℕ, suc, ◌+◌, List, [], ◌∷◌, map, refl, sym, ◌∙◌, ap, subst, arith, Option, Some, None, slice_get, Side, Client, Server, Item, pairs, report, asked_of, asked_list, Operation, Exporting, IsRunOf, IsRunBut, Core, Phase, Shown, Greet, start, export_in, Exchange, Held, State, by_tests, fresh_of, get, holding_of, IsReported, IsShown, exporting_if, AreKnown, AreShown, known_if, Shows, ended_if, phase_shown, shown_if, shown_in, IsSoundReport, held_pairs, HoldsRun, Stands, bytes_come, session_view, report_of_request, export_of, transcript_report, reports_are_sound, Profile, Base, Report, Reader, Pair, ArePairs, Ok, reads, led, known_count, known_at_base, at_base, with_profile, follows, walk_of, ends_at, start_of, run_law, same_reports, sound}
-use Rattle.nbd_laws.proofs.runs.RunLemmas.{core_end-ends_at}
-use Rattle.nbd_session.proofs.reports.KnownLemmas.{core_led, known_at_end}
+use Rattle.nbd_session.proofs.Common.{◌≡◌, ℕ, suc, ◌+◌, List, [], ◌∷◌, map, refl, sym, ◌∙◌, ap, subst, arith, Option, Some, None, slice_get, Side, Client, Server, Item, pairs, report, asked_of, asked_list, Operation, Exporting, IsRunOf, IsRunBut, Core, Phase, Shown, Greet, export_in, Exchange, Held, State, get, holding_of, IsReported, IsShown, exporting_if, AreKnown, AreShown, known_if, Shows, ended_if, phase_shown, shown_if, shown_in, IsSoundReport, held_pairs, HoldsRun, Stands, bytes_come, session_view, report_of_request, export_of, transcript_report, reports_are_sound}
+use Rattle.nbd_laws.proofs.reading.NotedLemmas.{read_report, report_by}
 use Rattle.nbd_session.proofs.judge.PieceLemmas.{standing_run}
-
--- what a core states, and what is known of its requests
-abbrev report_by : Core → (ℕ → Option ℕ) → Report
-report_by core known = record { export = export_in core.phase; asked = asked_list 0 core known core.entries }
-
--- that does not hang on the profile
-stated_in : (q : Profile) (n : ℕ) (core : Core) (known : ℕ → Option ℕ) (es : List Operation) → asked_list n (with_profile q core) known es ≡ asked_list n core known es
-stated_in q n core known [] = refl
-stated_in q n core known (e ∷ es) = ap (λ l. asked_of (export_in core.phase) (known (suc n)) (core.shown (suc n)) (core.ended_at (suc n)) e ∷ l) (stated_in q (suc n) core known es)
-
-report_in : (q : Profile) (core : Core) (known : ℕ → Option ℕ) → report_by (with_profile q core) known ≡ report_by core known
-report_in q core known = λ i. record { export = export_in core.phase; asked = stated_in q 0 core known core.entries i }
-
--- of a run that leads a reader to its end
-led_report : {profile : Profile} (items : List Item) (end : Reader) → IsRunOf profile items → led (fresh_of profile) items ≡ end → report items ≡ report_by end.core end.known
-unfolding report
-led_report {profile} items end run leads =
-    let first : Core = (start_of profile).core in
-    let core_same : (ends_at start items).core ≡ with_profile Base end.core =
-    sym (at_base profile items) ∙ ap (with_profile Base) (sym (core_end-ends_at first [] items) ∙ sym (core_led (fresh_of profile) items) ∙ ap (λ (r : Reader). r.core) leads) in
-    let known : (k : ℕ) → known_count items k ≡ end.known k =
-    λ k. sym (known_at_base profile items k)
-    ∙ sym (known_at_end (fresh_of profile) (walk_of run) refl (follows items (start_of profile) run.obeys) (elim [ Client ↦ tt | Server ↦ tt ]) (elim [ Client ↦ refl | Server ↦ refl ]) k refl)
-    ∙ ap (λ (r : Reader). r.known k) leads in
-    ap (λ known. report_by (ends_at start items).core known) (λ i k. known k i) ∙ ap (λ core. report_by core end.known) core_same ∙ report_in Base end.core end.known
-
--- of any run with the pairs that the reader has read to their end
-read_report : {profile : Profile} (ps : List Pair) (end : Reader) → ArePairs ps → reads by_tests (fresh_of profile) ps ≡ Ok end → ((s : Side) → (get end.rests s).bytes ≡ []) →
-    (items : List Item) → IsRunOf profile items → pairs items ≡ ps → report items ≡ report_by end.core end.known
-read_report {profile} ps end lt e none items run has =
-    let r = run_law by_tests sound ps end lt e none in
-    same_reports profile items r.0 run r.1 (has ∙ sym r.2) ∙ led_report r.0 end r.1 r.3
 
 export_same : (phase : Phase) → exporting_if (export_of (phase_shown phase)) ≡ export_in phase
 export_same Greet = refl

@@ -1,13 +1,12 @@
 -- What a run says of its requests, whatever the moments of their service.
-use Rattle.std.specs.Prelude.{ℕ, zero, suc, List, [], ◌∷◌, ◌++◌, ◌==◌, Bool, true, false, Option, Some, None, length, slice_get, if◌then◌else◌, nat_le}
+use Rattle.std.specs.Prelude.{ℕ, zero, suc, List, [], ◌∷◌, ◌++◌, Bool, false, Option, Some, None, length, slice_get, if◌then◌else◌, nat_le}
 use Rattle.nbd_wire.specs.declared.profile.Profile.{Profile}
-use Rattle.nbd_wire.specs.declared.message.Side.TheVariants.{Client, Server}
 use Rattle.nbd_wire.specs.declared.payloads.Piece.{Piece}
-use Rattle.nbd_wire.specs.protocol.Marks.{Item, Byte, Starts, Completes, Serves}
+use Rattle.nbd_wire.specs.protocol.Marks.{Item, Starts, Completes}
 use Rattle.nbd_wire.specs.protocol.Entries.{inside_of}
 use Rattle.nbd_wire.specs.protocol.Operations.{Operation, Exporting, Outcome, is_outside, outcome, pieces, proper_on, is_chunked}
 use Rattle.nbd_wire.specs.protocol.Statuses.{zeroes}
-use Rattle.nbd_wire.specs.protocol.Rules.{request_of_reply, complete, ends_at}
+use Rattle.nbd_wire.specs.protocol.Rules.{is_reply_to, complete, ends_at}
 use Rattle.nbd_wire.specs.protocol.Pieces.{is_in}
 use Rattle.nbd_wire.specs.protocol.States.{Core, Shown, export_in, start}
 
@@ -19,24 +18,13 @@ operations_of items = (ends_at start items).core.entries
 abbrev pub export_of : List Item → Option Exporting
 export_of items = export_in (ends_at start items).core.phase
 
--- the count of requests here where the condition holds, or else what came later
-abbrev pub known_if : Bool → Core → Option ℕ → Option ℕ
-known_if true core later = Some (length core.entries)
-known_if false core later = later
-
--- a reply to j starts: the count here where j is k, or else what came later
-abbrev pub first_known : Option ℕ → Core → ℕ → Option ℕ → Option ℕ
-first_known (Some j) core k later = known_if (j == k) core later
-first_known None core k later = later
-
 -- how many had completed when the first reply to request k started, walking from here
 abbrev pub known_from : Core → ℕ → List Item → Option ℕ
 known_from core k [] = None
-known_from core k (Starts Server m ∷ items) = first_known (request_of_reply core m) core k (known_from core k items)
-known_from core k (Starts Client m ∷ items) = known_from core k items
-known_from core k (Byte s b ∷ items) = known_from core k items
+known_from core k (Starts s m ∷ items) =
+    if is_reply_to core m k then Some (length core.entries) else known_from core k items
 known_from core k (Completes s m ∷ items) = known_from (complete core m) k items
-known_from core k (Serves e ∷ items) = known_from core k items
+known_from core k (item ∷ items) = known_from core k items
 
 -- how many numbered requests had completed when the first reply to request k started, if one did
 abbrev pub known_count : List Item → ℕ → Option ℕ

@@ -1,9 +1,14 @@
--- What a reader knows is what any run with its bytes says of the first replies.
-use Rattle.nbd_session.proofs.Common.{◌≡◌, ℕ, ◌==◌, List, [], ◌∷◌, length, refl, sym, ◌∙◌, ap, subst, Option, Some, None, Bool, true, false, if◌then◌else◌, Client, Server, Side, Message, Item, first_known, is_this, known_from, is_reply_to, noted, MayComplete, request_of_reply, complete, side, Core, Both, Reader, Rest, IsFilled, IsFilled-snoc, get, put, put_both, rest_with, old_of, old-empty, old-filled, with_byte, led, Busy, Idle, IsNotBusy, Later, Later-trans, Loose, Open, Walk, at_once, behind, ended, final, loose, middle, opening, serving, Follows, each_with, AreBegun, BegunOpen, answers_same, asks_only, begun_completed, Byte, Starts, Completes, Serves}
+-- What a reader has read states the report of any run with its bytes.
+use Rattle.nbd_laws.proofs.Common.{◌≡◌, ℕ, suc, List, [], ◌∷◌, length, refl, sym, ◌∙◌, ap, subst, Option, Ok, Some, None, Bool, true, false, if◌then◌else◌, Profile, Base, Client, Server, Side, Message, Item, Byte, Starts, Completes, Serves, pairs, Pair, ArePairs, Report, report, asked_list, asked_of, known_count, known_from, noted, Operation, is_reply_to, is_this, MayComplete, request_of_reply, complete, ends_at, IsRunOf, side, Core, start, start_of, export_in, Both, Reader, Rest, IsFilled, fresh_of, get, put, reads, by_tests, rest_with, old_of, with_message, with_profile}
+use Rattle.nbd_laws.proofs.judge.SoundLemmas.{sound}
+use Rattle.nbd_laws.proofs.reading.ReaderLemmas.{Busy, Idle, IsFilled-snoc, IsNotBusy, Later, Later-trans, Loose, Open, Walk, at_once, behind, ended, final, led, loose, middle, old-empty, old-filled, opening, put_both, serving, with_byte}
+use Rattle.nbd_laws.proofs.runs.BegunLemmas.{AreBegun, BegunOpen, answers_same, asks_only, begun_completed}
+use Rattle.nbd_laws.proofs.runs.FollowLemmas.{Follows, each_with, follows}
+use Rattle.nbd_laws.proofs.runs.ProfileLemmas.{at_base, known_at_base}
+use Rattle.nbd_laws.proofs.runs.RunLemmas.{core_end-ends_at, run_law, walk_of}
 use Rattle.nbd_laws.proofs.service.DueLemmas.{or_later}
 use Rattle.nbd_laws.proofs.service.InsideLemmas.{core_end}
-use Rattle.nbd_wire.specs.protocol.Reading.{with_message}
-use Rattle.nbd_wire.specs.protocol.Reports.{known_if as known_as}
+use Rattle.nbd_laws.proofs.service.ServiceLemmas.{same_reports}
 
 -- the count, where the message answers request k, or else what came later
 abbrev known_here : Option ℕ → ℕ → ℕ → Option ℕ → Option ℕ
@@ -14,14 +19,6 @@ abbrev known_open : Open → Core → ℕ → ℕ → Option ℕ → Option ℕ
 known_open (Busy m left) core n k later = known_here (request_of_reply core m) n k later
 known_open Idle core n k later = later
 known_open Loose core n k later = later
-
-first_is : (a : Option ℕ) (core : Core) (k : ℕ) (later : Option ℕ) → known_here a (length core.entries) k later ≡ first_known a core k later
-first_is None core k later = refl
-first_is (Some j) core k later = go (j == k)
-  where
-    go : (b : Bool) → (if b then Some (length core.entries) else later) ≡ known_as b core later
-    go true = refl
-    go false = refl
 
 -- what was known, with one more message, and then what comes later
 noted_then : (o : Option ℕ) (b : Bool) (n : ℕ) (later : Option ℕ) → or_later (noted o b n) later ≡ or_later o (if b then Some n else later)
@@ -67,9 +64,10 @@ known_led : {o : Both Open} {items : List Item} → Walk ⊥ o items → (reader
     (led reader items).known k ≡ or_later (reader.known k) (known_open (get o Server) reader.core (length reader.rests.server.since.entries) k (known_from reader.core k items))
 known_led {o} (ended c d) reader f all at k = later_none (reader.known k) ∙ sym (ap (or_later (reader.known k)) (open_idle (get o Server) reader.core (length reader.rests.server.since.entries) k None d))
 known_led (serving j w) reader f all at k = known_led w reader f all at k
-known_led {o} (opening Client m b left i e g w) reader f all at k =
+known_led {o} (opening Client m b left {items = items} i e g w) reader f all at k =
     known_led w (with_byte reader Client b) f.1 (each_with (BegunOpen reader.core) o Client (Busy m left) all (reader.core, f.0, at_once))
     (at_put reader.rests o Client (rest_with reader.core reader.rests.client b) (Busy m left) at (IsFilled-snoc reader.rests.client.bytes b)) k
+    ∙ sym (ap (λ a. or_later (reader.known k) (known_open (get o Server) reader.core (length reader.rests.server.since.entries) k (known_here a (length reader.core.entries) k (known_from reader.core k items)))) (asks_only reader.core m f.0.sided))
 known_led {o} (opening Server m b left {items = items} i e g w) reader f all at k =
     let core = reader.core in
     let later = known_from core k items in
@@ -77,8 +75,7 @@ known_led {o} (opening Server m b left {items = items} i e g w) reader f all at 
     (at_put reader.rests o Server (rest_with core reader.rests.server b) (Busy m left) at (IsFilled-snoc reader.rests.server.bytes b)) k
     ∙ ap (or_later (reader.known k))
     (ap (λ (c : Core). known_here (request_of_reply core m) (length c.entries) k later) (old-empty core reader.rests.server (subst (IsAt reader.rests.server) i (at Server)))
-    ∙ first_is (request_of_reply core m) core k later
-    ∙ sym (ap (λ x. known_open x core (length reader.rests.server.since.entries) k (first_known (request_of_reply core m) core k later)) i))
+    ∙ sym (ap (λ x. known_open x core (length reader.rests.server.since.entries) k (known_here (request_of_reply core m) (length core.entries) k later)) i))
 known_led {o} (middle Client m b left i g w) reader f all at k =
     known_led w (with_byte reader Client b) f (each_with (BegunOpen reader.core) o Client (Busy m left) all (subst (BegunOpen reader.core Client) i (all Client)))
     (at_put reader.rests o Client (rest_with reader.core reader.rests.client b) (Busy m left) at (IsFilled-snoc reader.rests.client.bytes b)) k
@@ -126,3 +123,37 @@ core_led reader (Byte s b ∷ items) = core_led (with_byte reader s b) items
 core_led reader (Starts s m ∷ items) = core_led reader items
 core_led reader (Completes s m ∷ items) = core_led (with_message reader s (get reader.rests s) m) items
 core_led reader (Serves e ∷ items) = core_led reader items
+
+-- what a core states, and what is known of its requests
+abbrev pub report_by : Core → (ℕ → Option ℕ) → Report
+report_by core known = record { export = export_in core.phase; asked = asked_list 0 core known core.entries }
+
+-- that does not hang on the profile
+stated_in : (q : Profile) (n : ℕ) (core : Core) (known : ℕ → Option ℕ) (es : List Operation) → asked_list n (with_profile q core) known es ≡ asked_list n core known es
+stated_in q n core known [] = refl
+stated_in q n core known (e ∷ es) = ap (λ l. asked_of (export_in core.phase) (known (suc n)) (core.shown (suc n)) (core.ended_at (suc n)) e ∷ l) (stated_in q (suc n) core known es)
+
+report_in : (q : Profile) (core : Core) (known : ℕ → Option ℕ) → report_by (with_profile q core) known ≡ report_by core known
+report_in q core known = λ i. record { export = export_in core.phase; asked = stated_in q 0 core known core.entries i }
+
+-- of the items of a run
+pub known_of_run : {profile : Profile} (items : List Item) → IsRunOf profile items → (k : ℕ) → (led (fresh_of profile) items).known k ≡ known_from (start_of profile).core k items
+known_of_run {profile} items run k = known_at_end (fresh_of profile) (walk_of run) refl (follows items (start_of profile) run.obeys) (elim [ Client ↦ tt | Server ↦ tt ]) (elim [ Client ↦ refl | Server ↦ refl ]) k refl
+
+-- of a run that leads a reader to its end
+led_report : {profile : Profile} (items : List Item) (end : Reader) → IsRunOf profile items → led (fresh_of profile) items ≡ end → report items ≡ report_by end.core end.known
+unfolding report
+led_report {profile} items end run leads =
+    let first : Core = (start_of profile).core in
+    let core_same : (ends_at start items).core ≡ with_profile Base end.core =
+    sym (at_base profile items) ∙ ap (with_profile Base) (sym (core_end-ends_at first [] items) ∙ sym (core_led (fresh_of profile) items) ∙ ap (λ (r : Reader). r.core) leads) in
+    let known : (k : ℕ) → known_count items k ≡ end.known k =
+    λ k. sym (known_at_base profile items k) ∙ sym (known_of_run items run k) ∙ ap (λ (r : Reader). r.known k) leads in
+    ap (λ known. report_by (ends_at start items).core known) (λ i k. known k i) ∙ ap (λ core. report_by core end.known) core_same ∙ report_in Base end.core end.known
+
+-- of any run with the pairs that the reader has read to their end
+pub read_report : {profile : Profile} (ps : List Pair) (end : Reader) → ArePairs ps → reads by_tests (fresh_of profile) ps ≡ Ok end → ((s : Side) → (get end.rests s).bytes ≡ []) →
+    (items : List Item) → IsRunOf profile items → pairs items ≡ ps → report items ≡ report_by end.core end.known
+read_report {profile} ps end lt e none items run has =
+    let r = run_law by_tests sound ps end lt e none in
+    same_reports profile items r.0 run r.1 (has ∙ sym r.2) ∙ led_report r.0 end r.1 r.3
