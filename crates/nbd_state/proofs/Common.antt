@@ -38,7 +38,7 @@ pub use Rattle.nbd_state.specs.declared.state.Chosen.{Chosen}
 pub use Rattle.nbd_state.specs.declared.state.Export.{Export}
 pub use Rattle.nbd_state.specs.declared.state.State.{State}
 pub use Rattle.nbd_state.specs.internal.Completing.{AddsUnanswered, IsTransmitting, TellsOne, is_allocation_told}
-pub use Rattle.nbd_state.specs.internal.Noting.{IsNotedWith}
+pub use Rattle.nbd_state.specs.internal.Noting.{HasTaken, IsNotedWith}
 pub use Rattle.nbd_state.specs.internal.Showing.{carried, operation_of_head}
 pub use Rattle.nbd_wire.specs.codec.Contents.{extent_of}
 pub use Rattle.nbd_wire.specs.declared.heads.transmission.RequestHead.{RequestHead}

@@ -155,10 +155,6 @@ pub on_one : {A E : Type 0} {P : A → Type 0} {C : Type 0} (r : Result A E) →
 on_one (Ok x) f p = f x p
 on_one (Err y) f p = tt
 
-pub on_both : {A E : Type 0} {P Q : A → Type 0} {C : Type 0} (r : Result A E) → ((x : A) → P x → Q x → C) → IfOk r P → IfOk r Q → OnOk r C
-on_both (Ok x) f p q = f x p q
-on_both (Err y) f p q = tt
-
 -- the count at a message's end is that of the exchanges
 pub counted_now : {x y : Asked} {m : Message} (e : Operation) (xs : List Exchange) {known : ℕ} {counts : Counts} → counts ≡ record { known = known; now = length xs } → IsNotedWith e m counts.now x y → IsNotedWith e m (length xs) x y
 counted_now {x} {y} {m} e xs q h = subst (λ n. IsNotedWith e m n x y) (ap (λ (k : Counts). k.now) q) h

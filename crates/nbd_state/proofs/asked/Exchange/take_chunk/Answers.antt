@@ -8,58 +8,34 @@ no_error : (extended : Bool) → is_error_chunk (status_kind extended) ≡ false
 no_error false = refl
 no_error true = refl
 
-pub returns-clause-shown : goal.returns-clause-shown
-returns-clause-shown c = weaken c.take.result (λ x shown export e s u fits z.
+pub returns-clause-taken : goal.returns-clause-taken
+returns-clause-taken c = weaken c.take.result (λ x taken export e s u fits z.
     let h = c.args.head.now in
     let bytes = c.args.payload.now in
-    shown export e (chunk_of h bytes) s u (chunk_ends h.flags h.kind h.cookie bytes h.at ∙ sym c.has-ends.ensures) (chunk_fails h.flags h.kind h.cookie bytes h.at ∙ sym c.is_error_chunk.ensures)
+    taken export e (chunk_of h bytes) s u (chunk_ends h.flags h.kind h.cookie bytes h.at ∙ sym c.has-ends.ensures) (chunk_fails h.flags h.kind h.cookie bytes h.at ∙ sym c.is_error_chunk.ensures)
     (chunk_gives h.flags h.kind h.cookie bytes e.offset h.at ∙ ap chunk_piece (sym c.in_ok-piece.ensures)) (ap (λ p. status_in (chunk_of h p)) (sym c.as_slice.ensures) ∙ c.in_default.ensures))
-    c.take.ensures.shown
+    c.take.ensures.taken
 
-pub returns-then-is_some-clause-shown : goal.returns-then-is_some-clause-shown
-returns-then-is_some-clause-shown c = weaken c.take_status.result (λ x shown export e s u fits z.
+pub returns-then-is_some-clause-taken : goal.returns-then-is_some-clause-taken
+returns-then-is_some-clause-taken c = weaken c.take_status.result (λ x taken export e s u fits z.
     let h = c.args.head.now in
     let bytes = c.args.payload.now in
     let told = c.in-Some.ensures in
     let status = ap (λ p. status_in (chunk_of h p)) (sym c.as_slice.ensures) ∙ told.1 in
     let some : is_some c.args.self.now.asked.known_at ≡ true = sym c.is_some.ensures ∙ c.if-is_some.true in
-    shown export e (chunk_of h bytes) (record { id = c.in-Some.id; extents = extents_of (is_some c.args.head.now.at) c.in-Some.descriptors.now }) s u some (chunk_ends h.flags h.kind h.cookie bytes h.at ∙ sym c.has-ends.ensures)
+    taken export e (chunk_of h bytes) (record { id = c.in-Some.id; extents = extents_of (is_some c.args.head.now.at) c.in-Some.descriptors.now }) s u some (chunk_ends h.flags h.kind h.cookie bytes h.at ∙ sym c.has-ends.ensures)
     (chunk_fails h.flags h.kind h.cookie bytes h.at ∙ ap is_error_chunk told.0 ∙ no_error (is_some h.at))
     (chunk_gives h.flags h.kind h.cookie bytes e.offset h.at ∙ ap chunk_piece (status_content (is_some h.at) h.kind bytes told.0)) status refl)
-    c.take_status.ensures.shown
+    c.take_status.ensures.taken
 
-pub returns-in-Some-clause-shown : goal.returns-in-Some-clause-shown
-returns-in-Some-clause-shown c = weaken c.take_first_status.result (λ x shown export e s u fits z.
+pub returns-in-Some-clause-taken : goal.returns-in-Some-clause-taken
+returns-in-Some-clause-taken c = weaken c.take_first_status.result (λ x taken export e s u fits z.
     let h = c.args.head.now in
     let bytes = c.args.payload.now in
     let told = c.in-Some.ensures in
     let status = ap (λ p. status_in (chunk_of h p)) (sym c.as_slice.ensures) ∙ told.1 in
     let status_with : Bool → Status = λ x. record { id = c.in-Some.id; extents = extents_of x c.in-Some.descriptors.now } in
     let none : is_some c.args.self.now.asked.known_at ≡ false = sym c.is_some.ensures ∙ c.if-is_some.false in
-    shown export e (chunk_of h bytes) s u fits none (chunk_ends h.flags h.kind h.cookie bytes h.at ∙ sym c.has-ends.ensures) (chunk_fails h.flags h.kind h.cookie bytes h.at ∙ ap is_error_chunk told.0 ∙ no_error (is_some h.at))
+    taken export e (chunk_of h bytes) s u fits none (chunk_ends h.flags h.kind h.cookie bytes h.at ∙ sym c.has-ends.ensures) (chunk_fails h.flags h.kind h.cookie bytes h.at ∙ ap is_error_chunk told.0 ∙ no_error (is_some h.at))
     (chunk_gives h.flags h.kind h.cookie bytes e.offset h.at ∙ ap chunk_piece (status_content (is_some h.at) h.kind bytes told.0)) (status ∙ ap (λ x. (status_with x) ∷ []) (sym c.is_some-in-Some.ensures)) (z ∙ ap (is_allocation_told e.contexts) status))
-    c.take_first_status.ensures.shown
-
-pub returns-clause-noted : goal.returns-clause-noted
-returns-clause-noted c = weaken c.take.result (λ x noted export e s u.
-    let h = c.args.head.now in
-    let bytes = c.args.payload.now in
-    noted export e (chunk_of h bytes) s u (chunk_ends h.flags h.kind h.cookie bytes h.at ∙ sym c.has-ends.ensures)
-    (chunk_gives h.flags h.kind h.cookie bytes e.offset h.at ∙ ap chunk_piece (sym c.in_ok-piece.ensures)))
-    c.take.ensures.noted
-
-pub returns-then-is_some-clause-noted : goal.returns-then-is_some-clause-noted
-returns-then-is_some-clause-noted c = weaken c.take_status.result (λ x noted export e s u.
-    let h = c.args.head.now in
-    let bytes = c.args.payload.now in
-    noted export e (chunk_of h bytes) s u (chunk_ends h.flags h.kind h.cookie bytes h.at ∙ sym c.has-ends.ensures)
-    (chunk_gives h.flags h.kind h.cookie bytes e.offset h.at ∙ ap chunk_piece (status_content (is_some h.at) h.kind bytes c.in-Some.ensures.0)))
-    c.take_status.ensures.noted
-
-pub returns-in-Some-clause-noted : goal.returns-in-Some-clause-noted
-returns-in-Some-clause-noted c = weaken c.take_first_status.result (λ x noted export e s u.
-    let h = c.args.head.now in
-    let bytes = c.args.payload.now in
-    noted export e (chunk_of h bytes) s u (sym c.is_some.ensures ∙ c.if-is_some.false) (chunk_ends h.flags h.kind h.cookie bytes h.at ∙ sym c.has-ends.ensures)
-    (chunk_gives h.flags h.kind h.cookie bytes e.offset h.at ∙ ap chunk_piece (status_content (is_some h.at) h.kind bytes c.in-Some.ensures.0)))
-    c.take_first_status.ensures.noted
+    c.take_first_status.ensures.taken
