@@ -36,13 +36,6 @@ one_more before text mid bytes after (no-line _) u f = next-line before bytes af
 one_more before text mid bytes after (next-line _ first with_it rest _ v g r) u f =
     rw (append_assoc first (line_feed ∷ rest) (bytes ++ line_feed ∷ [])) (next-line before first with_it (rest ++ (bytes ++ line_feed ∷ [])) after v g (one_more with_it rest mid bytes after r u f))
 
--- lines after lines
-pub more_lines : (before : Told) (text : List ℕ) (mid : Told) (more : List ℕ) (after : Told)
-    → AreContentsLines before text mid → AreContentsLines mid more after → AreContentsLines before (text ++ more) after
-more_lines before text mid more after (no-line _) r = r
-more_lines before text mid more after (next-line _ first with_it rest _ v g s) r =
-    rw (append_assoc first (line_feed ∷ rest) more) (next-line before first with_it (rest ++ more) after v g (more_lines with_it rest mid more after s r))
-
 -- where a text is lines, what stands behind some of its lines is the others
 pub rest_lines : (before : Told) (good : List ℕ) (mid : Told) (bad : List ℕ) (after : Told)
     → AreContentsLines before good mid → AreContentsLines before (good ++ bad) after → AreContentsLines mid bad after

@@ -38,12 +38,6 @@ kind_at-here f x v e = kind_at-first f x ∙ ap (λ o. first_of_two o (kind_befo
 pub kind_at-none : (f : ℕ → Option Kind) (x : ℕ) → f x ≡ None → kind_at f x ≡ kind_before f x
 kind_at-none f x e = kind_at-first f x ∙ ap (λ o. first_of_two o (kind_before f x)) e
 
--- no kind before the first range
-pub kind_at-nowhere : (f : ℕ → Option Kind) (x : ℕ) → ((k : ℕ) → k ≤ x → f k ≡ None) → kind_at f x ≡ None
-unfolding kind_at
-kind_at-nowhere f zero h = h 0 (omega arith)
-kind_at-nowhere f (suc x) h = rw (h (suc x) (omega arith)) (kind_at-nowhere f x (λ k l. h k (omega arith)))
-
 -- some kind from the first range on
 pub kind_at-some : (f : ℕ → Option Kind) (x : ℕ) → IsSome (f 0) → IsSome (kind_at f x)
 unfolding kind_at

@@ -22,20 +22,6 @@ from_next (q ∷ ps) (m ∷ cs) zero x p n e f =
     ∙ ap (λ k. if is_in (piece_offset p) (piece_size p) x then Some k else first_shown (with_counts (drop 0 ps) (drop 0 cs)) x) b
 from_next (q ∷ ps) (m ∷ cs) (suc i) x p n e f = from_next ps cs i x p n e f
 
--- there is no piece i
-pub from_past : (ps : List Piece) (cs : List ℕ) (i x : ℕ) → slice_get ps i ≡ None → shown_from ps cs i x ≡ None
-from_past [] [] zero x e = refl
-from_past [] [] (suc i) x e = refl
-from_past [] (m ∷ cs) zero x e = refl
-from_past [] (m ∷ cs) (suc i) x e = refl
-from_past (q ∷ ps) cs zero x e = absurd (cc)
-from_past (q ∷ ps) [] (suc i) x e = past (drop i ps)
-  where
-    past : (rest : List Piece) → first_shown (with_counts rest []) x ≡ None
-    past [] = refl
-    past (p ∷ rest) = refl
-from_past (q ∷ ps) (m ∷ cs) (suc i) x e = from_past ps cs i x e
-
 -- there is no count i
 pub from_end : (ps : List Piece) (cs : List ℕ) (i x : ℕ) → length cs ≤ i → shown_from ps cs i x ≡ None
 from_end ps [] i x l = past (drop i ps) i

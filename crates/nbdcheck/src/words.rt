@@ -202,7 +202,7 @@ const SCRIPT: Word = Word {
     excludes: &[],
 };
 
-// The commands that judge a session, and say what it leaves.
+// The commands that judge a session.
 const JUDGING: &[Told] = &[
     Told {
         name: "check",
@@ -225,6 +225,10 @@ const JUDGING: &[Told] = &[
             HINTS,
         ],
     },
+];
+
+// The commands that say how a session was served, and what it leaves.
+const FINDING: &[Told] = &[
     Told {
         name: "order",
         about: "Finds an order of service that explains a capture",
@@ -411,11 +415,16 @@ pub fn command<'a>(alloc: Global) -> Result<Command<'a>, AllocError> {
         .version("0.1.0")
         .subcommand_required(true);
     let command = with_commands(alloc, command, judging())?;
+    let command = with_commands(alloc, command, finding())?;
     with_commands(alloc, command, reading())
 }
 
 fn judging() -> &'static [Told] {
     JUDGING
+}
+
+fn finding() -> &'static [Told] {
+    FINDING
 }
 
 fn reading() -> &'static [Told] {
@@ -472,15 +481,14 @@ fn formed<'a>(argument: Arg<'a>, word: Word) -> Arg<'a> {
     match word.form {
         Form::File { is_required } => argument.required(is_required),
         Form::Flag => argument.long(word.name).action(ArgAction::SetTrue),
-        Form::Number => argument.long(word.name).value_name("NUMBER"),
-        Form::Choice { value, usual } => argument
-            .long(word.name)
-            .value_name(value)
-            .default_value(usual),
-        Form::Named { value } => argument.long(word.name).value_name(value),
-        Form::Many { value } => argument
-            .long(word.name)
-            .value_name(value)
-            .action(ArgAction::Append),
+        Form::Number => named(argument, word.name, "NUMBER"),
+        Form::Choice { value, usual } => named(argument, word.name, value).default_value(usual),
+        Form::Named { value } => named(argument, word.name, value),
+        Form::Many { value } => named(argument, word.name, value).action(ArgAction::Append),
     }
+}
+
+// An option of this name, and what help calls that which stands behind it.
+fn named<'a>(argument: Arg<'a>, name: &'a str, value: &'a str) -> Arg<'a> {
+    argument.long(name).value_name(value)
 }
