@@ -17,6 +17,10 @@ counted-le : (f : ℕ → Bool) (a n : ℕ) → counted f a n ≤ n
 counted-le f a zero = omega arith
 counted-le f a (suc n) = grind (arith, counted-le f (suc a) n)
 
+counted-all : (f : ℕ → Bool) (a n : ℕ) → ((x : ℕ) → a ≤ x → x < a + n → f x ≡ true) → counted f a n ≡ n
+counted-all f a zero h = refl
+counted-all f a (suc n) h = grind (arith, counted-all f (suc a) n (λ x l u. h x (omega arith) (omega arith)))
+
 all-counted : (f : ℕ → Bool) (a n : ℕ) → counted f a n ≡ n → (x : ℕ) → a ≤ x → x < a + n → f x ≡ true
 all-counted f a zero e x l u = absurd (omega arith)
 all-counted f a (suc n) e x l u = go (f a) refl (λ h l. all-counted f (suc a) n h x l (omega arith))
