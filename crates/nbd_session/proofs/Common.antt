@@ -43,11 +43,11 @@ pub use Rattle.nbd_session.specs.declared.fault.SessionFault.TheVariants.{Memory
 pub use Rattle.nbd_session.specs.declared.held.Held.{Held}
 pub use Rattle.nbd_session.specs.internal.Asking.{done_by, elsewhere_fault, finish_by, is_bad_disconnect, is_beyond, is_simple_forbidden, is_status, lacks_by}
 pub use Rattle.nbd_session.specs.internal.Counted.{decision_by_count, operation_counted, within}
-pub use Rattle.nbd_session.specs.internal.Expecting.{HasHeadLength, HasReplyLength, IsChunkOf, IsExpectedOf, IsNoReply, IsPlaceOf, IsPlaced, IsRefusedHead, IsReplyHead, IsSimpleOf, IsWholeHead, StandsIn, chunk_fault_by, chunk_fault_to, expected_decision, head_fault_by, is_too_long, last_fault_by, message_of, payload_length_of, place_answered, request_length, request_with, whole_head_by}
+pub use Rattle.nbd_session.specs.internal.Expecting.{HasHeadLength, HasReplyLength, IsChunkOf, IsExpectedOf, IsNoReply, IsPlaceOf, IsPlaced, IsRefusedHead, IsReplyHead, IsSimpleOf, IsWholeHead, StandsIn, chunk_fault_by, chunk_fault_to, expected_decision, head_fault_by, is_too_long, last_fault_by, message_of, payload_length_of, place_answered, request_length, request_with, success_fault_if, whole_head_by}
 pub use Rattle.nbd_session.specs.internal.Holdings.{holding_of, incoming_of, is_of, with_expected, with_incoming}
 pub use Rattle.nbd_session.specs.internal.Incoming.{is_nothing}
 pub use Rattle.nbd_session.specs.internal.Known.{IsCome, IsExpected, IsKnown, IsShort, awaited, decided, is_come_by, is_known_by}
-pub use Rattle.nbd_session.specs.internal.Leading.{answer_fields_of, answer_head_of, choice_head_of, chunk_fields, chunk_head_length, chunk_head_of, chunk_magic, greeting_flags_of, request_fields, request_head_length, request_head_of, request_magic, simple_head_of, some_if, unless_fault}
+pub use Rattle.nbd_session.specs.internal.Leading.{answer_fields_of, answer_head_of, choice_head_of, chunk_fields, chunk_head_length, chunk_head_of, chunk_magic, greeting_flags_of, request_fields, request_head_length, request_head_of, request_magic, simple_head_of, some_if}
 pub use Rattle.nbd_session.specs.internal.Standing.{AreStretchesOf, Holding, IsReadTo, count_at_server, held_pairs, rest_of, stretch_total, stretches_with, with_bytes, with_more}
 pub use Rattle.nbd_session.specs.internal.Steps.{AddsHeld, HoldsRun, IsExpecting, IsHeadRefused, IsKept, IsRefused, IsSame, IsShut, IsTaken, IsWhole, Knows, Stands, knows_by}
 pub use Rattle.nbd_session.specs.internal.Stopped.{IsStopped}
@@ -92,12 +92,12 @@ pub use Rattle.nbd_wire.specs.declared.profile.Profile.{Profile}
 pub use Rattle.nbd_wire.specs.declared.profile.Profile.TheVariants.{Base}
 pub use Rattle.nbd_wire.specs.protocol.Captures.{ArePairs, Pair, side_pairs}
 pub use Rattle.nbd_wire.specs.protocol.Contexts.{Context, Extent, Selection, Status, reach}
-pub use Rattle.nbd_wire.specs.protocol.Decisions.{Decision, abort_answer, answer, answered_fault, begins, choice, chunk_to, client_flags, export_answer, extended_chunk_to, extended_reply_by, greeting, operation_if, operation_of, reply, reply_by, reply_in, reply_with, request, request_by, simple_to}
+pub use Rattle.nbd_wire.specs.protocol.Decisions.{Decision, abort_answer, answer, begins, choice, chunk_to, client_flags, export_answer, extended_chunk_to, extended_reply_by, greeting, magic_fault, operation_if, operation_of, reply, reply_by, reply_in, reply_with, request, request_by, simple_to}
 pub use Rattle.nbd_wire.specs.protocol.Encoding.{AreBytes, enc}
 pub use Rattle.nbd_wire.specs.protocol.Entries.{Names, NamesWhole, whole}
 pub use Rattle.nbd_wire.specs.protocol.Flags.{has}
 pub use Rattle.nbd_wire.specs.protocol.Marks.{Byte, Completes, IsSided, IsTight, Item, MayFollow, Serves, Starts, block, completed_messages, of_side, pairs}
-pub use Rattle.nbd_wire.specs.protocol.Negotiation.{abort_fault, are_zeroes, client_flags_fault, earlier_to, export_fault, padding_fault, payload_fault, sets_more, success_fault}
+pub use Rattle.nbd_wire.specs.protocol.Negotiation.{abort_fault, answer_fault, answer_head_fault, answer_last_fault, are_zeroes, client_flags_fault, earlier_to, export_fault, padding_fault, payload_fault, sets_more, success_fault}
 pub use Rattle.nbd_wire.specs.protocol.Operations.{Exporting, Operation, asks_status, has_failed, is_error_chunk, is_failing, is_finished, is_proper, pieces}
 pub use Rattle.nbd_wire.specs.protocol.Options.{is_error, is_proper_option, takes_contexts}
 pub use Rattle.nbd_wire.specs.protocol.Payloads.{extents_of, failure_of, number_at, status_of}

@@ -1,12 +1,11 @@
 //! Options and option replies (proto.md, "Fixed newstyle negotiation", "Option types", "Option reply types").
 
-ghost use Rattle.std.specs.Prelude.{◌≡◌, ◌++◌, ℕ, List, IfErr, IfOk, Some, length};
+ghost use Rattle.std.specs.Prelude.{◌≡◌, ◌++◌, ℕ, List, IfErr, IfOk, None, Some, if◌then◌else◌, length};
 ghost use Rattle.nbd_wire.specs.protocol.Options.{is_error};
 ghost use Rattle.nbd_wire.specs.protocol.Contexts as contexts;
 ghost use Rattle.nbd_wire.specs.protocol.Payloads.{context_of, info_of, number_at};
-ghost use Rattle.nbd_wire.specs.protocol.Decisions.{abort_answer, answer, answered_fault, choice};
-ghost use Rattle.nbd_wire.specs.protocol.Negotiation.{abort_fault, ack_fault, answers_option, info_fault, earlier_to, is_bad_payload, is_followed, is_good_context, is_good_info, payload_fault, success_fault};
-ghost use Rattle.nbd_session.specs.internal.Leading.{answer_fields_of, unless_fault};
+ghost use Rattle.nbd_wire.specs.protocol.Decisions.{abort_answer, answer, choice};
+ghost use Rattle.nbd_wire.specs.protocol.Negotiation.{abort_fault, ack_fault, answer_fault, answers_option, info_fault, earlier_to, is_bad_payload, is_followed, is_good_context, is_good_info, payload_fault, success_fault};
 ghost use Rattle.nbd_session.specs.internal.Expecting.{IsPlaced, expected_decision};
 ghost use Rattle.nbd_wire.specs.protocol.States.{Core};
 ghost use Rattle.nbd_state.specs.Showing.{exporting_if};
@@ -43,9 +42,13 @@ pub(crate) fn abort_answer(head: &[u8]) -> Result<Expected, WireFault>
     ensures placed { IfOk result (λ expected. (core : Core) → IsPlaced core expected) }
     ensures refused { IfErr result (λ fault. (abort_answer head.now).head_fault ≡ Some fault) }
 {
-    let head = answer_to(options::ABORT, head)?;
-    may_end(head)?;
-    Ok(Expected::Answer { head, proper: None })
+    let Some(head) = answer_head(head) else {
+        return Err(WireFault::BadMagic);
+    };
+    match answer_fault(options::ABORT, head, abort_fault(head)) {
+        Some(fault) => Err(fault),
+        None => Ok(Expected::Answer { head, proper: None }),
+    }
 }
 
 /// The option reply to another option, as its head says, in a session that is held to this profile.
@@ -59,15 +62,20 @@ pub(crate) fn answer(profile: Profile, head: &[u8], chosen: Chosen) -> Result<Ex
         (answer profile chosen.option chosen.proper chosen.takes (exporting_if chosen.info) selection
         head.now).head_fault ≡ Some fault) }
 {
-    let head = answer_to(chosen.option, head)?;
-    if is_error(head.kind) {
-        return Ok(Expected::Answer { head, proper: None });
+    let Some(reply) = answer_head(head) else {
+        return Err(WireFault::BadMagic);
+    };
+    match answer_fault(chosen.option, reply, kind_fault(profile, reply, chosen)) {
+        Some(fault) => Err(fault),
+        None if is_error(reply.kind) => Ok(Expected::Answer {
+            head: reply,
+            proper: None,
+        }),
+        None => Ok(Expected::Answer {
+            head: reply,
+            proper: Some(chosen.proper),
+        }),
     }
-    may_succeed(profile, head, chosen)?;
-    Ok(Expected::Answer {
-        head,
-        proper: Some(chosen.proper),
-    })
 }
 
 /// The fault at the last byte of an option reply that is no error, with this payload, in a session that is held to this
@@ -91,57 +99,54 @@ pub(crate) fn payload_fault(
     None
 }
 
-/// The head of an option reply to this option.
-fn answer_to(option: u32, head: &[u8]) -> Result<AnswerHead, WireFault>
-    requires { length head.now ≡ 20 }
-    ensures { result ≡ unless_fault (answered_fault option (number_at 0 8 head.now) (number_at 8 4 head.now)
-        None) (answer_fields_of head.now) }
+/// An option reply has to name the option; `next` is the fault of its kind.
+fn answer_fault(asked: u32, head: AnswerHead, next: Option<WireFault>) -> Option<WireFault>
+    ensures { result ≡ answer_fault asked head.option next }
 {
-    let Some(head) = answer_head(head) else {
-        return Err(WireFault::BadMagic);
-    };
-    if head.option != option {
-        return Err(WireFault::WrongOption);
+    if head.option != asked {
+        Some(WireFault::WrongOption)
+    } else {
+        next
     }
-    Ok(head)
 }
 
 /// ABORT has to be answered by an error or by an empty ACK.
-fn may_end(head: AnswerHead) -> Result<(), WireFault>
-    ensures { result ≡ unless_fault (abort_fault head.kind head.length) tt }
+fn abort_fault(head: AnswerHead) -> Option<WireFault>
+    ensures { result ≡ abort_fault head.kind head.length }
 {
     if !is_error(head.kind) && head.kind != answers::ACK {
-        return Err(WireFault::BadReplyKind);
+        Some(WireFault::BadReplyKind)
+    } else {
+        ack_fault(head, None)
     }
-    is_empty_ack(head)
 }
 
-/// An ACK may not have a payload.
-fn is_empty_ack(head: AnswerHead) -> Result<(), WireFault>
-    ensures { result ≡ unless_fault (ack_fault head.kind head.length None) tt }
+/// An ACK may not have a payload; `next` is the fault of one that has none.
+fn ack_fault(head: AnswerHead, next: Option<WireFault>) -> Option<WireFault>
+    ensures { result ≡ ack_fault head.kind head.length next }
 {
     if head.kind == answers::ACK && head.length != 0 {
-        return Err(WireFault::BadReplyPayload);
+        Some(WireFault::BadReplyPayload)
+    } else {
+        next
     }
-    Ok(())
 }
 
-/// The fault at the head of an option reply that is no error, if it may not answer the option that was chosen.
-fn may_succeed(profile: Profile, head: AnswerHead, chosen: Chosen) -> Result<(), WireFault>
-    ensures { result ≡ unless_fault (success_fault profile chosen.option chosen.proper chosen.takes
-        (exporting_if chosen.info) head.kind head.length) tt }
+/// The fault at the head of an option reply, if it is no error and may not answer the option that was chosen.
+fn kind_fault(profile: Profile, head: AnswerHead, chosen: Chosen) -> Option<WireFault>
+    ensures { result ≡ (if is_error head.kind then None else success_fault profile chosen.option chosen.proper
+        chosen.takes (exporting_if chosen.info) head.kind head.length) }
 {
-    if !is_followed(profile, chosen.option) {
-        return Err(WireFault::OutOfProfile);
-    }
-    if !answers_option(chosen, head.kind) {
-        return Err(WireFault::BadReplyKind);
-    }
-    is_empty_ack(head)?;
-    if head.kind == answers::ACK {
-        may_acknowledge(chosen)
+    if is_error(head.kind) {
+        None
+    } else if !is_followed(profile, chosen.option) {
+        Some(WireFault::OutOfProfile)
+    } else if !answers_option(chosen, head.kind) {
+        Some(WireFault::BadReplyKind)
+    } else if head.kind == answers::ACK {
+        ack_fault(head, info_fault(chosen))
     } else {
-        Ok(())
+        None
     }
 }
 
@@ -173,17 +178,17 @@ fn answers_option(chosen: Chosen, kind: u32) -> bool
 
 /// An ACK to a proper INFO or GO has to come after an info on the export, and an ACK to GO needs an export within the
 /// limit.
-fn may_acknowledge(chosen: Chosen) -> Result<(), WireFault>
-    ensures { result ≡ unless_fault (info_fault chosen.option chosen.proper (exporting_if chosen.info)) tt }
+fn info_fault(chosen: Chosen) -> Option<WireFault>
+    ensures { result ≡ info_fault chosen.option chosen.proper (exporting_if chosen.info) }
 {
     match chosen.info {
         None if matches!(chosen.option, options::INFO | options::GO) && chosen.proper => {
-            Err(WireFault::MissingExportInfo)
+            Some(WireFault::MissingExportInfo)
         }
         Some(export) if chosen.option == options::GO && export.size > limits::EXPORT_SIZE => {
-            Err(WireFault::ExportTooLarge)
+            Some(WireFault::ExportTooLarge)
         }
-        _ => Ok(()),
+        _ => None,
     }
 }
 

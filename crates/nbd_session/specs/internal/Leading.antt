@@ -1,5 +1,5 @@
 -- What a side's bytes state once they are as long as a head.
-use Rattle.std.specs.Prelude.{ℕ, List, Bool, true, false, ◌==◌, ◌&&◌, Option, Some, None, Result, Ok, Err}
+use Rattle.std.specs.Prelude.{ℕ, List, Bool, true, false, ◌==◌, ◌&&◌, Option, Some, None}
 use Rattle.nbd_wire.specs.declared.magics.TheConstants.{GREETING_MAGIC, OPTION_MAGIC, ANSWER_MAGIC, REQUEST_MAGIC, SIMPLE_MAGIC, CHUNK_MAGIC, EXTENDED_REQUEST_MAGIC, EXTENDED_CHUNK_MAGIC}
 use Rattle.nbd_wire.specs.declared.heads.negotiation.ChoiceHead.{ChoiceHead}
 use Rattle.nbd_wire.specs.declared.heads.negotiation.AnswerHead.{AnswerHead}
@@ -7,17 +7,11 @@ use Rattle.nbd_wire.specs.declared.heads.transmission.RequestHead.{RequestHead}
 use Rattle.nbd_wire.specs.declared.heads.transmission.SimpleHead.{SimpleHead}
 use Rattle.nbd_wire.specs.declared.heads.transmission.ChunkHead.{ChunkHead}
 use Rattle.nbd_wire.specs.protocol.Payloads.{number_at}
-use Rattle.nbd_wire.specs.declared.fault.WireFault.{WireFault}
 
 -- this value where the condition holds
 abbrev pub some_if : {A : Type 0} → Bool → A → Option A
 some_if true value = Some value
 some_if false value = None
-
--- the fault, or this value where there is none
-abbrev pub unless_fault : {A : Type 0} → Option WireFault → A → Result A WireFault
-unless_fault (Some fault) value = Err fault
-unless_fault None value = Ok value
 
 -- a greeting's flags (proto.md, "Newstyle negotiation")
 abbrev pub greeting_flags_of : List ℕ → Option ℕ

@@ -1,21 +1,36 @@
-use Rattle.nbd_session.proofs.Common.{sym, ◌∙◌, err_from_is_err_and}
-use Rattle.nbd_session.proofs.expecting.OptionLemmas.{bad_success, err_parts, good_error, good_success, ok_parts, right_option}
+use Rattle.nbd_session.proofs.Common.{sym, ◌∙◌, ap, AnswerHead, true, false, answer_fault, answer_head_fault, exporting_if}
+use Rattle.nbd_session.proofs.expecting.OptionLemmas.{bad_answer, good_answer, no_answer}
+use Rattle.nbd_session.proofs.parsing.LeadingLemmas.{leading_answer-is}
 use Rattle.nbd_session.proofs.options.answer.Goals as goal
 
-pub returns-then-is_error-clause-expected : goal.returns-then-is_error-clause-expected
-returns-then-is_error-clause-expected c = λ now payload held.
-    let r = ok_parts _ _ c.in_ok-head.head (sym c.in_ok-head.was ∙ c.answer_to.ensures) in
-    good_error c.args.profile c.args.chosen.option c.args.chosen.proper c.args.chosen.takes _ c.args.head.now payload c.in_ok-head.head now c.requires r.0 r.1 (sym c.is_error.ensures ∙ c.if-is_error.true)
+pub returns-in_default-clause-refused : goal.returns-in_default-clause-refused
+returns-in_default-clause-refused c = λ selection.
+    let head = c.args.head.now in
+    no_answer head _ (sym c.in_default.is ∙ leading_answer-is head c.type_inv.head c.answer_head.result c.requires c.answer_head.ensures)
 
-pub returns-in_err-may_succeed-clause-refused : goal.returns-in_err-may_succeed-clause-refused
-returns-in_err-may_succeed-clause-refused c =
-    let r = ok_parts _ _ c.in_ok-head.head (sym c.in_ok-head.was ∙ c.answer_to.ensures) in
-    let f = err_parts _ _ c.in_err-may_succeed.field-0.0 (sym c.in_err-may_succeed.was ∙ c.may_succeed.ensures) in
-    let p = err_from_is_err_and c.from_residual-in_err-may_succeed.result c.from_residual-in_err-may_succeed.ensures.1 in
-    rw (p.1, p.2) (λ selection. bad_success c.args.profile c.args.chosen.option c.args.chosen.proper c.args.chosen.takes _ selection c.args.head.now c.in_ok-head.head c.in_err-may_succeed.field-0.0 r.0 r.1 (sym c.is_error.ensures ∙ c.if-is_error.false) f)
+pub returns-in-Some-answer_fault-clause-refused : goal.returns-in-Some-answer_fault-clause-refused
+returns-in-Some-answer_fault-clause-refused c = λ selection.
+    let head = c.args.head.now in
+    let h = c.in-Some.reply in
+    let chosen = c.args.chosen in
+    bad_answer head h (λ (h : AnswerHead). answer_head_fault c.args.profile chosen.option chosen.proper chosen.takes (exporting_if chosen.info) h.option h.kind h.length) c.in-Some-answer_fault.fault
+    (sym c.in-Some.is ∙ leading_answer-is head c.type_inv.head c.answer_head.result c.requires c.answer_head.ensures)
+    (ap (answer_fault chosen.option h.option) (sym c.kind_fault.ensures) ∙ sym c.answer_fault.ensures ∙ c.in-Some-answer_fault.is)
 
-pub returns-clause-expected : goal.returns-clause-expected
-returns-clause-expected c = λ now payload held.
-    let r = ok_parts _ _ c.in_ok-head.head (sym c.in_ok-head.was ∙ c.answer_to.ensures) in
-    let fits = ok_parts _ _ c.in_ok-may_succeed.field-0 (sym c.in_ok-may_succeed.was ∙ c.may_succeed.ensures) in
-    good_success c.args.profile c.args.chosen.option c.args.chosen.proper c.args.chosen.takes _ c.args.head.now payload c.in_ok-head.head now held c.requires (right_option c.args.chosen.option c.args.head.now c.in_ok-head.head r.0 r.1) r.0 r.1 (sym c.is_error.ensures ∙ c.if-is_error.false) fits.0
+pub returns-in-None-clause-expected : goal.returns-in-None-clause-expected
+returns-in-None-clause-expected c = λ now payload held.
+    let head = c.args.head.now in
+    let h = c.in-Some.reply in
+    let chosen = c.args.chosen in
+    good_answer head payload h c.requires (sym c.in-Some.is ∙ leading_answer-is head c.type_inv.head c.answer_head.result c.requires c.answer_head.ensures)
+    c.args.profile chosen.option chosen.proper chosen.takes true (exporting_if chosen.info) now held (sym c.is_error.ensures ∙ c.if-is_error.true)
+    (ap (answer_fault chosen.option h.option) (sym c.kind_fault.ensures) ∙ sym c.answer_fault.ensures ∙ c.in-None.is)
+
+pub returns-in-None-2-clause-expected : goal.returns-in-None-2-clause-expected
+returns-in-None-2-clause-expected c = λ now payload held.
+    let head = c.args.head.now in
+    let h = c.in-Some.reply in
+    let chosen = c.args.chosen in
+    good_answer head payload h c.requires (sym c.in-Some.is ∙ leading_answer-is head c.type_inv.head c.answer_head.result c.requires c.answer_head.ensures)
+    c.args.profile chosen.option chosen.proper chosen.takes false (exporting_if chosen.info) now held (sym c.is_error.ensures ∙ c.if-is_error.false)
+    (ap (answer_fault chosen.option h.option) (sym c.kind_fault.ensures) ∙ sym c.answer_fault.ensures ∙ c.in-None-2.is)
