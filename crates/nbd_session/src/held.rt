@@ -122,12 +122,13 @@ impl Held {
             length (incoming_of self.now side).head + result ≤ 32 }
     {
         let incoming = self.incoming(side);
-        match incoming.expected() {
-            Some(expected) => expected.payload_length() - incoming.payload().len(),
-            None => match head_length(&self.state, side, incoming.head()) {
-                Ok(length) => length - incoming.head().len(),
-                Err(_) => 1,
-            },
+        if let Some(expected) = incoming.expected() {
+            return expected.payload_length() - incoming.payload().len();
+        }
+        let head = incoming.head();
+        match head_length(&self.state, side, head) {
+            Ok(length) => length - head.len(),
+            Err(_) => 1,
         }
     }
 
@@ -187,10 +188,11 @@ impl Held {
         ensures refused { IfErr result (λ fault. IsHeadRefused self.old side fault) }
         ensures same { IfErr result (λ fault. self.new ≡ self.old) }
     {
-        if let Some(expected) = self.incoming(side).expected() {
+        let incoming = self.incoming(side);
+        if let Some(expected) = incoming.expected() {
             return Ok(Some(expected));
         }
-        let head = self.incoming(side).head();
+        let head = incoming.head();
         if head.len() < head_length(&self.state, side, head)? {
             return Ok(None);
         }
