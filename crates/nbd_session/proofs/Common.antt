@@ -16,7 +16,7 @@ pub use Rattle.nbd_laws.proofs.requests.LaidLemmas.{pieces-snoc}
 pub use Rattle.nbd_laws.proofs.requests.OutstandingLemmas.{find}
 pub use Rattle.nbd_laws.proofs.requests.SoundnessLemmas.{open_target, reports_are_sound}
 pub use Rattle.nbd_laws.proofs.runs.BegunLemmas.{AreBegun, BegunOpen, answers_same, asks_only, begun_completed}
-pub use Rattle.nbd_laws.proofs.runs.BlockLemmas.{IsCalm, byte_other, byte_same, marked_is_walk}
+pub use Rattle.nbd_laws.proofs.runs.BlockLemmas.{marked_is_walk, walk_is_marked}
 pub use Rattle.nbd_laws.proofs.runs.FollowLemmas.{Follows, HasEnd, IsBegun, IsSidedOpen, completes_later, each_with, follows}
 pub use Rattle.nbd_laws.proofs.runs.PlaceLemmas.{read_no_place}
 pub use Rattle.nbd_laws.proofs.runs.ProfileLemmas.{at_base, complete_with, known_at_base}

@@ -1,7 +1,6 @@
 //! The bytes of a side that belong to no completed message.
 
-ghost use Rattle.std.specs.Prelude.{◌≡◌, ◌+◌, ◌≤◌, ◌<◌, ◌^◌, ◌++◌, ◌⊎◌, length, IfOk, None, OnErr, OnOk, Some};
-ghost use Rattle.std.specs.Vec.{vec_capacity, vec_len};
+ghost use Rattle.std.specs.Prelude.{◌≡◌, ◌+◌, ◌≤◌, ◌<◌, ◌^◌, ◌++◌, length, IfOk, None, OnErr, OnOk, Some};
 ghost use Rattle.nbd_session.specs.Incoming.{incoming_with, nothing_come};
 ghost use Rattle.nbd_session.specs.Views.{stretches_of};
 ghost use Rattle.nbd_session.specs.internal.Incoming.{is_nothing};
@@ -142,8 +141,6 @@ fn append(
         (stretches_of stretches.old.items) side (length piece.now)) }
     ensures unchanged { OnErr result ((bytes.new.items ≡ bytes.old.items)
         × (stretches_of stretches.new.items ≡ stretches_of stretches.old.items)) }
-    ensures full { OnErr result ((vec_capacity bytes.old < vec_len bytes.old + length piece.now)
-        ⊎ (vec_capacity stretches.old ≤ vec_len stretches.old)) }
 {
     bytes.reserve(piece.len())?;
     note(stretches, side, piece.len() as u64)?;

@@ -1,7 +1,6 @@
 //! How the bytes of the two sides alternated.
 
-ghost use Rattle.std.specs.Prelude.{◌≡◌, ◌+◌, ◌-◌, ◌<◌, ◌≤◌, ◌^◌, length, OnErr, OnOk, slice_get};
-ghost use Rattle.std.specs.Vec.{vec_capacity, vec_len};
+ghost use Rattle.std.specs.Prelude.{◌≡◌, ◌+◌, ◌-◌, ◌<◌, ◌^◌, length, OnErr, OnOk, slice_get};
 ghost use Rattle.nbd_session.specs.Views.{stretches_of};
 ghost use Rattle.nbd_session.specs.internal.Holdings.{is_of};
 ghost use Rattle.nbd_session.specs.internal.Standing.{stretch_total, stretches_with};
@@ -22,7 +21,6 @@ pub(crate) fn note(stretches: &mut Vec<Stretch>, side: Side, count: u64) -> Resu
     ensures noted { OnOk result (stretches_of stretches.new.items ≡ stretches_with
         (stretches_of stretches.old.items) side count) }
     ensures unchanged { OnErr result (stretches_of stretches.new.items ≡ stretches_of stretches.old.items) }
-    ensures full { OnErr result (vec_capacity stretches.old ≤ vec_len stretches.old) }
 {
     if !is_last(stretches, side) {
         stretches.push(Stretch {

@@ -1,5 +1,5 @@
 -- The phase that a state's phase shows, and what is refused of a head there.
-use Rattle.nbd_session.proofs.Common.{◌≡◌, ℕ, List, length, refl, sym, ◌∙◌, ap, subst, Option, Some, None, Bool, true, false, WireFault, Side, Exporting, Core, Phase, Greet, Flags, Choosing, Naming, Aborting, Answering, Transmission, decision_by_count, operation_counted, Decision, export_answer, decision_with, is_proper_option, takes_contexts, exporting_if, Shows, export_shown_if, phase_shown, State, Chosen, Export, HasHeadLength, IsRefusedHead, whole_head_by}
+use Rattle.nbd_session.proofs.Common.{◌≡◌, ℕ, List, ◌++◌, length, refl, sym, ◌∙◌, ap, subst, Option, Some, None, Bool, true, false, WireFault, Side, Exporting, Core, Phase, Greet, Flags, Choosing, Naming, Aborting, Answering, Transmission, decision_by_count, operation_counted, Decision, export_answer, decision_with, is_proper_option, takes_contexts, exporting_if, Shows, export_shown_if, phase_shown, State, Chosen, Export, HasHeadLength, IsRefusedHead, whole_head_by, Expected, expected_decision}
 use Rattle.nbd_state.specs.declared.state.Phase as program_phase
 use Rattle.nbd_state.specs.declared.state.Phase.TheVariants as program
 
@@ -23,9 +23,15 @@ pub transmission_of : (p : Phase) (x : Export) → program.Transmission x ≡ ph
 transmission_of (Transmission export) x e = (export, refl)
 transmission_of p x e = absurd (cc)
 
+exporting-shown : (info : Option Exporting) → exporting_if (export_shown_if info) ≡ info
+exporting-shown None = refl
+exporting-shown (Some export) = refl
+
 pub answering_of : (p : Phase) (c : Chosen) → program.Answering c ≡ phase_shown p →
-    (option : ℕ) × (given : List ℕ) × (info : Option Exporting) × (p ≡ Answering option given info) × (c ≡ record { option = option; proper = is_proper_option option given; takes = takes_contexts option given; info = export_shown_if info })
-answering_of (Answering option given info) c e = (option, given, info, refl, (cc))
+    (option : ℕ) × (given : List ℕ) × (info : Option Exporting) × (p ≡ Answering option given info) × (c ≡ record { option = option; proper = is_proper_option option given; takes = takes_contexts option given; info = export_shown_if info }) × (exporting_if c.info ≡ info)
+answering_of (Answering option given info) c e =
+    let is : c ≡ record { option = option; proper = is_proper_option option given; takes = takes_contexts option given; info = export_shown_if info } = cc in
+    (option, given, info, refl, is, ap (λ (c : Chosen). exporting_if c.info) is ∙ exporting-shown info)
 answering_of p c e = absurd (cc)
 
 -- a head of a phase's message is refused where the judge's decision of it has the fault
@@ -38,9 +44,11 @@ refused_in counted core s head fault p d phase is len bad = record {
   fault_is = bad;
 }
 
-pub exporting-shown : (info : Option Exporting) → exporting_if (export_shown_if info) ≡ info
-exporting-shown None = refl
-exporting-shown (Some export) = refl
+-- and a whole head says what is expected where the judge decides so
+pub expected_in : (counted : ℕ) (core : Core) (s : Side) (head payload : List ℕ) (n : ℕ) (x : Expected) (p : Phase) (d : Decision) → core.phase ≡ p → decision_with p (operation_counted counted core) core s (head ++ payload) ≡ Some d → length head ≡ n →
+    d ≡ expected_decision core x n payload → decision_by_count counted core s (head ++ payload) ≡ Some (expected_decision core x (length head) payload)
+expected_in counted core s head payload n x p d phase is len good =
+    ap (λ q. decision_with q (operation_counted counted core) core s (head ++ payload)) phase ∙ is ∙ ap Some (good ∙ ap (λ m. expected_decision core x m payload) (sym len))
 
 pub naming_of : (p : Phase) → program.Naming ≡ phase_shown p → p ≡ Naming
 naming_of Naming e = refl

@@ -21,3 +21,7 @@ module _ (state : State) (core : Core) (export : Exporting) (cookie counted plac
 pub copied_at : (xs : List Exchange) (i : ℕ) (r : Option (Bor Exchange)) → IsItemAt xs i r → option_copied r ≡ slice_get xs i
 copied_at xs i None h = sym (slice_get_past xs i h.3)
 copied_at xs i (Some x) h = sym (slice_get_read xs (length xs) i x.now refl h.3.0 h.1)
+
+pub not_both : {A : Type 0} (o : Option A) (a : A) → o ≡ None → o ≡ Some a → ⊥
+not_both (Some b) a n s = absurd (cc)
+not_both None a n s = absurd (cc)

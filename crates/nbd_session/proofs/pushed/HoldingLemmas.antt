@@ -5,21 +5,21 @@ if-append : (c : Bool) (b : ℕ) (xs ys : List ℕ) → (if c then b ∷ (xs ++ 
 if-append true b xs ys = refl
 if-append false b xs ys = refl
 
-from-append : (s : Side) (ps qs : List Pair) → bytes_from s (ps ++ qs) ≡ bytes_from s ps ++ bytes_from s qs
+pub from-append : (s : Side) (ps qs : List Pair) → bytes_from s (ps ++ qs) ≡ bytes_from s ps ++ bytes_from s qs
 from-append s [] qs = refl
 from-append s (p ∷ ps) qs = ap (λ l. if same_side s p.from then p.byte ∷ l else l) (from-append s ps qs) ∙ if-append (same_side s p.from) p.byte (bytes_from s ps) (bytes_from s qs)
 
 -- a side's own bytes, and the other's
-from-sent_same : (s : Side) (bytes : List ℕ) → bytes_from s (side_pairs s bytes) ≡ bytes
+pub from-sent_same : (s : Side) (bytes : List ℕ) → bytes_from s (side_pairs s bytes) ≡ bytes
 from-sent_same s [] = refl
 from-sent_same Client (b ∷ bytes) = ap (λ l. b ∷ l) (from-sent_same Client bytes)
 from-sent_same Server (b ∷ bytes) = ap (λ l. b ∷ l) (from-sent_same Server bytes)
 
-from-client_sent : (bytes : List ℕ) → bytes_from Client (side_pairs Server bytes) ≡ []
+pub from-client_sent : (bytes : List ℕ) → bytes_from Client (side_pairs Server bytes) ≡ []
 from-client_sent [] = refl
 from-client_sent (b ∷ bytes) = from-client_sent bytes
 
-from-server_sent : (bytes : List ℕ) → bytes_from Server (side_pairs Client bytes) ≡ []
+pub from-server_sent : (bytes : List ℕ) → bytes_from Server (side_pairs Client bytes) ≡ []
 from-server_sent [] = refl
 from-server_sent (b ∷ bytes) = from-server_sent bytes
 

@@ -1,7 +1,8 @@
 -- The bytes that belong to no completed message are the rests, and more of them may come.
-use Rattle.nbd_session.proofs.Common.{◌≡◌, ℕ, List, [], ◌∷◌, ◌++◌, map, flat_map, refl, sym, ◌∙◌, ap, subst, Ok, Bool, true, false, if◌then◌else◌, append_assoc, append-nil, append_cancel_left, map-append, Profile, Entry, whole, Side, Client, Server, Message, enc, Item, Byte, Starts, Completes, Serves, IsSided, IsTight, MayFollow, block, completed_messages, of_side, pairs, Pair, ArePairs, side_pairs, bytes_of, bytes_from, IsRunBut, Obeys, after, side, same_side, start_of, by_tests, Bad, Both, Judge, Reader, More, Reading, Rest, Whole, fresh_of, get, rest_with, on_ok, put, reads, settle, AreHeld, IsSound, IsSoundAt, Open, Walk, ended, final, held_more, held_whole, kept_next, loose, middle, opening, serving, with_byte, IsCalm, byte_other, byte_same, marked_is_walk, with_more, fresh_held, run_but_law, AreBytesOf, byte_from, bytes_from-cons, run_bytes, sound}
+use Rattle.nbd_session.proofs.Common.{◌≡◌, ℕ, List, [], ◌∷◌, ◌++◌, map, refl, sym, ◌∙◌, ap, subst, Ok, Bool, true, false, if◌then◌else◌, append_assoc, append-nil, append_cancel_left, Profile, Side, Client, Server, Message, enc, Item, Byte, Starts, Completes, Serves, completed_messages, pairs, Pair, ArePairs, side_pairs, bytes_of, bytes_from, IsRunBut, Obeys, after, side, same_side, start_of, by_tests, Bad, Both, Judge, Reader, More, Reading, Rest, Whole, fresh_of, get, rest_with, on_ok, put, reads, settle, AreHeld, IsSound, IsSoundAt, Open, Walk, ended, final, held_more, held_whole, kept_next, loose, middle, opening, serving, with_byte, marked_is_walk, with_more, fresh_held, run_but_law, AreBytesOf, byte_from, bytes_from-cons, run_bytes, sound, IsNotBusy, walk_is_marked}
 use Rattle.nbd_wire.specs.protocol.Reading.{with_message}
 use Rattle.nbd_wire.specs.protocol.States.{State}
+use Rattle.nbd_session.proofs.pushed.HoldingLemmas.{from-append, from-client_sent, from-sent_same, from-server_sent}
 use Rattle.nbd_session.proofs.pushed.PushLemmas.{bytes_of-snoc}
 
 -- what a reader holds of a side's bytes
@@ -83,87 +84,19 @@ read_is_run_but {profile} ps end messages client server lt e m c d =
 abbrev pub bytes_items : Side → List ℕ → List Item
 bytes_items s bs = map (λ b. Byte s b) bs
 
-of_side-append : (s : Side) (xs ys : List Item) → of_side s (xs ++ ys) ≡ of_side s xs ++ of_side s ys
-of_side-append s [] ys = refl
-of_side-append s (Byte t x ∷ xs) ys = go (same_side s t) (of_side-append s xs ys)
-  where
-    go : (b : Bool) → of_side s (xs ++ ys) ≡ of_side s xs ++ of_side s ys →
-        (if b then Byte t x ∷ of_side s (xs ++ ys) else of_side s (xs ++ ys)) ≡ (if b then Byte t x ∷ of_side s xs else of_side s xs) ++ of_side s ys
-    go true ih = ap (λ l. Byte t x ∷ l) ih
-    go false ih = ih
-of_side-append s (Starts t m ∷ xs) ys = go (same_side s t) (of_side-append s xs ys)
-  where
-    go : (b : Bool) → of_side s (xs ++ ys) ≡ of_side s xs ++ of_side s ys →
-        (if b then Starts t m ∷ of_side s (xs ++ ys) else of_side s (xs ++ ys)) ≡ (if b then Starts t m ∷ of_side s xs else of_side s xs) ++ of_side s ys
-    go true ih = ap (λ l. Starts t m ∷ l) ih
-    go false ih = ih
-of_side-append s (Completes t m ∷ xs) ys = go (same_side s t) (of_side-append s xs ys)
-  where
-    go : (b : Bool) → of_side s (xs ++ ys) ≡ of_side s xs ++ of_side s ys →
-        (if b then Completes t m ∷ of_side s (xs ++ ys) else of_side s (xs ++ ys)) ≡ (if b then Completes t m ∷ of_side s xs else of_side s xs) ++ of_side s ys
-    go true ih = ap (λ l. Completes t m ∷ l) ih
-    go false ih = ih
-of_side-append s (Serves k ∷ xs) ys = of_side-append s xs ys
+-- a walk ends between two messages of a side: bytes may stand after it
+walk_bytes : {o : Both Open} (s : Side) (bs : List ℕ) → IsNotBusy (get o Client) → IsNotBusy (get o Server) → Walk (Unit {0}) o (bytes_items s bs)
+walk_bytes s [] c d = ended c d
+walk_bytes Client (b ∷ bs) c d = loose Client b tt c (walk_bytes Client bs tt d)
+walk_bytes Server (b ∷ bs) c d = loose Server b tt d (walk_bytes Server bs c tt)
 
-of_side_same : (s : Side) (bs : List ℕ) → of_side s (bytes_items s bs) ≡ bytes_items s bs
-of_side_same s [] = refl
-of_side_same s (b ∷ bs) = byte_same s b (bytes_items s bs) ∙ ap (λ l. Byte s b ∷ l) (of_side_same s bs)
-
-of_side_other : (s t : Side) (bs : List ℕ) → (t ≡ s → ⊥) → of_side s (bytes_items t bs) ≡ []
-of_side_other s t [] ne = refl
-of_side_other s t (b ∷ bs) ne = byte_other s t b (bytes_items t bs) ne ∙ of_side_other s t bs ne
-
--- a side with more bytes at its end
-sided_more : (s : Side) (items : List Item) (rest more : List ℕ) → IsSided s items rest → IsSided s (items ++ bytes_items s more) (rest ++ more)
-sided_more s items rest more d = record {
-  messages = d.messages;
-  blocks = of_side-append s items (bytes_items s more)
-      ∙ ap (λ l. of_side s items ++ l) (of_side_same s more)
-      ∙ ap (λ l. l ++ bytes_items s more) d.blocks
-      ∙ append_assoc (flat_map (block s) d.messages) (bytes_items s rest) (bytes_items s more)
-      ∙ ap (λ l. flat_map (block s) d.messages ++ l) (sym (map-append (λ b. Byte s b) rest more));
-}
-
-sided_still : (s t : Side) (items : List Item) (rest more : List ℕ) → (t ≡ s → ⊥) → IsSided s items rest → IsSided s (items ++ bytes_items t more) rest
-sided_still s t items rest more ne d = record {
-  messages = d.messages;
-  blocks = of_side-append s items (bytes_items t more) ∙ ap (λ l. of_side s items ++ l) (of_side_other s t more ne) ∙ append-nil (of_side s items) ∙ d.blocks;
-}
-
-sided_with : (t s : Side) (items : List Item) (rest more : List ℕ) → IsSided s items rest → IsSided s (items ++ bytes_items t more) (with_more t s more rest)
-sided_with Client Client items rest more d = sided_more Client items rest more d
-sided_with Client Server items rest more d = sided_still Server Client items rest more (λ q. (cc)) d
-sided_with Server Client items rest more d = sided_still Client Server items rest more (λ q. (cc)) d
-sided_with Server Server items rest more d = sided_more Server items rest more d
-
-byte_after : (x : Item) (s : Side) (b : ℕ) → IsCalm x → MayFollow x (Byte s b)
-byte_after (Starts t m) s b k = absurd k
-byte_after x s b k = tt
-
-starts_after : (x : Item) (s : Side) (m : Message) → IsCalm x → MayFollow x (Starts s m)
-starts_after (Starts t n) s m k = absurd k
-starts_after x s m k = tt
-
-serves_after : (x : Item) (i : Entry) → IsCalm x → MayFollow x (Serves i)
-serves_after (Starts t n) i k = absurd k
-serves_after x i k = tt
-
-bytes_tight : (x : Item) (s : Side) (bs : List ℕ) → IsCalm x → IsTight (x ∷ bytes_items s bs)
-bytes_tight x s [] k = tt
-bytes_tight x s (b ∷ bs) k = (byte_after x s b k, bytes_tight (Byte s b) s bs tt)
-
--- a walk does not end with a start: bytes may stand after it
-tight_more : {P : Type 0} {o : Both Open} {items : List Item} → Walk P o items → (x : Item) → IsCalm x → (s : Side) (bs : List ℕ) → IsTight (x ∷ (items ++ bytes_items s bs))
-tight_more (ended c d) x k s bs = bytes_tight x s bs k
-tight_more (serving j w) x k s bs = (serves_after x j k, tight_more w (Serves j) tt s bs)
-tight_more (opening t m b left i e f w) x k s bs = (starts_after x t m k, (refl, tight_more w (Byte t b) tt s bs))
-tight_more (middle t m b left i f w) x k s bs = (byte_after x t b k, tight_more w (Byte t b) tt s bs)
-tight_more (final t m b i w) x k s bs = (byte_after x t b k, (refl, tight_more w (Completes t m) tt s bs))
-tight_more (loose t b p i w) x k s bs = (byte_after x t b k, tight_more w (Byte t b) tt s bs)
-
-tight_tail : (x : Item) (items : List Item) → IsTight (x ∷ items) → IsTight items
-tight_tail x [] h = tt
-tight_tail x (y ∷ items) h = h.1
+walk_more : {o : Both Open} {items : List Item} → Walk (Unit {0}) o items → (s : Side) (bs : List ℕ) → Walk (Unit {0}) o (items ++ bytes_items s bs)
+walk_more (ended c d) s bs = walk_bytes s bs c d
+walk_more (serving j w) s bs = serving j (walk_more w s bs)
+walk_more (opening t m b left i e f w) s bs = opening t m b left i e f (walk_more w s bs)
+walk_more (middle t m b left i f w) s bs = middle t m b left i f (walk_more w s bs)
+walk_more (final t m b i w) s bs = final t m b i (walk_more w s bs)
+walk_more (loose t b p i w) s bs = loose t b p i (walk_more w s bs)
 
 obeys_bytes : (state : State) (s : Side) (bs : List ℕ) → Obeys state (bytes_items s bs)
 obeys_bytes state s [] = tt
@@ -191,22 +124,26 @@ completed_more [] s bs = completed_bytes s bs
 completed_more (Completes t m ∷ items) s bs = ap (λ l. m ∷ l) (completed_more items s bs)
 completed_more (item ∷ items) s bs = completed_more items s bs
 
--- bytes of a side may come at the end of a run but for loose bytes: they stand after that side's
-pub run_but_more : {profile : Profile} (items : List Item) (client server : List ℕ) (s : Side) (more : List ℕ) → IsRunBut profile items client server →
-    IsRunBut profile (items ++ bytes_items s more) (with_more s Client more client) (with_more s Server more server)
-run_but_more {profile} items client server s more run = record {
-  marked = record {
-    client_side = sided_with s Client items client more run.marked.client_side;
-    server_side = sided_with s Server items server more run.marked.server_side;
-    tight = tight_tail (Serves (whole 0)) (items ++ bytes_items s more) (tight_more (marked_is_walk {P = Unit {0}} items client server (λ f. tt) (λ f. tt) run.marked) (Serves (whole 0)) tt s more);
-  };
-  obeys = obeys_more items (start_of profile) s more run.obeys;
-}
+-- a side's bytes with more
+from_more : (u s : Side) (ps : List Pair) (held bytes more : List ℕ) → bytes_from u ps ≡ held ++ bytes → bytes_from u (ps ++ side_pairs s more) ≡ held ++ with_more s u more bytes
+from_more Client Client ps held bytes more e = from-append Client ps (side_pairs Client more) ∙ (λ i. e i ++ from-sent_same Client more i) ∙ append_assoc held bytes more
+from_more Client Server ps held bytes more e = from-append Client ps (side_pairs Server more) ∙ (λ i. e i ++ from-client_sent more i) ∙ append-nil (held ++ bytes)
+from_more Server Client ps held bytes more e = from-append Server ps (side_pairs Client more) ∙ (λ i. e i ++ from-server_sent more i) ∙ append-nil (held ++ bytes)
+from_more Server Server ps held bytes more e = from-append Server ps (side_pairs Server more) ∙ (λ i. e i ++ from-sent_same Server more i) ∙ append_assoc held bytes more
 
 -- what a reader read, and more bytes of a side, is a run but for the rests with these bytes
 pub more_is_run_but : {profile : Profile} (ps : List Pair) (end : Reader) (messages : List Message) (client server : List ℕ) (s : Side) (more : List ℕ) → ArePairs ps → reads by_tests (fresh_of profile) ps ≡ Ok end →
     end.messages ≡ messages → end.rests.client.bytes ≡ client → end.rests.server.bytes ≡ server →
     (items : List Item) × IsRunBut profile items (with_more s Client more client) (with_more s Server more server) × (pairs items ≡ ps ++ side_pairs s more) × (completed_messages items ≡ messages)
-more_is_run_but ps end messages client server s more lt e m c d =
+more_is_run_but {profile} ps end messages client server s more lt e m c d =
     let r = read_is_run_but ps end messages client server lt e m c d in
-    (r.0 ++ bytes_items s more, run_but_more r.0 client server s more r.1, pairs_more r.0 s more ∙ ap (λ l. l ++ side_pairs s more) r.2, completed_more r.0 s more ∙ r.3)
+    let items = r.0 ++ bytes_items s more in
+    let has : pairs items ≡ ps ++ side_pairs s more = pairs_more r.0 s more ∙ ap (λ l. l ++ side_pairs s more) r.2 in
+    let are : completed_messages items ≡ messages = completed_more r.0 s more ∙ r.3 in
+    let w = walk_is_marked (walk_more (marked_is_walk {P = Unit {0}} r.0 client server (λ f. tt) (λ f. tt) r.1.marked) s more) in
+    let run : IsRunBut profile items w.0 w.1 = record { marked = w.2; obeys = obeys_more r.0 (start_of profile) s more r.1.obeys } in
+    let b : AreBytesOf items w.0 w.1 = run_bytes items w.0 w.1 run in
+    let held : (u : Side) → bytes_from u ps ≡ bytes_of u messages ++ (get end.rests u).bytes = λ u. fresh_bytes profile by_tests sound u ps end lt e ∙ ap (λ ms. bytes_of u ms ++ (get end.rests u).bytes) m in
+    let cs : w.0 ≡ with_more s Client more client = loose_is Client items (ps ++ side_pairs s more) messages w.0 (with_more s Client more client) has are b.of_client (from_more Client s ps (bytes_of Client messages) client more (held Client ∙ ap (λ l. bytes_of Client messages ++ l) c)) in
+    let ss : w.1 ≡ with_more s Server more server = loose_is Server items (ps ++ side_pairs s more) messages w.1 (with_more s Server more server) has are b.of_server (from_more Server s ps (bytes_of Server messages) server more (held Server ∙ ap (λ l. bytes_of Server messages ++ l) d)) in
+    (items, subst (λ x. IsRunBut profile items x (with_more s Server more server)) cs (subst (λ y. IsRunBut profile items w.0 y) ss run), has, are)

@@ -1,16 +1,19 @@
 -- What was taken of a side is judged.
-use Rattle.nbd_session.proofs.Common.{◌≡◌, ℕ, List, [], length, refl, sym, ◌∙◌, subst, Option, Result, Ok, Err, IfErr, IsErrAnd, append-nil, arith, same_Some, Side, Client, Server, Memory, Wire, WireFault, Held, Core, by_tests, reading_by_decision, Bad, IsFilled, Reader, More, Reading, Rest, get, old_of, put, holding_of, incoming_of, Expected, bytes_come, IsKnown, decided, get-put_other, get-put_same, old-filled, same_or_not, Holding, IsReadTo, held_pairs, rest_of, with_bytes, HoldsRun, IsSame, IsShut, IsTaken, Stands, knows_by, IsStopped, extended}
+use Rattle.nbd_session.proofs.Common.{◌≡◌, ℕ, List, [], length, refl, sym, ◌∙◌, ap, subst, Option, Result, Ok, Err, IfErr, IsErrAnd, append-nil, arith, same_Some, Side, Client, Server, Memory, Wire, WireFault, Held, Core, by_tests, reading_by_decision, Bad, IsFilled, Reader, More, Reading, Rest, get, old_of, put, holding_of, incoming_of, Expected, bytes_come, IsKnown, decided, get-put_other, get-put_same, old-filled, same_or_not, Holding, IsReadTo, held_pairs, rest_of, with_bytes, HoldsRun, IsSame, IsShut, IsTaken, Stands, knows_by, IsStopped, extended}
 use Rattle.nbd_session.proofs.pushed.OpenByteLemmas.{more_is_run_but}
 use Rattle.nbd_session.proofs.judge.RefusalLemmas.{stopped}
 use Rattle.nbd_session.proofs.steps.HoldingLemmas.{rest_is}
 use Rattle.nbd_session.proofs.steps.StepLemmas.{more_taken, pairs-taken, pairs_taken, refused_taken}
 
-pub same_held : (held : Held) → IsSame held held
-same_held held = record {
-  adds = λ s. record { prefix = []; more = []; parts = refl; has_pairs = sym (append-nil (held_pairs (holding_of held))); has_messages = sym (append-nil held.messages.items) };
-  taken_is = refl;
-  profile_is = refl;
+pub same_holding : (held new : Held) → holding_of new ≡ holding_of held → new.taken ≡ held.taken → IsSame held new
+same_holding held new is taken = record {
+  adds = λ s. record { prefix = []; more = []; parts = refl; has_pairs = ap held_pairs is ∙ sym (append-nil (held_pairs (holding_of held))); has_messages = ap (λ (h : Holding). h.messages) is ∙ sym (append-nil held.messages.items) };
+  taken_is = taken;
+  profile_is = ap (λ (h : Holding). h.profile) is;
 }
+
+pub same_held : (held : Held) → IsSame held held
+same_held held = same_holding held held refl refl
 
 -- the judge's word on what was taken
 abbrev pub IsRead : (held : Held) (s : Side) → IsTaken held s → Reading → Type 0

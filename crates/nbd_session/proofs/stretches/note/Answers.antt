@@ -9,7 +9,6 @@ returns-then-not-is_last c = record {
       ∙ noted_after c.args.stretches.now.items c.args.side c.args.count
       (ap (λ l. is_of c.args.side (slice_get l (length l - 1))) (sym c.deref.ensures.value) ∙ sym c.is_last.ensures ∙ c.if-not-is_last.true);
   unchanged = tt;
-  full = tt;
 }
 
 pub overflow_add-last : goal.overflow_add-last
@@ -30,5 +29,4 @@ returns-in-Some c =
     record {
       noted = noted_grown c.args.stretches.now.items (vec_len c.args.stretches.now - 1) c.in-Some.last.now c.args.side c.args.count long c.in-Some.ensures.value same;
       unchanged = tt;
-      full = tt;
-    }
+        }

@@ -1,22 +1,34 @@
-use Rattle.nbd_session.proofs.Common.{◌≡◌, ◌∙◌, ◌++◌, ◌∷◌, [], ap, sym, refl, subst, Side, Answers, AreKnown, Shows, State, Whole, Held, IncomingView, message_of, holding_of, incoming_of, is_reply_to, noted, Stands}
+use Rattle.nbd_session.proofs.Common.{rules, ◌≡◌, ◌∙◌, ◌++◌, ◌∷◌, [], ap, sym, refl, subst, Side, Answers, AreKnown, Shows, State, Whole, Held, IncomingView, message_of, holding_of, incoming_of, is_reply_to, noted, Stands}
 use Rattle.nbd_session.proofs.steps.ConcludeLemmas.{answers_at, on_err, on_ok_both, whole_read}
 use Rattle.nbd_session.proofs.steps.EmptiedLemmas.{emptied_here, kept_other, mid_counted, mid_messages, mid_state, mid_stretches, mid_taken, new_holding, same_room, sides_same}
 use Rattle.nbd_session.proofs.steps.AcceptLemmas.{accepted_shut, accepted_stands, may_take, same_but_message}
-use Rattle.nbd_session.proofs.steps.SettleLemmas.{IsRead, shut_memory}
+use Rattle.nbd_session.proofs.steps.SettleLemmas.{IsRead, same_holding, shut_memory}
 use Rattle.nbd_session.proofs.held.Held.accept.Goals as goal
 
-pub returns-in_err-reserve-clause-shut : goal.returns-in_err-reserve-clause-shut
-returns-in_err-reserve-clause-shut c =
-    let held = c.args.self.now in
-    on_err c.from_residual.result _ (shut_memory held c.args.side c.requires.expecting.taken (record held { messages = c.reserve.new.self }) (same_room held (record held { messages = c.reserve.new.self }) refl c.reserve.ensures.items refl refl refl refl) refl)
-
-pub returns-in_err-payload-clause-shut : goal.returns-in_err-payload-clause-shut
-returns-in_err-payload-clause-shut c =
+pub returns-in_err-reserve : goal.returns-in_err-reserve
+returns-in_err-reserve c =
     let held = c.args.self.now in
     let roomy : Held = record held { messages = c.reserve.new.self } in
-    let same : c.take_payload.new.self ≡ roomy = c.in_err-payload.ensures.unchanged in
-    on_err c.from_residual-in_err-payload.result _ (shut_memory held c.args.side c.requires.expecting.taken c.take_payload.new.self
-    (ap holding_of same ∙ same_room held roomy refl c.reserve.ensures.items refl refl refl refl) (ap (λ (h : Held). h.taken) same))
+    let room = same_room held roomy refl c.reserve.ensures.items refl refl refl refl in
+    record {
+      stands = search rules;
+      same = same_holding held roomy room refl;
+      shut = on_err c.from_residual.result _ (shut_memory held c.args.side c.requires.expecting.taken roomy room refl);
+    }
+
+pub returns-in_err-payload : goal.returns-in_err-payload
+returns-in_err-payload c =
+    let held = c.args.self.now in
+    let new = c.take_payload.new.self in
+    let roomy : Held = record held { messages = c.reserve.new.self } in
+    let same : new ≡ roomy = c.in_err-payload.ensures.unchanged in
+    let room = ap holding_of same ∙ same_room held roomy refl c.reserve.ensures.items refl refl refl refl in
+    let taken = ap (λ (h : Held). h.taken) same in
+    record {
+      stands = search rules;
+      same = same_holding held new room taken;
+      shut = on_err c.from_residual-in_err-payload.result _ (shut_memory held c.args.side c.requires.expecting.taken new room taken);
+    }
 
 pub complete-completed-requires : goal.complete-completed-requires
 complete-completed-requires c =

@@ -1,4 +1,4 @@
-use Rattle.nbd_session.proofs.Common.{◌∙◌, arith, refl, subst, sym, holding_of, held_pairs, AddsHeld, IsRefused}
+use Rattle.nbd_session.proofs.Common.{◌∙◌, [], append-nil, arith, refl, subst, sym, holding_of, held_pairs, AddsHeld, IsRefused}
 use Rattle.nbd_session.proofs.judge.PieceLemmas.{added_then, refused_then}
 use Rattle.nbd_session.proofs.steps.SettleLemmas.{handed_on}
 use Rattle.nbd_session.proofs.held.Held.push.Goals as goal
@@ -26,3 +26,8 @@ loop-left-preserved c =
       refl,
       e.profile ∙ x.4,
     )
+
+pub loop-left-init : goal.loop-left-init
+loop-left-init c =
+    let held = c.args.self.now in
+    (c.requires.stands, c.requires.fits, record { prefix = []; more = []; parts = refl; has_pairs = sym (append-nil (held_pairs (holding_of held))); has_messages = sym (append-nil held.messages.items) }, refl, refl)

@@ -1,5 +1,6 @@
-use Rattle.nbd_session.proofs.Common.{◌∙◌, ap, sym, subst, Some, Held, Wire, with_expected, IsExpecting, IsSame, IsShut, Knows, Stands}
+use Rattle.nbd_session.proofs.Common.{◌∙◌, ap, sym, subst, None, Some, Held, Wire, with_expected, IsExpecting, IsSame, IsShut, Knows, Stands}
 use Rattle.nbd_session.proofs.steps.ConcludeLemmas.{head_missing, head_shut, is_expecting, same_expected}
+use Rattle.nbd_session.proofs.steps.SettleLemmas.{same_held}
 use Rattle.nbd_session.proofs.held.Held.settle.Goals as goal
 
 pub conclude-requires : goal.conclude-requires
@@ -20,3 +21,11 @@ pub returns-in-Ok-Some-clause-same : goal.returns-in-Ok-Some-clause-same
 returns-in-Ok-Some-clause-same c =
     same_expected c.args.self.now c.conclude.new.self c.args.side (Some c.in-Ok-Some.expected)
     (subst (λ h. IsSame h c.conclude.new.self) (c.in-Ok-Some.ensures.kept ∙ ap (with_expected c.args.self.now c.args.side) c.in-Ok-Some.field-0-is) c.conclude.ensures.same)
+
+pub returns-in-Ok-None-clause-same : goal.returns-in-Ok-None-clause-same
+returns-in-Ok-None-clause-same c =
+    same_expected c.args.self.now c.expect.new.self c.args.side None
+    (subst (λ h. IsSame h c.expect.new.self) (c.in-Ok-None.ensures.kept ∙ ap (with_expected c.args.self.now c.args.side) c.in-Ok-None.field-0-is) (same_held c.expect.new.self))
+
+pub returns-in-Err-clause-same : goal.returns-in-Err-clause-same
+returns-in-Err-clause-same c = subst (IsSame c.args.self.now) (sym c.in-Err.ensures.same) (same_held c.args.self.now)
