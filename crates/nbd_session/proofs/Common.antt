@@ -9,25 +9,20 @@ pub use Rattle.nbd_laws.proofs.judge.SameLemmas.{same_message}
 pub use Rattle.nbd_laws.proofs.judge.SoundLemmas.{kept_later, sound, turn_of_reading}
 pub use Rattle.nbd_laws.proofs.judge.SteadyLemmas.{IsDeciding, IsExtendedOrNot, as_chunk, as_extended, as_neither, as_other, as_simple, begun_true, bytes_are_begun, deciding, entry-append, extended_or_not, is_chunk_reply, is_extended_reply, is_no_extended, is_no_reply, is_simple_reply, long_reply, no_chunk, short_reply}
 pub use Rattle.nbd_laws.proofs.judge.TidyLemmas.{failure_kind, no_content, none_content, status_content}
-pub use Rattle.nbd_laws.proofs.reading.MarkLemmas.{AreInStep, InStep, IsRead, in_step_completed, in_step_sided, in_step_with, within_middle, within_opening}
-pub use Rattle.nbd_laws.proofs.reading.ReaderLemmas.{AreHeld, Busy, Idle, IsFilled-snoc, IsNotBusy, IsSound, IsSoundAt, Kept, Later, Later-trans, Loose, Open, Walk, at_once, behind, ended, final, get-put_other, get-put_same, held_more, held_whole, kept, kept_next, led, loose, middle, none_held, old-empty, old-filled, opening, put_both, reached_of, reads_held, same_or_not, serving, some_held, with_byte}
+pub use Rattle.nbd_laws.proofs.reading.MarkLemmas.{IsRead}
+pub use Rattle.nbd_laws.proofs.reading.ReaderLemmas.{AreHeld, IsFilled-snoc, IsNotBusy, IsSound, IsSoundAt, Kept, Later, Later-trans, Open, Walk, at_once, behind, ended, final, get-put_other, get-put_same, held_more, held_whole, kept, kept_next, loose, middle, none_held, old-empty, old-filled, opening, reached_of, reads_held, same_or_not, serving, some_held, with_byte}
 pub use Rattle.nbd_laws.proofs.requests.ContextLemmas.{asked_at}
 pub use Rattle.nbd_laws.proofs.requests.LaidLemmas.{pieces-snoc}
 pub use Rattle.nbd_laws.proofs.requests.OutstandingLemmas.{find}
 pub use Rattle.nbd_laws.proofs.requests.SoundnessLemmas.{open_target, reports_are_sound}
-pub use Rattle.nbd_laws.proofs.runs.BegunLemmas.{AreBegun, BegunOpen, answers_same, asks_only, begun_completed}
+pub use Rattle.nbd_laws.proofs.runs.BegunLemmas.{asks_only}
 pub use Rattle.nbd_laws.proofs.runs.BlockLemmas.{marked_is_walk, walk_is_marked}
-pub use Rattle.nbd_laws.proofs.runs.FollowLemmas.{Follows, HasEnd, IsBegun, IsSidedOpen, completes_later, each_with, follows}
+pub use Rattle.nbd_laws.proofs.runs.FollowLemmas.{IsBegun}
 pub use Rattle.nbd_laws.proofs.runs.PlaceLemmas.{read_no_place}
-pub use Rattle.nbd_laws.proofs.runs.ProfileLemmas.{at_base, complete_with, known_at_base}
 pub use Rattle.nbd_laws.proofs.runs.RunByteLemmas.{AreBytesOf, byte_from, bytes_from-cons, run_bytes}
-pub use Rattle.nbd_laws.proofs.runs.RunLemmas.{fresh_held, marks_law, run_but_law, run_law, walk_of}
-pub use Rattle.nbd_laws.proofs.runs.TraceLemmas.{Guess, IsCanonical, IsTrace, enc-long, not_empty, trace}
-pub use Rattle.nbd_laws.proofs.service.EntryLemmas.{Names-push_cases, NamesWhole-left, NamesWhole-push}
-pub use Rattle.nbd_laws.proofs.service.ServiceLemmas.{same_reports}
+pub use Rattle.nbd_laws.proofs.runs.RunLemmas.{fresh_held, marks_law, run_but_law}
 pub use Rattle.nbd_laws.specs.Awaited.{awaited_length, awaited_length_by}
 pub use Rattle.nbd_laws.specs.Bytes.{bytes_from, bytes_of, of_two}
-pub use Rattle.nbd_laws.specs.Profiles.{with_profile}
 pub use Rattle.nbd_laws.specs.Reached.{IsReached}
 pub use Rattle.nbd_laws.specs.Selecting.{AreAskedWith}
 pub use Rattle.nbd_laws.specs.Soundness.{IsSoundReport}
@@ -73,9 +68,8 @@ pub use Rattle.nbd_wire.proofs.NumberLemmas.{AreBytes-from_places, number_at-lt}
 pub use Rattle.nbd_wire.specs.codec.Contents.{extent_of, piece_of}
 pub use Rattle.nbd_wire.specs.codec.Heads.{IsAnswerHead, IsChoiceHead, IsChunkHead, IsClientFlagsHead, IsExportHead, IsExtendedChunkHead, IsExtendedRequestHead, IsGreetingHead, IsRequestHead, IsSimpleHead}
 pub use Rattle.nbd_wire.specs.codec.Reads.{Reads}
-pub use Rattle.nbd_wire.specs.declared.entry.Entry.{Entry}
 pub use Rattle.nbd_wire.specs.declared.fault.WireFault.{WireFault}
-pub use Rattle.nbd_wire.specs.declared.fault.WireFault.TheVariants.{BadChunk, BadClientFlags, BadContent, BadDisconnect, BadExport, BadMagic, ExportTooLarge, NotFixedNewstyle, OutOfProfile, SimpleForbidden, Unfinished, UnknownCookie, WrongOption}
+pub use Rattle.nbd_wire.specs.declared.fault.WireFault.TheVariants.{BadChunk, BadClientFlags, BadContent, BadDisconnect, BadExport, BadMagic, ExportTooLarge, NotFixedNewstyle, OutOfProfile, SimpleForbidden, Unfinished, UnknownCookie}
 pub use Rattle.nbd_wire.specs.declared.heads.negotiation.AnswerHead.{AnswerHead}
 pub use Rattle.nbd_wire.specs.declared.heads.negotiation.ChoiceHead.{ChoiceHead}
 pub use Rattle.nbd_wire.specs.declared.heads.transmission.ChunkHead.{ChunkHead}
@@ -89,14 +83,13 @@ pub use Rattle.nbd_wire.specs.declared.message.Side.TheVariants.{Client, Server}
 pub use Rattle.nbd_wire.specs.declared.payloads.Failure.{Failure}
 pub use Rattle.nbd_wire.specs.declared.payloads.Piece.{Piece}
 pub use Rattle.nbd_wire.specs.declared.profile.Profile.{Profile}
-pub use Rattle.nbd_wire.specs.declared.profile.Profile.TheVariants.{Base}
 pub use Rattle.nbd_wire.specs.protocol.Captures.{ArePairs, Pair, side_pairs}
-pub use Rattle.nbd_wire.specs.protocol.Contexts.{Context, Extent, Selection, Status, reach}
+pub use Rattle.nbd_wire.specs.protocol.Contexts.{Context, Extent, Status, reach}
 pub use Rattle.nbd_wire.specs.protocol.Decisions.{Decision, abort_answer, answer, begins, choice, chunk_to, client_flags, export_answer, extended_chunk_to, extended_reply_by, greeting, magic_fault, operation_if, operation_of, reply, reply_by, reply_in, reply_with, request, request_by, simple_to}
 pub use Rattle.nbd_wire.specs.protocol.Encoding.{AreBytes, enc}
-pub use Rattle.nbd_wire.specs.protocol.Entries.{Names, NamesWhole, whole}
+pub use Rattle.nbd_wire.specs.protocol.Entries.{whole}
 pub use Rattle.nbd_wire.specs.protocol.Flags.{has}
-pub use Rattle.nbd_wire.specs.protocol.Marks.{Byte, Completes, IsSided, IsTight, Item, MayFollow, Serves, Starts, block, completed_messages, of_side, pairs}
+pub use Rattle.nbd_wire.specs.protocol.Marks.{Byte, Completes, Item, Serves, Starts, completed_messages, pairs}
 pub use Rattle.nbd_wire.specs.protocol.Negotiation.{abort_fault, answer_fault, answer_head_fault, answer_last_fault, are_zeroes, client_flags_fault, earlier_to, export_fault, padding_fault, payload_fault, sets_more, success_fault}
 pub use Rattle.nbd_wire.specs.protocol.Operations.{Exporting, Operation, asks_status, has_failed, is_error_chunk, is_failing, is_finished, is_proper, pieces}
 pub use Rattle.nbd_wire.specs.protocol.Options.{is_error, is_proper_option, takes_contexts}
@@ -105,18 +98,18 @@ unfoldable pub use Rattle.nbd_wire.specs.protocol.Payloads.{content_of}
 pub use Rattle.nbd_wire.specs.protocol.Pieces.{chunk_piece, piece_size}
 pub use Rattle.nbd_wire.specs.protocol.Places.{IsUnderWayOf}
 pub use Rattle.nbd_wire.specs.protocol.Reading.{Bad, Both, IsFilled, Judge, More, Reader, Reading, Rest, Whole, by_tests, decision, decision_with, fresh_of, get, last_reading, old_of, on_ok, put, read_by, reading_by_decision, reads, request_unless, rest_with, settle, step}
-pub use Rattle.nbd_wire.specs.protocol.Reports.{Report, asked_list, asked_of, known_count, known_from}
+pub use Rattle.nbd_wire.specs.protocol.Reports.{asked_list, asked_of}
 unfoldable pub use Rattle.nbd_wire.specs.protocol.Reports.{report}
-pub use Rattle.nbd_wire.specs.protocol.Rules.{IsRunBut, IsRunOf, MayComplete, Obeys, after, complete, cookie_of, ends_at, is_reply_to, is_this, noted, request_of_reply}
+pub use Rattle.nbd_wire.specs.protocol.Rules.{IsRunBut, IsRunOf, MayComplete, Obeys, after, complete, cookie_of, is_reply_to, is_this, noted}
 pub use Rattle.nbd_wire.specs.protocol.Sendable.{IsSendable}
 pub use Rattle.nbd_wire.specs.protocol.Sides.{same_side, side}
-pub use Rattle.nbd_wire.specs.protocol.States.{Aborting, Answering, Choosing, Core, Ended, Flags, Greet, Naming, Phase, Shown, Transmission, export_in, in_force, operation, start, start_of, target_from, with_reply}
+pub use Rattle.nbd_wire.specs.protocol.States.{Aborting, Answering, Choosing, Core, Ended, Flags, Greet, Naming, Phase, Shown, Transmission, export_in, in_force, operation, start_of, target_from, with_reply}
 unfoldable pub use Rattle.nbd_wire.specs.protocol.States.{target}
 pub use Rattle.nbd_wire.specs.protocol.Statuses.{but_last, is_settled, status_in}
 pub use Rattle.nbd_wire.specs.protocol.Tests.{fault_if}
 pub use Rattle.nbd_wire.specs.protocol.Transmission.{chunk_fault, chunk_head_fault, content_fault, cookie_fault, done_fault, extended_head_fault, finish_fault, fits_failure, fits_read, fits_status, is_none_yet, offset_fault, read_as, simple_fault, simple_last_fault, simple_payload_length, status_if, status_kind, total}
 pub use Rattle.nbd_wire.specs.protocol.Within.{CompletesExactlyOf, IsOfNoRunOf}
-pub use Rattle.std.proofs.Common.{Bool, Bor, Err, Fits, IfErr, IfOk, IsErrAnd, List, None, Ok, OnErr, OnOk, Option, Result, Some, [], add-one, add_assoc, ap, append-nil, append_assoc, arith, drop, eq-eqb, eq-or-lt_of_le, eqb-true, false, flat_map, fold, get_or, if◌then◌else◌, inl, inr, is_some, leb-false, leb-true, length, length-append, length-drop, ltb-false, ltb-true, map, min, nat_le, nat_lt, not, refl, rules, slice_get, slice_index_or, slice_set, subst, suc, sym, take, true, w8, zero, zero-add, ℕ, ◌&&◌, ◌++◌, ◌+◌, ◌-◌, ◌<◌, ◌==◌, ◌||◌, ◌∙◌, ◌∷◌, ◌≡◌, ◌≤◌, ◌⊎◌}
+pub use Rattle.std.proofs.Common.{Bool, Bor, Err, Fits, IfErr, IfOk, IsErrAnd, List, None, Ok, OnErr, OnOk, Option, Result, Some, [], add-one, add_assoc, ap, append-nil, append_assoc, arith, drop, eq-eqb, eqb-true, false, fold, get_or, if◌then◌else◌, inl, inr, is_some, leb-false, leb-true, length, length-append, length-drop, ltb-false, ltb-true, map, min, nat_le, nat_lt, not, refl, rules, slice_get, slice_index_or, slice_set, subst, suc, sym, take, true, w8, zero, zero-add, ℕ, ◌&&◌, ◌++◌, ◌+◌, ◌-◌, ◌<◌, ◌==◌, ◌||◌, ◌∙◌, ◌∷◌, ◌≡◌, ◌≤◌, ◌⊎◌}
 pub use Rattle.std.proofs.Math.ListN.{get_or-map}
 pub use Rattle.std.proofs.Math.Seq.{drop-append_seam, set-append_seam, take-add, take-length}
 pub use Rattle.std.proofs.lemmas.Bool.{and_from, and_parts, false≢true, le-leb, le-ltb, lt-leb, lt-ltb, ne_eqb}
@@ -125,7 +118,6 @@ pub use Rattle.std.proofs.lemmas.Iterator.Search.{all_from_yields_List}
 pub use Rattle.std.proofs.lemmas.List.{append_cancel_left, drop-append-le, length-map, length-take-le, map-append, map-set, take-append-drop, take-append-le}
 pub use Rattle.std.proofs.lemmas.List.Sums.{sum_by-cons}
 pub use Rattle.std.proofs.lemmas.Option.{same_Some, slice_get-get_or, slice_get_past, slice_get_read}
-pub use Rattle.std.proofs.lemmas.Result.{err_from_is_err_and}
 pub use Rattle.std.proofs.lemmas.Slice.{take-put_mid}
 pub use Rattle.std.specs.List.{list_all}
 pub use Rattle.std.specs.Option.{option_copied}

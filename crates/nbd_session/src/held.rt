@@ -6,7 +6,7 @@ ghost use Rattle.nbd_session.specs.Incoming.{incoming_with, nothing_come};
 ghost use Rattle.nbd_session.specs.internal.Holdings.{holding_of, incoming_of, with_expected, with_incoming};
 ghost use Rattle.nbd_session.specs.Views.{stretches_of, session_view};
 ghost use Rattle.nbd_session.specs.internal.Known.{awaited};
-ghost use Rattle.nbd_session.specs.Sessions.{IsReported, fault_at_end, fault_of};
+ghost use Rattle.nbd_session.specs.Sessions.{fault_at_end};
 ghost use Rattle.nbd_state.specs.Shows.{Shows};
 ghost use Rattle.nbd_session.specs.internal.Standing.{count_at_server, rest_of, stretch_total, stretches_with};
 ghost use Rattle.nbd_session.specs.internal.Steps.{AddsHeld, IsExpecting, IsHeadRefused, IsRefused, IsSame, IsShut, IsTaken, IsWhole, Knows, Stands};
@@ -18,7 +18,7 @@ use crate::expected::Expected;
 use crate::fault::SessionFault;
 use crate::incoming::Incoming;
 use crate::stretches::Stretch;
-use nbd_state::{State, Transcript};
+use nbd_state::State;
 use nbd_wire::{Bytes, Message, Profile, Side, WireFault};
 use std::alloc::{AllocError, Global};
 
@@ -263,19 +263,16 @@ impl Held {
         }
     }
 
-    /// What the session states; `Unfinished` if a side has bytes after its messages.
-    pub(crate) fn finish(self) -> Result<Transcript, SessionFault>
-        requires { Stands self }
-        ensures report { IfOk result (IsReported (session_view self None)) }
-        ensures fault { fault_of result ≡ fault_at_end (session_view self None) }
+    /// `Unfinished`, if a side has bytes after its messages.
+    pub(crate) fn open_end(&self) -> Option<SessionFault>
+        requires { Stands self.now }
+        ensures { result ≡ fault_at_end (session_view self.now None) }
     {
         if self.client.is_empty() && self.server.is_empty() {
-            Ok(self.state.transcript())
-        } else {
-            Err(SessionFault::Wire {
-                at: self.taken,
-                fault: WireFault::Unfinished,
-            })
+            return None;
         }
+        let at = self.taken;
+        let fault = WireFault::Unfinished;
+        Some(SessionFault::Wire { at, fault })
     }
 }

@@ -115,9 +115,19 @@ impl Session {
         ensures fault { fault_of result ≡ fault_at_end self }
         ensures wire { IfErr result (λ fault. EndsIn self fault) }
     {
-        match self.closed {
+        match self.fault() {
             Some(fault) => Err(fault),
-            None => self.held.finish(),
+            None => Ok(self.held.state.transcript()),
+        }
+    }
+
+    // The fault of a session that is to end.
+    fn fault(&self) -> Option<SessionFault>
+        ensures { result ≡ fault_at_end self.now }
+    {
+        match self.closed {
+            None => self.held.open_end(),
+            closed => closed,
         }
     }
 }

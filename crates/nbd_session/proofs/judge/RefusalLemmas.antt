@@ -1,5 +1,5 @@
 -- What a refusal says of the runs with a session's bytes.
-use Rattle.nbd_session.proofs.Common.{◌≡◌, ℕ, ◌+◌, ◌<◌, ◌≤◌, List, [], ◌∷◌, ◌++◌, length, refl, sym, ◌∙◌, ap, subst, arith, append_assoc, append-nil, length-append, inl, inr, Option, Some, None, Result, Ok, Err, IfErr, append_cancel_left, Profile, Client, Server, Side, Message, Item, Completes, completed_messages, pairs, Pair, ArePairs, side_pairs, bytes_of, bytes_from, CompletesExactlyOf, IsOfNoRunOf, WireFault, Unfinished, AreHeld, awaited_length, IsFilled, Reader, fresh_of, get, old_of, on_ok, reads, step, by_tests, IsRead, marks_law, SessionFault, Memory, Wire, Held, holding_of, IsUnderWayOf, read_no_place, EndsIn, HasNoPlaceOf, IsAcceptedOf, IsComplete, IsOpenEndOf, IsRefusalOf, IsWireFaultOf, LeavesOpen, Refuses, HasRunOf, SessionView, fault_at_end, fault_of, pairs_of, bytes_taken, open_end_fault, Holding, IsReadTo, held_pairs, with_bytes, IsKept, IsShut, Stands, bytes_come, session_view, IsStopped, reads_below, extended, reads-append, with_rest, exact, none_refused, AreBytesOf, run_bytes}
+use Rattle.nbd_session.proofs.Common.{◌≡◌, ℕ, ◌+◌, ◌<◌, ◌≤◌, List, [], ◌∷◌, ◌++◌, length, refl, sym, ◌∙◌, ap, subst, arith, append_assoc, append-nil, length-append, inl, inr, Option, Some, None, Result, Ok, Err, append_cancel_left, Profile, Client, Server, Side, Message, Item, Completes, completed_messages, pairs, Pair, ArePairs, side_pairs, bytes_of, bytes_from, CompletesExactlyOf, IsOfNoRunOf, WireFault, Unfinished, AreHeld, awaited_length, IsFilled, Reader, fresh_of, get, old_of, on_ok, reads, step, by_tests, IsRead, marks_law, SessionFault, Memory, Wire, Held, holding_of, IsUnderWayOf, read_no_place, EndsIn, HasNoPlaceOf, IsAcceptedOf, IsComplete, IsOpenEndOf, IsRefusalOf, IsWireFaultOf, LeavesOpen, Refuses, HasRunOf, SessionView, fault_at_end, pairs_of, bytes_taken, open_end_fault, Holding, IsReadTo, held_pairs, with_bytes, IsKept, IsShut, Stands, bytes_come, session_view, IsStopped, reads_below, extended, reads-append, with_rest, exact, none_refused, AreBytesOf, run_bytes}
 use Rattle.nbd_wire.specs.protocol.Within.{within}
 use Rattle.nbd_wire.specs.protocol.Places.{IsPlaceOf}
 use Rattle.nbd_session.proofs.pushed.OpenByteLemmas.{read_is_run_but}
@@ -224,17 +224,18 @@ ends_in held (Some (Wire at fault)) shut other e =
       refusal = refusal (holding_of held) fault shut.cause.1;
     }))
 
--- a session that is closed ends in the fault that closed it
-pub closed_end : (held : Held) (closed : Option SessionFault) (r : SessionView) (fault : SessionFault) → IsKept held closed → session_view held closed ≡ r → closed ≡ Some fault → EndsIn r fault
-closed_end held closed r fault kept same is =
-    subst (λ x. EndsIn x fault) (ap (session_view held) (sym is) ∙ same) (ends_in held (Some fault) (subst (IsKept held) is kept) fault refl)
+pub ends : (held : Held) (closed : Option SessionFault) (r : SessionView) (fault : SessionFault) → IsKept held closed → session_view held closed ≡ r → fault_at_end r ≡ Some fault → EndsIn r fault
+ends held closed r fault kept same e = subst (λ x. EndsIn x fault) same (ends_in held closed kept fault (ap fault_at_end same ∙ e))
 
--- any other ends where a message is open
-pub open_end : {A : Type 0} (held : Held) (closed : Option SessionFault) (r : SessionView) (result : Result A SessionFault) → IsKept held closed → session_view held closed ≡ r → closed ≡ None →
-    fault_of result ≡ fault_at_end (session_view held None) → IfErr result (EndsIn r)
-open_end held closed r (Ok a) kept same is e = tt
-open_end held closed r (Err fault) kept same is e =
-    subst (λ x. EndsIn x fault) (ap (session_view held) (sym is) ∙ same) (ends_in held None (subst (IsKept held) is kept) fault (sym e))
+-- where it ends in none it stands, and no message is open
+pub ends_well : (held : Held) (closed : Option SessionFault) (r : SessionView) → IsKept held closed → session_view held closed ≡ r → fault_at_end r ≡ None → Stands held × (bytes_come held.client ≡ []) × (bytes_come held.server ≡ [])
+ends_well held None r kept same e = (let none = none_open (bytes_come held.client) (bytes_come held.server) (bytes_taken (session_view held None)) (ap fault_at_end same ∙ e) in (kept, none.0, none.1))
+  where
+    none_open : (client server : List ℕ) (at : ℕ) → open_end_fault client server at ≡ None → (client ≡ []) × (server ≡ [])
+    none_open [] [] at e = (refl, refl)
+    none_open (b ∷ client) server at e = absurd (cc)
+    none_open [] (b ∷ server) at e = absurd (cc)
+ends_well held (Some fault) r kept same e = absurd (let q : Some fault ≡ None = ap fault_at_end same ∙ e in cc)
 
 -- a closed session refuses again
 pub refuses_again : (held : Held) (closed : Option SessionFault) (r : SessionView) (fault : SessionFault) → IsKept held closed → session_view held closed ≡ r → closed ≡ Some fault → Refuses r fault

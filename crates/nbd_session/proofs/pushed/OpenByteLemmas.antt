@@ -1,5 +1,5 @@
 -- The bytes that belong to no completed message are the rests, and more of them may come.
-use Rattle.nbd_session.proofs.Common.{◌≡◌, ℕ, List, [], ◌∷◌, ◌++◌, map, refl, sym, ◌∙◌, ap, subst, Ok, Bool, true, false, if◌then◌else◌, append_assoc, append-nil, append_cancel_left, Profile, Side, Client, Server, Message, enc, Item, Byte, Starts, Completes, Serves, completed_messages, pairs, Pair, ArePairs, side_pairs, bytes_of, bytes_from, IsRunBut, Obeys, after, side, same_side, start_of, by_tests, Bad, Both, Judge, Reader, More, Reading, Rest, Whole, fresh_of, get, rest_with, on_ok, put, reads, settle, AreHeld, IsSound, IsSoundAt, Open, Walk, ended, final, held_more, held_whole, kept_next, loose, middle, opening, serving, with_byte, marked_is_walk, with_more, fresh_held, run_but_law, AreBytesOf, byte_from, bytes_from-cons, run_bytes, sound, IsNotBusy, walk_is_marked}
+use Rattle.nbd_session.proofs.Common.{◌≡◌, ℕ, List, [], ◌∷◌, ◌++◌, map, refl, sym, ◌∙◌, ap, subst, Ok, if◌then◌else◌, append_assoc, append-nil, append_cancel_left, Profile, Side, Client, Server, Message, enc, Item, Byte, Completes, completed_messages, pairs, Pair, ArePairs, side_pairs, bytes_of, bytes_from, IsRunBut, Obeys, after, side, same_side, start_of, by_tests, Bad, Both, Judge, Reader, More, Reading, Rest, Whole, fresh_of, get, rest_with, on_ok, put, reads, settle, AreHeld, IsSound, IsSoundAt, Open, Walk, ended, final, held_more, held_whole, kept_next, loose, middle, opening, serving, with_byte, marked_is_walk, with_more, fresh_held, run_but_law, AreBytesOf, byte_from, bytes_from-cons, run_bytes, sound, IsNotBusy, walk_is_marked}
 use Rattle.nbd_wire.specs.protocol.Reading.{with_message}
 use Rattle.nbd_wire.specs.protocol.States.{State}
 use Rattle.nbd_session.proofs.pushed.HoldingLemmas.{from-append, from-client_sent, from-sent_same, from-server_sent}

@@ -1,5 +1,5 @@
 -- What a session that ends states is the report of the runs with its bytes.
-use Rattle.nbd_session.proofs.Common.{◌≡◌, ℕ, suc, ◌+◌, List, [], ◌∷◌, map, refl, sym, ◌∙◌, ap, subst, arith, Option, Some, None, slice_get, Side, Client, Server, Item, pairs, report, asked_of, asked_list, Operation, Exporting, IsRunOf, IsRunBut, Core, Phase, Shown, Greet, export_in, Exchange, Held, State, get, holding_of, IsReported, IsShown, exporting_if, AreKnown, AreShown, known_if, Shows, ended_if, phase_shown, shown_if, shown_in, IsSoundReport, held_pairs, HoldsRun, Stands, bytes_come, session_view, report_of_request, export_of, transcript_report, reports_are_sound}
+use Rattle.nbd_session.proofs.Common.{SessionFault, ◌≡◌, ℕ, suc, ◌+◌, List, [], ◌∷◌, map, refl, sym, ◌∙◌, ap, subst, arith, Option, Some, None, slice_get, Side, Client, Server, Item, pairs, report, asked_of, asked_list, Operation, Exporting, IsRunOf, IsRunBut, Core, Phase, Shown, Greet, export_in, Exchange, Held, State, get, holding_of, IsReported, IsShown, exporting_if, AreKnown, AreShown, known_if, Shows, ended_if, phase_shown, shown_if, shown_in, IsSoundReport, held_pairs, HoldsRun, Stands, bytes_come, session_view, report_of_request, export_of, transcript_report, reports_are_sound}
 use Rattle.nbd_laws.proofs.reading.NotedLemmas.{read_report, report_by}
 use Rattle.nbd_session.proofs.judge.PieceLemmas.{standing_run}
 
@@ -72,8 +72,8 @@ module _ (held : Held) (st : Stands held) (client : (bytes_come held.client) ≡
       let run = standing_run held st in
       subst IsSoundReport (told_of run.items (whole_run run) run.has_pairs) (reports_are_sound held.state.profile run.items (whole_run run))
 
-  pub reported : IsReported (session_view held None) (transcript_report (export_of held.state.phase) held.state.exchanges.items)
-  reported =
+  pub reported : (closed : Option SessionFault) → IsReported (session_view held closed) (transcript_report (export_of held.state.phase) held.state.exchanges.items)
+  reported closed =
       let run = standing_run held st in
       record {
         items = run.items;

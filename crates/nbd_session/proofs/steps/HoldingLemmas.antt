@@ -26,3 +26,7 @@ same_but held Server v = refl
 pub holding_expected : (held : Held) (s : Side) (e : Option Expected) → holding_of (with_expected held s e) ≡ holding_of held
 holding_expected held Client e = refl
 holding_expected held Server e = refl
+
+pub same_if_expected : (held : Held) (s : Side) (e : Option Expected) → (incoming_of held s).expected ≡ e → held ≡ with_expected held s e
+same_if_expected held Client e is = λ i. record held { client = record held.client { expected = is i } }
+same_if_expected held Server e is = λ i. record held { server = record held.server { expected = is i } }

@@ -29,4 +29,4 @@ returns-in-Some c =
     record {
       noted = noted_grown c.args.stretches.now.items (vec_len c.args.stretches.now - 1) c.in-Some.last.now c.args.side c.args.count long c.in-Some.ensures.value same;
       unchanged = tt;
-        }
+    }

@@ -1,5 +1,6 @@
 use Rattle.nbd_session.proofs.Common.{◌∙◌, ap, sym, IncomingView, IsHeadRefused}
 use Rattle.nbd_session.proofs.steps.ConcludeLemmas.{head_refused, head_whole, knows_again, knows_expected, knows_short, length_refused}
+use Rattle.nbd_session.proofs.steps.HoldingLemmas.{same_if_expected}
 use Rattle.nbd_session.proofs.steps.SettleLemmas.{handed_on}
 use Rattle.nbd_session.proofs.held.Held.expect.Goals as goal
 
@@ -28,3 +29,9 @@ returns-in_err-expected-clause-refused c =
 pub returns-clause-known : goal.returns-clause-known
 returns-clause-known c =
     knows_expected c.args.self.now c.args.side c.head-head.result.now (c.head-head.ensures ∙ ap (λ (v : IncomingView). v.head) c.incoming-incoming.ensures) (ap (λ (v : IncomingView). v.expected) (sym c.incoming-incoming.ensures) ∙ sym c.expected.ensures ∙ c.in_default.is) c.in_ok-expected.expected c.in_ok-expected.ensures.expected c.in_ok-expected.ensures.placed
+
+pub returns-in-Some-clause-kept : goal.returns-in-Some-clause-kept
+returns-in-Some-clause-kept c = same_if_expected c.args.self.now c.args.side _ (ap (λ (v : IncomingView). v.expected) (sym c.incoming-incoming.ensures) ∙ sym c.expected.ensures ∙ c.in-Some.is)
+
+pub returns-then-branch-clause-kept : goal.returns-then-branch-clause-kept
+returns-then-branch-clause-kept c = same_if_expected c.args.self.now c.args.side _ (ap (λ (v : IncomingView). v.expected) (sym c.incoming-incoming.ensures) ∙ sym c.expected.ensures ∙ c.in_default.is)
