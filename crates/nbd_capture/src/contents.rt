@@ -72,12 +72,13 @@ fn read_size(text: &[u8]) -> Result<(u64, u64, &[u8]), ContentsFault>
 {
     let mut rest = text;
     let mut number = 0;
-    while !rest.is_empty() {
+    while let Some((line, after)) = first_line(rest) {
         number += 1;
-        let (line, after) = first_line(rest).ok_or(ContentsFault::Line(number))?;
         if !is_silent(line) {
-            let size = size_on(line).ok_or(ContentsFault::Line(number))?;
-            return Ok((size, number, after));
+            return match size_on(line) {
+                None => Err(ContentsFault::Line(number)),
+                Some(size) => Ok((size, number, after)),
+            };
         }
         rest = after;
     }
@@ -101,13 +102,15 @@ fn read_pieces(
     let mut rest = text;
     let mut number = lines;
     let mut at = 0;
-    while !rest.is_empty() {
+    while let Some((line, after)) = first_line(rest) {
         number += 1;
-        let (line, after) = first_line(rest).ok_or(ContentsFault::Line(number))?;
-        at = take_line(contents, at, line, buffer)?.ok_or(ContentsFault::Line(number))?;
+        let Some(end) = take_line(contents, at, line, buffer)? else {
+            return Err(ContentsFault::Line(number));
+        };
+        at = end;
         rest = after;
     }
-    if at != contents.size() {
+    if !rest.is_empty() || at != contents.size() {
         return Err(ContentsFault::Line(number + 1));
     }
     Ok(())

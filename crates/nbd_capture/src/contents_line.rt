@@ -8,7 +8,8 @@ ghost use Rattle.nbd_capture.specs.Order.{IsNumber};
 ghost use Rattle.nbd_capture.specs.internal.Telling.{IsLaid, up_to, word_text};
 
 use crate::form::append_spelled;
-use crate::order::{number_on, split_word};
+use crate::lines::cut;
+use crate::order::number_on;
 use nbd_export::{Contents, Extents};
 use std::alloc::AllocError;
 
@@ -39,7 +40,7 @@ pub(crate) fn size_on(line: &[u8]) -> Option<u64>
         ((n : ℕ) → IsContentsLine nothing line.now (part n []) → ⊥)
         (λ n. IsContentsLine nothing line.now (part n [])) }
 {
-    let (word, digits) = split_word(line)?;
+    let (word, digits) = cut(b' ', line)?;
     if word != b"size".as_slice() {
         return None;
     }
@@ -81,8 +82,8 @@ fn value_at(line: &[u8], at: u64) -> Option<(Word, &[u8])>
         (λ parts. (offset : List ℕ) × IsNumber offset at
         × (line.now ≡ word_text parts.0 ++ space ∷ (offset ++ space ∷ parts.1.now))) }
 {
-    let (first, rest) = split_word(line)?;
-    let (offset, value) = split_word(rest)?;
+    let (first, rest) = cut(b' ', line)?;
+    let (offset, value) = cut(b' ', rest)?;
     let word = word_on(first)?;
     let from = number_on(offset)?;
     if from != at {

@@ -9,8 +9,7 @@ ghost use Rattle.nbd_capture.specs.internal.Words.{IsWord};
 ghost use Rattle.nbd_capture.specs.Faults.{IsOrderTextFault};
 ghost use Rattle.nbd_capture.specs.declared.order.OrderTextFault.TheVariants.{Memory};
 
-use crate::lines::first_line;
-use memchr::memchr;
+use crate::lines::{cut, first_line};
 use nbd_wire::{Entry, Part};
 use std::alloc::{AllocFailed, Global};
 use std::fmt;
@@ -69,13 +68,19 @@ fn parse_into(text: &[u8], entries: &mut Vec<Entry>) -> Result<(), OrderTextFaul
 {
     let mut rest = text;
     let mut line_number = 0;
-    while !rest.is_empty() {
+    while let Some((line, after)) = first_line(rest) {
         line_number += 1;
-        let (line, after) = first_line(rest).ok_or(OrderTextFault::Line(line_number))?;
-        entries.push(entry_on(line).ok_or(OrderTextFault::Line(line_number))?)?;
+        let Some(entry) = entry_on(line) else {
+            return Err(OrderTextFault::Line(line_number));
+        };
+        entries.push(entry)?;
         rest = after;
     }
-    Ok(())
+    if rest.is_empty() {
+        Ok(())
+    } else {
+        Err(OrderTextFault::Line(line_number + 1))
+    }
 }
 
 // The entry that a line stands for.
@@ -84,7 +89,7 @@ fn entry_on(line: &[u8]) -> Option<Entry>
         ((said : List Entry) → IsOrderLine line.now said → ⊥)
         (λ e. IsOrderLine line.now (e ∷ [])) }
 {
-    match split_word(line) {
+    match cut(b' ', line) {
         None => {
             let request = number_on(line)?;
             Some(Entry {
@@ -107,19 +112,10 @@ fn entry_on(line: &[u8]) -> Option<Entry>
 fn part_on(text: &[u8]) -> Option<Part>
     ensures { MatchOption result ((p : Part) → IsPart text.now p → ⊥) (IsPart text.now) }
 {
-    let (first, second) = split_word(text)?;
+    let (first, second) = cut(b' ', text)?;
     let offset = number_on(first)?;
     let length = number_on(second)?;
     Some(Part { offset, length })
-}
-
-// The bytes before the first space, and those after it. `None` where there is no space.
-pub(crate) fn split_word(line: &[u8]) -> Option<(&[u8], &[u8])>
-    ensures { MatchOption result (IsWord line.now)
-        (λ parts. IsWord parts.0.now × (line.now ≡ parts.0.now ++ space ∷ parts.1.now)) }
-{
-    let end = memchr(b' ', line)?;
-    Some((&line[..end], &line[end + 1..]))
 }
 
 // The number that these digits stand for.

@@ -2,9 +2,9 @@ use Rattle.nbd_capture.proofs.Common.{length, vec_capacity, ◌≤◌, IsOrderLi
 use Rattle.nbd_capture.proofs.ProgressLemmas.{Progress}
 use Rattle.nbd_capture.proofs.order.parse_into.Given as goal
 
-abbrev pub invariant-loop-rest : goal.invariant-loop-rest
-invariant-loop-rest l = Progress IsOrderLine l.text l.rest l.entries.items l.line_number
+abbrev pub invariant-loop-line : goal.invariant-loop-line
+invariant-loop-line l = Progress IsOrderLine l.text l.rest l.entries.items l.line_number
     × (vec_capacity l.initial.entries ≤ vec_capacity l.entries)
 
-abbrev pub decreases-loop-rest : goal.decreases-loop-rest
-decreases-loop-rest l = length l.rest
+abbrev pub decreases-loop-line : goal.decreases-loop-line
+decreases-loop-line l = length l.rest
