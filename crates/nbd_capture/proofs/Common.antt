@@ -30,7 +30,7 @@ pub use Rattle.nbd_capture.specs.declared.order.OrderTextFault.{OrderTextFault}
 pub use Rattle.nbd_capture.specs.declared.reader.State.TheVariants.{Open}
 pub use Rattle.nbd_capture.specs.declared.source.Ending.TheVariants.{LineFeed, Text}
 pub use Rattle.nbd_capture.specs.declared.source.Piece.TheVariants.{Last}
-pub use Rattle.nbd_capture.specs.internal.Kept.{IsAdded, IsKept, IsOf, Kept, Spell, kept}
+pub use Rattle.nbd_capture.specs.internal.Kept.{Adds, IsKept, IsOf, IsPartOf, Kept, Spell, kept}
 pub use Rattle.nbd_capture.specs.internal.Pieces.{IsLine, IsPiece, reading}
 pub use Rattle.nbd_capture.specs.internal.Steps.{IsChunkFault}
 pub use Rattle.nbd_capture.specs.internal.Telling.{IsLaid, Seen, up_to, word_text}

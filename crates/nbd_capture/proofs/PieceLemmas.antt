@@ -1,5 +1,5 @@
 -- What one look at a reader's bytes gives of a line.
-use Rattle.nbd_capture.proofs.Common.{◌≡◌, ℕ, Bool, true, true≢false, Ok, Err, refl, IsTrue, ◌+◌, ◌-◌, ◌<◌, ◌≤◌, List, [], ◌∷◌, ◌++◌, length, take, sym, ap, subst, ◌∙◌, arith, ◌==◌, false, take-take, length-take-le, Some, None, IfSome, OnSome, Option, StartsWith, Consumes, IsAtEnd, Keeps, DropsConsumable, Consumes_shown, length-append, take-append-add, IsUnbroken, line_feed, CaptureFault, Line, Memory, Read, LineFeed, Text, Last, Chunk, IsCaptureLine, IsReaderFault, Reading, Reads, Refuses, Takes, IsChunkFault, IsAdded, IsKept, Kept, IsLine, IsPiece}
+use Rattle.nbd_capture.proofs.Common.{◌≡◌, ℕ, Bool, true, true≢false, Ok, Err, refl, IsTrue, ◌+◌, ◌-◌, ◌<◌, ◌≤◌, List, [], ◌∷◌, ◌++◌, length, take, sym, ap, subst, ◌∙◌, arith, ◌==◌, false, take-take, length-take-le, Some, None, IfSome, OnSome, Option, StartsWith, Consumes, IsAtEnd, Keeps, DropsConsumable, Consumes_shown, length-append, take-append-add, IsUnbroken, line_feed, CaptureFault, Line, Memory, Read, LineFeed, Text, Last, Chunk, IsCaptureLine, IsReaderFault, Reading, Reads, Refuses, Takes, IsChunkFault, Adds, IsKept, IsPartOf, Kept, IsLine, IsPiece}
 use Rattle.nbd_capture.specs.declared.source.Piece.TheVariants.{Part}
 use Rattle.nbd_capture.proofs.ReadingStepLemmas.{none_ended, one_ended, reads-append, reads_line, refuses_chunk, refuses_end, stops, takes-append, unbroken-append}
 
@@ -25,10 +25,10 @@ consumed a b c buffered shown bytes n look within same =
     subst (Consumes a c) same (Consumes_shown a b c buffered shown n within look.front look.end look.kept look.fits look.drops).0
 
 -- a line ends within the part of what was shown that the text may have
-pub takes_last : (old new : Reading) (b : Option (List ℕ)) (buffered : Option ℕ) (shown : List ℕ) (m n : ℕ) (before after : Kept)
-    → Look old.rest b new.rest buffered shown n → m ≤ length shown → m ≤ old.room → IsAdded (take m shown) before after n true
+pub takes_last : (old new : Reading) (b : Option (List ℕ)) (buffered : Option ℕ) (shown part : List ℕ) (m n : ℕ) (before after : Kept)
+    → Look old.rest b new.rest buffered shown n → m ≤ length shown → m ≤ old.room → IsPartOf (take m shown) part n true → Adds before after part
     → new.room ≡ old.room - n → new.lines ≡ old.lines + 1 → IsPiece old new before after (Ok Last)
-takes_last old new b buffered shown m n before after look within fits (part, rest, split, u, count, adds) room lines =
+takes_last old new b buffered shown part m n before after look within fits (rest, split, u, count) adds room lines =
     let long : length (part ++ line_feed ∷ rest) ≡ length part + (length rest + 1) = let e = length-append part (line_feed ∷ rest) in omega (arith, e) in
     let size : length (take m shown) ≡ m = length-take-le m shown within in
     let same : m ≡ length part + (length rest + 1) = sym size ∙ ap length split ∙ long in
@@ -47,19 +47,19 @@ takes_last old new b buffered shown m n before after look within fits (part, res
     )
 
 -- no line ends within it
-pub takes_part : (old new : Reading) (b : Option (List ℕ)) (buffered : Option ℕ) (shown : List ℕ) (m n : ℕ) (before after : Kept)
-    → Look old.rest b new.rest buffered shown n → m ≤ length shown → m ≤ old.room → IsAdded (take m shown) before after n false → 0 < length (take m shown)
+pub takes_part : (old new : Reading) (b : Option (List ℕ)) (buffered : Option ℕ) (shown part : List ℕ) (m n : ℕ) (before after : Kept)
+    → Look old.rest b new.rest buffered shown n → m ≤ length shown → m ≤ old.room → IsPartOf (take m shown) part n false → 0 < length (take m shown) → Adds before after part
     → new.room ≡ old.room - n → new.lines ≡ old.lines → IsPiece old new before after (Ok Part)
-takes_part old new b buffered shown m n before after look within fits (u, count, adds) some room lines =
+takes_part old new b buffered shown part m n before after look within fits (same, u, count) some adds room lines =
     let size : length (take m shown) ≡ m = length-take-le m shown within in (
-      take m shown,
+      part,
       record {
-        consumed = consumed old.rest b new.rest buffered shown (take m shown) n look (omega (arith, count, size, within)) (ap (λ k. take k shown) (count ∙ size));
-        fits = omega (arith, count, room, size, fits);
-        counted = let none = none_ended (take m shown) u in omega (arith, none, lines);
+        consumed = consumed old.rest b new.rest buffered shown part n look (omega (arith, count, size, within)) (ap (λ k. take k shown) (count ∙ size) ∙ same);
+        fits = let long = ap length same in omega (arith, count, room, size, fits, long);
+        counted = let none = none_ended part u in omega (arith, none, lines);
       },
       u,
-      some,
+      subst (λ l. 0 < length l) same some,
       adds,
     )
 

@@ -3,11 +3,10 @@
 ghost use Rattle.std.specs.Prelude.{◌≡◌, ◌++◌, ◌∷◌, ◌↔◌, ◌+◌, ◌/◌, ◌%◌, ◌<◌, [], ℕ, List, IfOk, IfErr, IsTrue, MatchBool, Option, Some, OnErr, OnOk, length, vec_capacity, vec_len};
 ghost use Rattle.nbd_wire.specs.declared.message.Side.{Side};
 ghost use Rattle.nbd_capture.specs.Capture.{AreDigits, IsCaptureLine, letter, space};
-ghost use Rattle.nbd_capture.specs.internal.Kept.{IsAdded, IsOf, Spell, kept, said_into};
+ghost use Rattle.nbd_capture.specs.internal.Kept.{IsOf, Spell, said_into};
 ghost use Rattle.nbd_capture.specs.internal.Steps.{IsChunkFault};
 
 use crate::capture::CaptureFault;
-use crate::lines::first_line;
 use nbd_wire::Side;
 use std::alloc::AllocError;
 
@@ -51,29 +50,8 @@ impl Form {
         }
     }
 
-    // Adds what stands at hand of the line, up to its LF. Answers how many bytes that is, with the LF, and whether the LF is there.
-    pub(crate) fn add_line(
-        &mut self,
-        at_hand: &[u8],
-        bytes: &mut Vec<u8>,
-    ) -> Result<(usize, bool), AllocError>
-        ensures { IfOk result (λ added. IsAdded at_hand.now (kept self.old bytes.old.items)
-            (kept self.new bytes.new.items) added.0 added.1) }
-    {
-        match first_line(at_hand) {
-            Some((part, _)) => {
-                *self = self.with(part, bytes)?;
-                Ok((part.len() + 1, true))
-            }
-            None => {
-                *self = self.with(at_hand, bytes)?;
-                Ok((at_hand.len(), false))
-            }
-        }
-    }
-
     // With a part of the line more. The memory grows with the bytes that the digits spell.
-    fn with(self, part: &[u8], bytes: &mut Vec<u8>) -> Result<Form, AllocError>
+    pub(crate) fn with(self, part: &[u8], bytes: &mut Vec<u8>) -> Result<Form, AllocError>
         ensures { IfOk result (λ form. (line : List ℕ) → IsOf self bytes.old.items line →
             IsOf form bytes.new.items (line ++ part.now)) }
     {
@@ -90,11 +68,13 @@ impl Form {
 fn begin(part: &[u8], bytes: &mut Vec<u8>) -> Result<Form, AllocError>
     ensures { IfOk result (λ form. bytes.old.items ≡ [] → IsOf form bytes.new.items part.now) }
 {
-    match part {
-        [] => Ok(Form::Empty),
-        [b'#', ..] => Ok(Form::Comment),
-        [b'C', rest @ ..] => part_from_digits(Side::Client, rest, bytes),
-        [b'S', rest @ ..] => part_from_digits(Side::Server, rest, bytes),
+    let Some((first, rest)) = part.split_first() else {
+        return Ok(Form::Empty);
+    };
+    match *first {
+        b'#' => Ok(Form::Comment),
+        b'C' => part_from_digits(Side::Client, rest, bytes),
+        b'S' => part_from_digits(Side::Server, rest, bytes),
         _ => Ok(Form::Bad),
     }
 }

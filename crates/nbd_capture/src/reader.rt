@@ -86,9 +86,10 @@ impl<R: BufRead> CaptureReader<R> {
             (λ c. length c.1.items + self.new.room < self.old.room)) }
     {
         let mut bytes = Vec::new(self.alloc);
-        match self.next_into(&mut bytes)? {
-            Some(side) => Ok(Some((side, bytes))),
-            None => Ok(None),
+        match self.next_into(&mut bytes) {
+            Ok(Some(side)) => Ok(Some((side, bytes))),
+            Ok(None) => Ok(None),
+            Err(fault) => Err(fault),
         }
     }
 

@@ -1,9 +1,11 @@
 //! A capture that is read line by line, from a reader that gives it in whatever pieces.
 
-ghost use Rattle.std.specs.Prelude.{◌+◌, ◌<◌, ◌^◌};
+ghost use Rattle.std.specs.Prelude.{◌+◌, ◌<◌, ◌≤◌, ◌^◌, length};
+ghost use Rattle.nbd_capture.specs.internal.Kept.{IsPartOf};
 
 use crate::capture::CaptureFault;
 use crate::form::Form;
+use crate::lines::first_line;
 use nbd_wire::Side;
 use std::io::BufRead;
 
@@ -38,7 +40,7 @@ pub(crate) struct Source<R> {
 }
 
 impl<R: BufRead> Source<R> {
-    ghost use Rattle.std.specs.Prelude.{◌≡◌, IfOk, IfSome, length};
+    ghost use Rattle.std.specs.Prelude.{◌≡◌, IfOk, IfSome};
     ghost use Rattle.nbd_capture.specs.declared.reader.State.TheVariants.{Open};
     ghost use Rattle.nbd_capture.specs.Reading.{at_start};
     ghost use Rattle.nbd_capture.specs.internal.Kept.{kept};
@@ -106,7 +108,8 @@ impl<R: BufRead> Source<R> {
         if within.is_empty() {
             return Err(CaptureFault::Read);
         }
-        let (read, ends) = self.line.add_line(within, bytes)?;
+        let (part, read, ends) = part_of(within);
+        self.line = self.line.with(part, bytes)?;
         self.reader.consume(read);
         self.room -= read as u64;
         if ends {
@@ -115,5 +118,16 @@ impl<R: BufRead> Source<R> {
         } else {
             Ok(Piece::Part)
         }
+    }
+}
+
+// What stands at hand of a line, up to its LF: its bytes, how many these are with the LF, and whether the LF is there.
+fn part_of(at_hand: &[u8]) -> (&[u8], usize, bool)
+    ensures part { IsPartOf at_hand.now result.0.now result.1 result.2 }
+    ensures within { result.1 ≤ length at_hand.now }
+{
+    match first_line(at_hand) {
+        Some((part, _)) => (part, part.len() + 1, true),
+        None => (at_hand, at_hand.len(), false),
     }
 }

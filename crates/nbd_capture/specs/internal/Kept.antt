@@ -34,12 +34,11 @@ IsKept k line = IsOf k.form k.bytes line
 abbrev pub Adds : (old new : Kept) → List ℕ → Type 0
 Adds old new part = (line : List ℕ) → IsKept old line → IsKept new (line ++ part)
 
--- what is kept of a line grows by what is at hand of it: so many bytes, with the line's LF where it is among them
-abbrev pub IsAdded : (at_hand : List ℕ) → (old new : Kept) → (count : ℕ) → (ends : Bool) → Type 0
-IsAdded at_hand old new count true =
-    (part rest : List ℕ) × (at_hand ≡ part ++ line_feed ∷ rest) × IsUnbroken part
-    × (count ≡ length part + 1) × Adds old new part
-IsAdded at_hand old new count false = IsUnbroken at_hand × (count ≡ length at_hand) × Adds old new at_hand
+-- a part of a line, as it is at hand: so many bytes, with the line's LF where it is among them
+abbrev pub IsPartOf : (at_hand part : List ℕ) → (count : ℕ) → (ends : Bool) → Type 0
+IsPartOf at_hand part count true =
+    (rest : List ℕ) × (at_hand ≡ part ++ line_feed ∷ rest) × IsUnbroken part × (count ≡ length part + 1)
+IsPartOf at_hand part count false = (at_hand ≡ part) × IsUnbroken part × (count ≡ length at_hand)
 
 -- the chunk whose sender and bytes these are, if there is a sender, as a list
 abbrev pub said_into : Option Side → List ℕ → List Chunk
