@@ -1,7 +1,7 @@
 -- What one look at a reader's bytes gives of a line.
-use Rattle.nbd_capture.proofs.Common.{◌≡◌, ℕ, Bool, true, true≢false, Ok, Err, refl, IsTrue, ◌+◌, ◌-◌, ◌<◌, ◌≤◌, List, [], ◌∷◌, ◌++◌, length, take, sym, ap, subst, ◌∙◌, arith, ◌==◌, false, take-take, length-take-le, Some, None, IfSome, OnSome, Option, StartsWith, Consumes, IsAtEnd, Keeps, DropsConsumable, Consumes_shown, length-append, take-append-add, IsUnbroken, line_feed, CaptureFault, Line, Memory, Read, LineFeed, Text, Last, Chunk, IsCaptureLine, IsReaderFault, Reading, Reads, Refuses, Takes, IsChunkFault, Adds, IsKept, IsPartOf, Kept, IsLine, IsPiece}
-use Rattle.nbd_capture.specs.declared.source.Piece.TheVariants.{Part}
-use Rattle.nbd_capture.proofs.ReadingStepLemmas.{none_ended, one_ended, reads-append, reads_line, refuses_chunk, refuses_end, stops, takes-append, unbroken-append}
+use Rattle.nbd_capture.proofs.Common.{◌≡◌, ℕ, Bool, true, true≢false, Ok, Err, refl, IsTrue, ◌+◌, ◌-◌, ◌<◌, ◌≤◌, List, [], ◌∷◌, ◌++◌, length, take, sym, ap, subst, ◌∙◌, arith, ◌==◌, false, take-take, length-take-le, Some, None, IfSome, OnSome, Option, StartsWith, Consumes, IsAtEnd, Keeps, DropsConsumable, Consumes_shown, length-append, append_assoc, append-nil, take-append-add, IsUnbroken, line_feed, CaptureFault, Line, Memory, Read, LineFeed, Text, Last, Chunk, IsCaptureLine, IsReaderFault, Reading, Reads, Refuses, Takes, IsChunkFault, Adds, IsKept, IsPartOf, Kept, IsLine, IsPiece}
+use Rattle.nbd_capture.specs.declared.source.Piece.TheVariants.{End, Part}
+use Rattle.nbd_capture.proofs.ReadingStepLemmas.{none_ended, one_ended, reads-append, reads_line, refuses_chunk, refuses_end, still_known, stops, takes-append, unbroken-append}
 
 pub at_end : (a b : Option (List ℕ)) (shown : List ℕ) → length shown ≡ 0 → IfSome a (λ xs. length shown ≡ 0 → xs ≡ []) → Keeps a b → OnSome a (IsAtEnd b)
 at_end None b shown none end kept = tt
@@ -78,6 +78,27 @@ begins_on start now next before after b (bytes, takes, unbroken, some, adds) = r
   unbroken = unbroken-append b.bytes bytes b.unbroken unbroken;
   is_kept = adds b.bytes b.is_kept;
 }
+
+-- its last part, with its LF; or none, where the text ends, or a fault was met
+pub begins_whole : (start now next : Reading) (before after : Kept) → Begins start now before → IsPiece now next before after (Ok Last) → IsLine start next after (Ok LineFeed)
+begins_whole start now next before after b (bytes, takes, unbroken, adds) = (
+  b.bytes ++ bytes,
+  subst (Takes start next) (sym (append_assoc b.bytes bytes (line_feed ∷ []))) (takes-append start now next b.bytes (bytes ++ line_feed ∷ []) b.takes takes),
+  unbroken-append b.bytes bytes b.unbroken unbroken,
+  adds b.bytes b.is_kept,
+)
+
+no_more : (start now next : Reading) (before : Kept) (b : Begins start now before) → Takes now next [] → Takes start next b.bytes
+no_more start now next before b takes = subst (Takes start next) (append-nil b.bytes) (takes-append start now next b.bytes [] b.takes takes)
+
+pub begins_last : (start now next : Reading) (before after : Kept) → Begins start now before → IsPiece now next before after (Ok End) → IsLine start next after (Ok Text)
+begins_last start now next before after b (takes, end, same) =
+    (b.bytes, no_more start now next before b takes, b.unbroken, subst (λ k. IsKept k b.bytes) (sym same) b.is_kept, still_known start.rest now.rest _ b.bytes b.takes.consumed end)
+
+pub begins_fault : (start now next : Reading) (before after : Kept) (fault : CaptureFault) → Begins start now before → IsPiece now next before after (Err fault) → IsLine start next after (Err fault)
+begins_fault start now next before after (Line n) b h = absurd h
+begins_fault start now next before after Read b takes = (b.bytes, no_more start now next before b takes, b.unbroken)
+begins_fault start now next before after Memory b takes = (b.bytes, no_more start now next before b takes, b.unbroken)
 
 -- a line that could not be read whole, after lines that give no chunk
 pub no_line : (a b c : Reading) (kept : Kept) (fault : CaptureFault) → Reads a b [] → IsLine b c kept (Err fault) → IsReaderFault a c fault

@@ -113,9 +113,10 @@ fn part_on(text: &[u8]) -> Option<Part>
     ensures { MatchOption result ((p : Part) → IsPart text.now p → ⊥) (IsPart text.now) }
 {
     let (first, second) = cut(b' ', text)?;
-    let offset = number_on(first)?;
-    let length = number_on(second)?;
-    Some(Part { offset, length })
+    match (number_on(first), number_on(second)) {
+        (Some(offset), Some(length)) => Some(Part { offset, length }),
+        _ => None,
+    }
 }
 
 // The number that these digits stand for.

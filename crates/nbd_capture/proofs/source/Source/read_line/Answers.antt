@@ -1,7 +1,17 @@
-use Rattle.nbd_capture.proofs.PieceLemmas.{begins_on}
+use Rattle.nbd_capture.proofs.Common.{err_from_is_err_and, kept}
+use Rattle.nbd_capture.proofs.PieceLemmas.{begins_fault, begins_last, begins_on, begins_whole}
 use Rattle.nbd_capture.proofs.source.Source.read_line.Goals as goal
 
 pub loop-preserved : goal.loop-preserved
-loop-preserved g c =
-    let piece = rw c.in-Part.is at c.in_ok-read_piece.ensures in
-    begins_on _ _ _ _ _ c.loop.invariant piece
+loop-preserved g c = begins_on _ _ _ _ _ c.loop.invariant (rw c.in-Part.is at c.in_ok-read_piece.ensures)
+
+pub returns-in-Last : goal.returns-in-Last
+returns-in-Last g c = begins_whole _ _ _ _ _ c.loop.invariant (rw c.in-Last.is at c.in_ok-read_piece.ensures)
+
+pub returns-in-End : goal.returns-in-End
+returns-in-End g c = begins_last _ _ _ _ _ c.loop.invariant (rw c.in-End.is at c.in_ok-read_piece.ensures)
+
+pub returns-in_err-read_piece : goal.returns-in_err-read_piece
+returns-in_err-read_piece g c =
+    let p = err_from_is_err_and c.from_residual.result c.from_residual.ensures.1 in
+    rw (p.1, p.2) (begins_fault _ _ _ _ (kept c.read_piece.new.self.line c.read_piece.new.bytes.items) c.in_err-read_piece.field-0.0 c.loop.invariant c.in_err-read_piece.ensures)
