@@ -84,12 +84,10 @@ fn value_at(line: &[u8], at: u64) -> Option<(Word, &[u8])>
 {
     let (first, rest) = cut(b' ', line)?;
     let (offset, value) = cut(b' ', rest)?;
-    let word = word_on(first)?;
-    let from = number_on(offset)?;
-    if from != at {
-        return None;
+    match (word_on(first), number_on(offset)) {
+        (Some(word), Some(from)) if from == at => Some((word, value)),
+        _ => None,
     }
-    Some((word, value))
 }
 
 fn word_on(text: &[u8]) -> Option<Word>
