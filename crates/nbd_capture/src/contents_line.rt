@@ -44,8 +44,10 @@ pub(crate) fn size_on(line: &[u8]) -> Option<u64>
     if word != b"size".as_slice() {
         return None;
     }
-    let size = number_on(digits)?;
-    if size > MOST { None } else { Some(size) }
+    match number_on(digits) {
+        Some(size) if size <= MOST => Some(size),
+        _ => None,
+    }
 }
 
 /// Lays what a line tells behind the bytes below an offset, and answers up to where bytes are told then; `None` where the
@@ -156,11 +158,10 @@ fn len_on(digits: &[u8], room: u64) -> Option<u64>
         ((n : ℕ) → IsNumber digits.now n → 0 < n → n ≤ room → ⊥)
         (λ n. IsNumber digits.now n × (0 < n) × (n ≤ room)) }
 {
-    let len = number_on(digits)?;
-    if len == 0 {
-        return None;
+    match number_on(digits) {
+        Some(len) if len != 0 && len <= room => Some(len),
+        _ => None,
     }
-    if len > room { None } else { Some(len) }
 }
 
 // Puts the bytes that digits spell into the buffer, in place of what it holds, and answers whether they spell one or more.

@@ -3,9 +3,7 @@
 ghost use Rattle.std.specs.Prelude.{◌≡◌, ◌≤◌, ◌↔◌, ◌∷◌, ◌++◌, [], ℕ, List, Err, IfOk, IfErr, IsTrue, MatchOption, MatchResult, OnOk, vec_capacity, vec_len};
 ghost use Rattle.nbd_wire.specs.declared.entry.Entry.{Entry};
 ghost use Rattle.nbd_wire.specs.declared.entry.Part.{Part};
-ghost use Rattle.nbd_capture.specs.Capture.{space};
 ghost use Rattle.nbd_capture.specs.Order.{BeginsPlainly, IsNumber, IsOrderLine, IsOrderText, IsPart};
-ghost use Rattle.nbd_capture.specs.internal.Words.{IsWord};
 ghost use Rattle.nbd_capture.specs.Faults.{IsOrderTextFault};
 ghost use Rattle.nbd_capture.specs.declared.order.OrderTextFault.TheVariants.{Memory};
 

@@ -10,22 +10,20 @@ returns-then-ne c = λ n f.
     let d = size_digits c.args.line.now c.in_ok-word.word.now c.in_ok-word.digits.now n c.in_ok-word.ensures.0 c.in_ok-word.ensures.1 f in
     same_bytes-ne c.in_ok-word.word.now c.as_slice.result.now (c.if-ne.ensures) (d.0 ∙ sym c.as_slice.ensures)
 
-pub returns-in_err-size : goal.returns-in_err-size
-returns-in_err-size c = rw c.from_residual-in_err-size.ensures (λ n f.
+pub returns-in_default : goal.returns-in_default
+returns-in_default c = λ n f.
     let d = size_digits c.args.line.now c.in_ok-word.word.now c.in_ok-word.digits.now n c.in_ok-word.ensures.0 c.in_ok-word.ensures.1 f in
-    c.in_err-size.ensures n d.1)
+    let own = c.in-Some.ensures.3 in
+    omega (arith, c.if-size-le-MOST.false, own, d.1.3, d.2)
 
-pub returns-then-size-gt-MOST : goal.returns-then-size-gt-MOST
-returns-then-size-gt-MOST c = λ n f.
+pub returns-in_default-2 : goal.returns-in_default-2
+returns-in_default-2 c = λ n f.
     let d = size_digits c.args.line.now c.in_ok-word.word.now c.in_ok-word.digits.now n c.in_ok-word.ensures.0 c.in_ok-word.ensures.1 f in
-    let own = c.in_ok-size.ensures.3 in
-    let other = d.1.3 in
-    let fits = d.2 in
-    omega arith
+    c.in_default.ensures n d.1
 
-pub returns-else-size-gt-MOST : goal.returns-else-size-gt-MOST
-returns-else-size-gt-MOST c =
+pub returns-in-Some : goal.returns-in-Some
+returns-in-Some c =
     let word : c.in_ok-word.word.now ≡ codes "size" = same_bytes-eq c.in_ok-word.word.now c.as_slice.result.now c.if-ne.ensures ∙ c.as_slice.ensures in
     let whole : codes "size" ++ space ∷ c.in_ok-word.digits.now ≡ c.args.line.now = ap (λ w. w ++ space ∷ c.in_ok-word.digits.now) (sym word) ∙ sym c.in_ok-word.ensures.1 in
-    let fits : c.in_ok-size.size < 2 ^ 63 = omega arith in
-    subst (λ l. IsContentsLine nothing l (part c.in_ok-size.size [])) whole (size-line c.in_ok-word.digits.now c.in_ok-size.size c.in_ok-size.ensures fits)
+    let fits : c.in-Some.size < 2 ^ 63 = omega (arith, c.if-size-le-MOST.true) in
+    subst (λ l. IsContentsLine nothing l (part c.in-Some.size [])) whole (size-line c.in_ok-word.digits.now c.in-Some.size c.in-Some.ensures fits)
