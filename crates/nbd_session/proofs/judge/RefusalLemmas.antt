@@ -2,7 +2,7 @@
 use Rattle.nbd_session.proofs.Common.{◌≡◌, ℕ, ◌+◌, ◌<◌, ◌≤◌, List, [], ◌∷◌, ◌++◌, length, refl, sym, ◌∙◌, ap, subst, arith, append_assoc, append-nil, length-append, inl, inr, Option, Some, None, Result, Ok, Err, append_cancel_left, Profile, Client, Server, Side, Message, Item, Completes, completed_messages, pairs, Pair, ArePairs, side_pairs, bytes_of, bytes_from, CompletesExactlyOf, IsOfNoRunOf, WireFault, Unfinished, AreHeld, awaited_length, IsFilled, Reader, fresh_of, get, old_of, on_ok, reads, step, by_tests, IsRead, marks_law, SessionFault, Memory, Wire, Held, holding_of, IsUnderWayOf, read_no_place, EndsIn, HasNoPlaceOf, IsAcceptedOf, IsComplete, IsOpenEndOf, IsRefusalOf, IsWireFaultOf, LeavesOpen, Refuses, HasRunOf, SessionView, fault_at_end, pairs_of, bytes_taken, open_end_fault, Holding, IsReadTo, held_pairs, with_bytes, IsKept, IsShut, Stands, bytes_come, session_view, IsStopped, reads_below, extended, reads-append, with_rest, exact, none_refused, AreBytesOf, run_bytes}
 use Rattle.nbd_wire.specs.protocol.Within.{within}
 use Rattle.nbd_wire.specs.protocol.Places.{IsPlaceOf}
-use Rattle.nbd_session.proofs.pushed.OpenByteLemmas.{read_is_run_but}
+use Rattle.nbd_session.proofs.pushed.OpenByteLemmas.{loose_is, read_holds, read_is_run_but}
 use Rattle.nbd_session.proofs.pushed.PushLemmas.{sent-append}
 use Rattle.nbd_session.proofs.steps.StepLemmas.{held_of, pairs-taken}
 
@@ -155,16 +155,10 @@ within_all (item ∷ items) = within_all items
 
 -- the open bytes where reading stands are those that a run with its bytes and messages leaves
 opens : {profile : Profile} (ps : List Pair) (messages : List Message) (client server : List ℕ) → (u : IsUnderWayOf profile ps messages) → HasRunOf profile ps messages client server → (u.end.rests.client.bytes ≡ client) × (u.end.rests.server.bytes ≡ server)
-opens ps messages client server u has =
-    let r = read_is_run_but ps u.end messages u.end.rests.client.bytes u.end.rests.server.bytes u.are_pairs u.reads_it u.has_messages refl refl in
-    let here : AreBytesOf r.0 u.end.rests.client.bytes u.end.rests.server.bytes = run_bytes r.0 u.end.rests.client.bytes u.end.rests.server.bytes r.1 in
+opens {profile} ps messages client server u has =
     let there : AreBytesOf has.items client server = run_bytes has.items client server has.is_run in
-    (same r.0 r.2 r.3 Client u.end.rests.client.bytes client here.of_client there.of_client, same r.0 r.2 r.3 Server u.end.rests.server.bytes server here.of_server there.of_server)
-  where
-    same : (items : List Item) → pairs items ≡ ps → completed_messages items ≡ messages → (s : Side) (a b : List ℕ) → bytes_from s (pairs items) ≡ bytes_of s (completed_messages items) ++ a → bytes_from s (pairs has.items) ≡ bytes_of s (completed_messages has.items) ++ b → a ≡ b
-    same items is are s a b here there =
-        append_cancel_left (bytes_of s messages) a b
-        (ap (λ ms. bytes_of s ms ++ a) (sym are) ∙ sym here ∙ ap (bytes_from s) (is ∙ sym has.has_pairs) ∙ there ∙ ap (λ ms. bytes_of s ms ++ b) has.has_messages)
+    let holds = read_holds profile ps u.end messages u.end.rests.client.bytes u.end.rests.server.bytes u.are_pairs u.reads_it u.has_messages refl refl in
+    (sym (loose_is Client has.items ps messages client _ has.has_pairs has.has_messages there.of_client (holds Client)), sym (loose_is Server has.items ps messages server _ has.has_pairs has.has_messages there.of_server (holds Server)))
 
 some_open : {profile : Profile} (ps : List Pair) (messages : List Message) (client server : List ℕ) → (u : IsUnderWayOf profile ps messages) → HasRunOf profile ps messages client server → ((client ≡ []) × (server ≡ []) → ⊥) → LeavesOpen u.end
 some_open ps messages [] [] u has some = absurd (some (refl, refl))
@@ -180,12 +174,10 @@ open_end_of {profile} ps messages client server has accepted some = record { acc
         let are : completed_messages items ≡ messages = sym (within_all items) ∙ ap (λ n. within n items) (ap length is) ∙ accepted.all items run ([], is ∙ sym (append-nil ps)) in
         let here : AreBytesOf items [] [] = run_bytes items [] [] run in
         let there : AreBytesOf has.items client server = run_bytes has.items client server has.is_run in
-        some (left Client client are here.of_client there.of_client, left Server server are here.of_server there.of_server)
-      where
-        left : (s : Side) (rest : List ℕ) → completed_messages items ≡ messages → bytes_from s (pairs items) ≡ bytes_of s (completed_messages items) ++ [] → bytes_from s (pairs has.items) ≡ bytes_of s (completed_messages has.items) ++ rest → rest ≡ []
-        left s rest are here there =
-            append_cancel_left (bytes_of s messages) rest []
-            (ap (λ ms. bytes_of s ms ++ rest) (sym has.has_messages) ∙ sym there ∙ ap (bytes_from s) (has.has_pairs ∙ sym is) ∙ here ∙ ap (λ ms. bytes_of s ms ++ []) are)
+        some (
+          loose_is Client has.items ps messages client [] has.has_pairs has.has_messages there.of_client (ap (bytes_from Client) (sym is) ∙ here.of_client ∙ ap (λ ms. bytes_of Client ms ++ []) are),
+          loose_is Server has.items ps messages server [] has.has_pairs has.has_messages there.of_server (ap (bytes_from Server) (sym is) ∙ here.of_server ∙ ap (λ ms. bytes_of Server ms ++ []) are),
+        )
 
 held_run : (held : Held) → Stands held → HasRunOf held.state.profile (held_pairs (holding_of held)) held.messages.items (bytes_come held.client) (bytes_come held.server)
 held_run held st =

@@ -1,5 +1,5 @@
 -- The bytes that belong to no completed message are the rests, and more of them may come.
-use Rattle.nbd_session.proofs.Common.{◌≡◌, ℕ, List, [], ◌∷◌, ◌++◌, map, refl, sym, ◌∙◌, ap, subst, Ok, if◌then◌else◌, append_assoc, append-nil, append_cancel_left, Profile, Side, Client, Server, Message, enc, Item, Byte, Completes, completed_messages, pairs, Pair, ArePairs, side_pairs, bytes_of, bytes_from, IsRunBut, Obeys, after, side, same_side, start_of, by_tests, Bad, Both, Judge, Reader, More, Reading, Rest, Whole, fresh_of, get, rest_with, on_ok, put, reads, settle, AreHeld, IsSound, IsSoundAt, Open, Walk, ended, final, held_more, held_whole, kept_next, loose, middle, opening, serving, with_byte, marked_is_walk, with_more, fresh_held, run_but_law, AreBytesOf, byte_from, bytes_from-cons, run_bytes, sound, IsNotBusy, walk_is_marked}
+use Rattle.nbd_session.proofs.Common.{◌≡◌, ℕ, List, [], ◌∷◌, ◌++◌, map, refl, sym, ◌∙◌, ap, subst, Ok, if◌then◌else◌, append_assoc, append-nil, append_cancel_left, Profile, Side, Client, Server, Message, enc, Item, Byte, Completes, completed_messages, pairs, Pair, ArePairs, side_pairs, bytes_of, bytes_from, IsRunBut, Obeys, after, side, same_side, start_of, by_tests, Bad, Both, Judge, Reader, More, Reading, Rest, Whole, fresh_of, get, rest_with, on_ok, put, reads, settle, AreHeld, IsSound, IsSoundAt, Open, Walk, ended, final, held_more, held_whole, kept_next, loose, middle, opening, serving, with_byte, marked_is_walk, with_more, fresh_held, run_but_law, AreBytesOf, byte_from, bytes_from-cons, run_bytes, sound, IsNotBusy, walk_is_marked, of_two}
 use Rattle.nbd_wire.specs.protocol.Reading.{with_message}
 use Rattle.nbd_wire.specs.protocol.States.{State}
 use Rattle.nbd_session.proofs.pushed.HoldingLemmas.{from-append, from-client_sent, from-sent_same, from-server_sent}
@@ -52,34 +52,33 @@ reads_bytes judge sd s (p ∷ ps) reader end lt held e = go (judge rest.since re
         (ih (emptied reader p.from p.byte m) (held_whole judge reader p.from m (record rest { bytes = [] }) refl held ok.sided ok.sendable ok.completes) e)
     go (Bad fault) is ih e = absurd (cc)
 
--- from nothing
-pub fresh_bytes : (profile : Profile) (judge : Judge) → IsSound judge → (s : Side) (ps : List Pair) (end : Reader) → ArePairs ps → reads judge (fresh_of profile) ps ≡ Ok end → bytes_from s ps ≡ held_bytes s end
-fresh_bytes profile judge sd Client ps end lt e = reads_bytes judge sd Client ps (fresh_of profile) end lt (fresh_held judge) e
-fresh_bytes profile judge sd Server ps end lt e = reads_bytes judge sd Server ps (fresh_of profile) end lt (fresh_held judge) e
-
 -- the loose bytes of a run with these pairs and messages
-loose_is : (s : Side) (items : List Item) (ps : List Pair) (messages : List Message) (rest bytes : List ℕ) → pairs items ≡ ps → completed_messages items ≡ messages →
+pub loose_is : (s : Side) (items : List Item) (ps : List Pair) (messages : List Message) (rest bytes : List ℕ) → pairs items ≡ ps → completed_messages items ≡ messages →
     bytes_from s (pairs items) ≡ bytes_of s (completed_messages items) ++ rest → bytes_from s ps ≡ bytes_of s messages ++ bytes → rest ≡ bytes
 loose_is s items ps messages rest bytes p c e f =
     append_cancel_left (bytes_of s messages) rest bytes (ap (λ ms. bytes_of s ms ++ rest) (sym c) ∙ sym e ∙ ap (bytes_from s) p ∙ f)
 
--- what a reader read is a run with exactly these pairs and messages, and its rests are the bytes of no message
-pub run_but_of : {profile : Profile} (judge : Judge) → IsSound judge → (ps : List Pair) (end : Reader) → ArePairs ps → reads judge (fresh_of profile) ps ≡ Ok end →
-    (items : List Item) × IsRunBut profile items end.rests.client.bytes end.rests.server.bytes × (pairs items ≡ ps) × (completed_messages items ≡ end.messages)
-run_but_of {profile} judge sd ps end lt e =
-    let r = run_but_law judge sd ps end lt e in
-    let b : AreBytesOf r.0 r.1 r.2 = run_bytes r.0 r.1 r.2 r.3 in
-    let c : r.1 ≡ end.rests.client.bytes = loose_is Client r.0 ps end.messages r.1 end.rests.client.bytes r.4 r.5 b.of_client (fresh_bytes profile judge sd Client ps end lt e) in
-    let d : r.2 ≡ end.rests.server.bytes = loose_is Server r.0 ps end.messages r.2 end.rests.server.bytes r.4 r.5 b.of_server (fresh_bytes profile judge sd Server ps end lt e) in
-    (r.0, subst (λ x. IsRunBut profile r.0 x end.rests.server.bytes) c (subst (λ y. IsRunBut profile r.0 r.1 y) d r.3), r.4, r.5)
+-- the same of both sides
+run_as : {profile : Profile} (items : List Item) (ps : List Pair) (messages : List Message) (a b client server : List ℕ) → IsRunBut profile items a b → pairs items ≡ ps → completed_messages items ≡ messages →
+    ((s : Side) → bytes_from s ps ≡ bytes_of s messages ++ of_two s client server) → IsRunBut profile items client server
+run_as {profile} items ps messages a b client server run p c holds =
+    let are : AreBytesOf items a b = run_bytes items a b run in
+    subst (λ x. IsRunBut profile items x server) (loose_is Client items ps messages a client p c are.of_client (holds Client))
+    (subst (λ y. IsRunBut profile items a y) (loose_is Server items ps messages b server p c are.of_server (holds Server)) run)
 
--- with the project's own judge, and the rests by other names
+-- what a reader read is each side's messages and rest
+pub read_holds : (profile : Profile) (ps : List Pair) (end : Reader) (messages : List Message) (client server : List ℕ) → ArePairs ps → reads by_tests (fresh_of profile) ps ≡ Ok end →
+    end.messages ≡ messages → end.rests.client.bytes ≡ client → end.rests.server.bytes ≡ server → (s : Side) → bytes_from s ps ≡ bytes_of s messages ++ of_two s client server
+read_holds profile ps end messages client server lt e m c d Client = reads_bytes by_tests sound Client ps (fresh_of profile) end lt (fresh_held by_tests) e ∙ (λ i. bytes_of Client (m i) ++ c i)
+read_holds profile ps end messages client server lt e m c d Server = reads_bytes by_tests sound Server ps (fresh_of profile) end lt (fresh_held by_tests) e ∙ (λ i. bytes_of Server (m i) ++ d i)
+
+-- it is a run with exactly these pairs and messages, and its rests are the bytes of no message
 pub read_is_run_but : {profile : Profile} (ps : List Pair) (end : Reader) (messages : List Message) (client server : List ℕ) → ArePairs ps → reads by_tests (fresh_of profile) ps ≡ Ok end →
     end.messages ≡ messages → end.rests.client.bytes ≡ client → end.rests.server.bytes ≡ server →
     (items : List Item) × IsRunBut profile items client server × (pairs items ≡ ps) × (completed_messages items ≡ messages)
 read_is_run_but {profile} ps end messages client server lt e m c d =
-    let r = run_but_of by_tests sound ps end lt e in
-    (r.0, subst (λ x. IsRunBut profile r.0 x server) c (subst (λ y. IsRunBut profile r.0 end.rests.client.bytes y) d r.1), r.2, r.3 ∙ m)
+    let r = run_but_law by_tests sound ps end lt e in
+    (r.0, run_as r.0 ps messages r.1 r.2 client server r.3 r.4 (r.5 ∙ m) (read_holds profile ps end messages client server lt e m c d), r.4, r.5 ∙ m)
 
 abbrev pub bytes_items : Side → List ℕ → List Item
 bytes_items s bs = map (λ b. Byte s b) bs
@@ -124,12 +123,13 @@ completed_more [] s bs = completed_bytes s bs
 completed_more (Completes t m ∷ items) s bs = ap (λ l. m ∷ l) (completed_more items s bs)
 completed_more (item ∷ items) s bs = completed_more items s bs
 
--- a side's bytes with more
-from_more : (u s : Side) (ps : List Pair) (held bytes more : List ℕ) → bytes_from u ps ≡ held ++ bytes → bytes_from u (ps ++ side_pairs s more) ≡ held ++ with_more s u more bytes
-from_more Client Client ps held bytes more e = from-append Client ps (side_pairs Client more) ∙ (λ i. e i ++ from-sent_same Client more i) ∙ append_assoc held bytes more
-from_more Client Server ps held bytes more e = from-append Client ps (side_pairs Server more) ∙ (λ i. e i ++ from-client_sent more i) ∙ append-nil (held ++ bytes)
-from_more Server Client ps held bytes more e = from-append Server ps (side_pairs Client more) ∙ (λ i. e i ++ from-server_sent more i) ∙ append-nil (held ++ bytes)
-from_more Server Server ps held bytes more e = from-append Server ps (side_pairs Server more) ∙ (λ i. e i ++ from-sent_same Server more i) ∙ append_assoc held bytes more
+-- more bytes of a side come after its rest
+from_more : (s : Side) (ps : List Pair) (messages : List Message) (client server more : List ℕ) → ((u : Side) → bytes_from u ps ≡ bytes_of u messages ++ of_two u client server) →
+    (u : Side) → bytes_from u (ps ++ side_pairs s more) ≡ bytes_of u messages ++ of_two u (with_more s Client more client) (with_more s Server more server)
+from_more Client ps messages client server more h Client = from-append Client ps (side_pairs Client more) ∙ (λ i. h Client i ++ from-sent_same Client more i) ∙ append_assoc (bytes_of Client messages) client more
+from_more Server ps messages client server more h Client = from-append Client ps (side_pairs Server more) ∙ (λ i. h Client i ++ from-client_sent more i) ∙ append-nil (bytes_of Client messages ++ client)
+from_more Client ps messages client server more h Server = from-append Server ps (side_pairs Client more) ∙ (λ i. h Server i ++ from-server_sent more i) ∙ append-nil (bytes_of Server messages ++ server)
+from_more Server ps messages client server more h Server = from-append Server ps (side_pairs Server more) ∙ (λ i. h Server i ++ from-sent_same Server more i) ∙ append_assoc (bytes_of Server messages) server more
 
 -- what a reader read, and more bytes of a side, is a run but for the rests with these bytes
 pub more_is_run_but : {profile : Profile} (ps : List Pair) (end : Reader) (messages : List Message) (client server : List ℕ) (s : Side) (more : List ℕ) → ArePairs ps → reads by_tests (fresh_of profile) ps ≡ Ok end →
@@ -142,8 +142,4 @@ more_is_run_but {profile} ps end messages client server s more lt e m c d =
     let are : completed_messages items ≡ messages = completed_more r.0 s more ∙ r.3 in
     let w = walk_is_marked (walk_more (marked_is_walk {P = Unit {0}} r.0 client server (λ f. tt) (λ f. tt) r.1.marked) s more) in
     let run : IsRunBut profile items w.0 w.1 = record { marked = w.2; obeys = obeys_more r.0 (start_of profile) s more r.1.obeys } in
-    let b : AreBytesOf items w.0 w.1 = run_bytes items w.0 w.1 run in
-    let held : (u : Side) → bytes_from u ps ≡ bytes_of u messages ++ (get end.rests u).bytes = λ u. fresh_bytes profile by_tests sound u ps end lt e ∙ ap (λ ms. bytes_of u ms ++ (get end.rests u).bytes) m in
-    let cs : w.0 ≡ with_more s Client more client = loose_is Client items (ps ++ side_pairs s more) messages w.0 (with_more s Client more client) has are b.of_client (from_more Client s ps (bytes_of Client messages) client more (held Client ∙ ap (λ l. bytes_of Client messages ++ l) c)) in
-    let ss : w.1 ≡ with_more s Server more server = loose_is Server items (ps ++ side_pairs s more) messages w.1 (with_more s Server more server) has are b.of_server (from_more Server s ps (bytes_of Server messages) server more (held Server ∙ ap (λ l. bytes_of Server messages ++ l) d)) in
-    (items, subst (λ x. IsRunBut profile items x (with_more s Server more server)) cs (subst (λ y. IsRunBut profile items w.0 y) ss run), has, are)
+    (items, run_as items (ps ++ side_pairs s more) messages w.0 w.1 (with_more s Client more client) (with_more s Server more server) run has are (from_more s ps messages client server more (read_holds profile ps end messages client server lt e m c d)), has, are)
