@@ -173,20 +173,22 @@ impl Held {
         ensures shut { IfErr result (λ fault. IsShut self.new fault) }
     {
         let at = self.taken;
-        match self.expect(side) {
-            Ok(Some(expected)) => self.conclude(alloc, side, expected),
+        match self.told(side) {
+            Ok(Some(expected)) => {
+                self.note_expected(side, expected);
+                self.conclude(alloc, side, expected)
+            }
             Ok(None) => Ok(()),
             Err(fault) => Err(SessionFault::Wire { at, fault }),
         }
     }
 
     // What a side's head says, once its last byte has come.
-    fn expect(&mut self, side: Side) -> Result<Option<Expected>, WireFault>
-        requires { IsTaken self.old side }
-        ensures known { IfOk result (λ expected. Knows self.old side expected) }
-        ensures kept { IfOk result (λ expected. self.new ≡ with_expected self.old side expected) }
-        ensures refused { IfErr result (λ fault. IsHeadRefused self.old side fault) }
-        ensures same { IfErr result (λ fault. self.new ≡ self.old) }
+    fn told(&self, side: Side) -> Result<Option<Expected>, WireFault>
+        requires { IsTaken self.now side }
+        ensures known { IfOk result (λ expected. Knows self.now side expected) }
+        ensures none { IfOk result (λ expected. expected ≡ None → (incoming_of self.now side).expected ≡ None) }
+        ensures refused { IfErr result (λ fault. IsHeadRefused self.now side fault) }
     {
         let incoming = self.incoming(side);
         if let Some(expected) = incoming.expected() {
@@ -196,9 +198,7 @@ impl Held {
         if head.len() < head_length(&self.state, side, head)? {
             return Ok(None);
         }
-        let expected = decide(&self.state, side, head, self.counted)?;
-        self.note_expected(side, expected);
-        Ok(Some(expected))
+        Ok(Some(decide(&self.state, side, head, self.counted)?))
     }
 
     // Notes that the head of a side's message is whole, and what it says.

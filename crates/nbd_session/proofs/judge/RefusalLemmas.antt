@@ -1,5 +1,5 @@
 -- What a refusal says of the runs with a session's bytes.
-use Rattle.nbd_session.proofs.Common.{◌≡◌, ℕ, ◌+◌, ◌<◌, ◌≤◌, List, [], ◌∷◌, ◌++◌, length, refl, sym, ◌∙◌, ap, subst, arith, append_assoc, append-nil, length-append, inl, inr, Option, Some, None, Result, Ok, Err, append_cancel_left, Profile, Client, Server, Side, Message, Item, Completes, completed_messages, pairs, Pair, ArePairs, side_pairs, bytes_of, bytes_from, CompletesExactlyOf, IsOfNoRunOf, WireFault, Unfinished, AreHeld, awaited_length, IsFilled, Reader, fresh_of, get, old_of, on_ok, reads, step, by_tests, IsRead, marks_law, SessionFault, Memory, Wire, Held, holding_of, IsUnderWayOf, read_no_place, EndsIn, HasNoPlaceOf, IsAcceptedOf, IsComplete, IsOpenEndOf, IsRefusalOf, IsWireFaultOf, LeavesOpen, Refuses, HasRunOf, SessionView, fault_at_end, pairs_of, bytes_taken, open_end_fault, Holding, IsReadTo, held_pairs, with_bytes, IsKept, IsShut, Stands, bytes_come, session_view, IsStopped, reads_below, extended, reads-append, with_rest, exact, none_refused, AreBytesOf, run_bytes}
+use Rattle.nbd_session.proofs.Common.{◌≡◌, ℕ, ◌+◌, ◌<◌, ◌≤◌, List, [], ◌∷◌, ◌++◌, length, refl, sym, ◌∙◌, ap, subst, arith, append_assoc, append-nil, length-append, inl, inr, Option, Some, None, Result, Ok, Err, Profile, Client, Server, Side, Message, Item, Completes, completed_messages, pairs, Pair, ArePairs, side_pairs, bytes_of, bytes_from, CompletesExactlyOf, IsOfNoRunOf, WireFault, Unfinished, AreHeld, awaited_length, IsFilled, Reader, fresh_of, get, old_of, on_ok, reads, step, by_tests, IsRead, marks_law, SessionFault, Memory, Wire, Held, holding_of, IsUnderWayOf, read_no_place, EndsIn, HasNoPlaceOf, IsAcceptedOf, IsComplete, IsOpenEndOf, IsRefusalOf, IsWireFaultOf, LeavesOpen, Refuses, HasRunOf, SessionView, fault_at_end, pairs_of, bytes_taken, open_end_fault, Holding, IsReadTo, held_pairs, with_bytes, IsKept, IsShut, Stands, bytes_come, session_view, IsStopped, reads_below, extended, reads-append, with_rest, exact, none_refused, AreBytesOf, run_bytes}
 use Rattle.nbd_wire.specs.protocol.Within.{within}
 use Rattle.nbd_wire.specs.protocol.Places.{IsPlaceOf}
 use Rattle.nbd_session.proofs.pushed.OpenByteLemmas.{loose_is, read_holds, read_is_run_but}

@@ -1,31 +1,28 @@
 use Rattle.nbd_session.proofs.Common.{◌∙◌, ap, sym, subst, None, Some, Held, Wire, with_expected, IsExpecting, IsSame, IsShut, Knows, Stands}
 use Rattle.nbd_session.proofs.steps.ConcludeLemmas.{head_missing, head_shut, is_expecting, same_expected}
+use Rattle.nbd_session.proofs.steps.HoldingLemmas.{same_if_expected}
 use Rattle.nbd_session.proofs.steps.SettleLemmas.{same_held}
 use Rattle.nbd_session.proofs.held.Held.settle.Goals as goal
 
 pub conclude-requires : goal.conclude-requires
 conclude-requires c =
-    subst (λ h. IsExpecting h c.args.side c.in-Ok-Some.expected) (sym (c.in-Ok-Some.ensures.kept ∙ ap (with_expected c.args.self.now c.args.side) c.in-Ok-Some.field-0-is))
+    subst (λ h. IsExpecting h c.args.side c.in-Ok-Some.expected) (sym c.note_expected.ensures)
     (is_expecting c.args.self.now c.args.side c.in-Ok-Some.expected c.requires (subst (Knows c.args.self.now c.args.side) c.in-Ok-Some.field-0-is c.in-Ok-Some.ensures.known))
-
-pub returns-in-Ok-None-clause-stands : goal.returns-in-Ok-None-clause-stands
-returns-in-Ok-None-clause-stands c =
-    subst Stands (sym (c.in-Ok-None.ensures.kept ∙ ap (with_expected c.args.self.now c.args.side) c.in-Ok-None.field-0-is))
-    (head_missing c.args.self.now c.args.side c.requires (subst (Knows c.args.self.now c.args.side) c.in-Ok-None.field-0-is c.in-Ok-None.ensures.known))
-
-pub returns-in-Err-clause-shut : goal.returns-in-Err-clause-shut
-returns-in-Err-clause-shut c =
-    subst (λ (h : Held). IsShut h (Wire c.args.self.now.taken c.in-Err.fault)) (sym c.in-Err.ensures.same) (head_shut c.args.self.now c.args.side c.requires c.in-Err.fault c.in-Err.ensures.refused)
 
 pub returns-in-Ok-Some-clause-same : goal.returns-in-Ok-Some-clause-same
 returns-in-Ok-Some-clause-same c =
-    same_expected c.args.self.now c.conclude.new.self c.args.side (Some c.in-Ok-Some.expected)
-    (subst (λ h. IsSame h c.conclude.new.self) (c.in-Ok-Some.ensures.kept ∙ ap (with_expected c.args.self.now c.args.side) c.in-Ok-Some.field-0-is) c.conclude.ensures.same)
+    same_expected c.args.self.now c.conclude.new.self c.args.side (Some c.in-Ok-Some.expected) (subst (λ h. IsSame h c.conclude.new.self) c.note_expected.ensures c.conclude.ensures.same)
+
+pub returns-in-Ok-None-clause-stands : goal.returns-in-Ok-None-clause-stands
+returns-in-Ok-None-clause-stands c =
+    subst Stands (sym (same_if_expected c.args.self.now c.args.side None (c.in-Ok-None.ensures.none c.in-Ok-None.field-0-is)))
+    (head_missing c.args.self.now c.args.side c.requires (subst (Knows c.args.self.now c.args.side) c.in-Ok-None.field-0-is c.in-Ok-None.ensures.known))
 
 pub returns-in-Ok-None-clause-same : goal.returns-in-Ok-None-clause-same
-returns-in-Ok-None-clause-same c =
-    same_expected c.args.self.now c.expect.new.self c.args.side None
-    (subst (λ h. IsSame h c.expect.new.self) (c.in-Ok-None.ensures.kept ∙ ap (with_expected c.args.self.now c.args.side) c.in-Ok-None.field-0-is) (same_held c.expect.new.self))
+returns-in-Ok-None-clause-same c = same_held c.args.self.now
 
 pub returns-in-Err-clause-same : goal.returns-in-Err-clause-same
-returns-in-Err-clause-same c = subst (IsSame c.args.self.now) (sym c.in-Err.ensures.same) (same_held c.args.self.now)
+returns-in-Err-clause-same c = same_held c.args.self.now
+
+pub returns-in-Err-clause-shut : goal.returns-in-Err-clause-shut
+returns-in-Err-clause-shut c = head_shut c.args.self.now c.args.side c.requires c.in-Err.fault c.in-Err.ensures.refused

@@ -1,8 +1,7 @@
 use Rattle.nbd_session.proofs.Common.{◌∙◌, ap, sym, IncomingView, IsHeadRefused}
 use Rattle.nbd_session.proofs.steps.ConcludeLemmas.{head_refused, head_whole, knows_again, knows_expected, knows_short, length_refused}
-use Rattle.nbd_session.proofs.steps.HoldingLemmas.{same_if_expected}
 use Rattle.nbd_session.proofs.steps.SettleLemmas.{handed_on}
-use Rattle.nbd_session.proofs.held.Held.expect.Goals as goal
+use Rattle.nbd_session.proofs.held.Held.told.Goals as goal
 
 pub returns-in-Some-clause-known : goal.returns-in-Some-clause-known
 returns-in-Some-clause-known c =
@@ -21,17 +20,14 @@ pub decide-requires : goal.decide-requires
 decide-requires c =
     head_whole c.args.self.now c.args.side c.head-head.result.now (c.head-head.ensures ∙ ap (λ (v : IncomingView). v.head) c.incoming-incoming.ensures) (ap (λ (v : IncomingView). v.expected) (sym c.incoming-incoming.ensures) ∙ sym c.expected.ensures ∙ c.in_default.is) c.in_ok-head_length.field-0 c.in_ok-head_length.ensures.known c.requires c.if-branch.false
 
-pub returns-in_err-expected-clause-refused : goal.returns-in_err-expected-clause-refused
-returns-in_err-expected-clause-refused c =
-    handed_on _ c.from_residual-in_err-expected.result c.in_err-expected.field-0.0 (IsHeadRefused c.args.self.now c.args.side) c.from_residual-in_err-expected.ensures.1
-    (head_refused c.args.self.now c.args.side c.head-head.result.now (c.head-head.ensures ∙ ap (λ (v : IncomingView). v.head) c.incoming-incoming.ensures) (ap (λ (v : IncomingView). v.expected) (sym c.incoming-incoming.ensures) ∙ sym c.expected.ensures ∙ c.in_default.is) c.in_err-expected.field-0.0 c.in_err-expected.ensures.refused)
+pub returns-in_err-decide-clause-refused : goal.returns-in_err-decide-clause-refused
+returns-in_err-decide-clause-refused c =
+    handed_on _ c.from_residual-in_err-decide.result c.in_err-decide.field-0.0 (IsHeadRefused c.args.self.now c.args.side) c.from_residual-in_err-decide.ensures.1
+    (head_refused c.args.self.now c.args.side c.head-head.result.now (c.head-head.ensures ∙ ap (λ (v : IncomingView). v.head) c.incoming-incoming.ensures) (ap (λ (v : IncomingView). v.expected) (sym c.incoming-incoming.ensures) ∙ sym c.expected.ensures ∙ c.in_default.is) c.in_err-decide.field-0.0 c.in_err-decide.ensures.refused)
 
 pub returns-clause-known : goal.returns-clause-known
 returns-clause-known c =
-    knows_expected c.args.self.now c.args.side c.head-head.result.now (c.head-head.ensures ∙ ap (λ (v : IncomingView). v.head) c.incoming-incoming.ensures) (ap (λ (v : IncomingView). v.expected) (sym c.incoming-incoming.ensures) ∙ sym c.expected.ensures ∙ c.in_default.is) c.in_ok-expected.expected c.in_ok-expected.ensures.expected c.in_ok-expected.ensures.placed
+    knows_expected c.args.self.now c.args.side c.head-head.result.now (c.head-head.ensures ∙ ap (λ (v : IncomingView). v.head) c.incoming-incoming.ensures) (ap (λ (v : IncomingView). v.expected) (sym c.incoming-incoming.ensures) ∙ sym c.expected.ensures ∙ c.in_default.is) c.in_ok-decide.field-0 c.in_ok-decide.ensures.expected c.in_ok-decide.ensures.placed
 
-pub returns-in-Some-clause-kept : goal.returns-in-Some-clause-kept
-returns-in-Some-clause-kept c = same_if_expected c.args.self.now c.args.side _ (ap (λ (v : IncomingView). v.expected) (sym c.incoming-incoming.ensures) ∙ sym c.expected.ensures ∙ c.in-Some.is)
-
-pub returns-then-branch-clause-kept : goal.returns-then-branch-clause-kept
-returns-then-branch-clause-kept c = same_if_expected c.args.self.now c.args.side _ (ap (λ (v : IncomingView). v.expected) (sym c.incoming-incoming.ensures) ∙ sym c.expected.ensures ∙ c.in_default.is)
+pub returns-then-branch-clause-none : goal.returns-then-branch-clause-none
+returns-then-branch-clause-none c = λ e. ap (λ (v : IncomingView). v.expected) (sym c.incoming-incoming.ensures) ∙ sym c.expected.ensures ∙ c.in_default.is
