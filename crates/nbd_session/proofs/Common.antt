@@ -119,6 +119,7 @@ pub use Rattle.std.proofs.lemmas.List.{append_cancel_left, drop-append-le, lengt
 pub use Rattle.std.proofs.lemmas.List.Sums.{sum_by-cons}
 pub use Rattle.std.proofs.lemmas.Option.{same_Some, slice_get-get_or, slice_get_past, slice_get_read}
 pub use Rattle.std.proofs.lemmas.Slice.{take-put_mid}
+pub use Rattle.std.specs.Bool.{then_some}
 pub use Rattle.std.specs.List.{list_all}
 pub use Rattle.std.specs.Option.{option_copied}
 pub use Rattle.std.specs.Prelude.{option_to_list}

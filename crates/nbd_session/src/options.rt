@@ -67,13 +67,9 @@ pub(crate) fn answer(profile: Profile, head: &[u8], chosen: Chosen) -> Result<Ex
     };
     match answer_fault(chosen.option, reply, kind_fault(profile, reply, chosen)) {
         Some(fault) => Err(fault),
-        None if is_error(reply.kind) => Ok(Expected::Answer {
-            head: reply,
-            proper: None,
-        }),
         None => Ok(Expected::Answer {
             head: reply,
-            proper: Some(chosen.proper),
+            proper: (!is_error(reply.kind)).then_some(chosen.proper),
         }),
     }
 }

@@ -1,5 +1,5 @@
 -- An option, or an option reply, whose head has come.
-use Rattle.nbd_session.proofs.Common.{◌≡◌, ℕ, ◌==◌, not, List, ◌++◌, length, sym, ◌∙◌, ap, Option, Some, None, Bool, true, false, eqb-true, arith, if◌then◌else◌, WireFault, BadMagic, AnswerHead, ChoiceHead, ANSWER_MAGIC, OPTION_MAGIC, Profile, Exporting, is_error, number_at, Core, abort_answer, answer, choice, abort_fault, answer_fault, answer_head_fault, answer_last_fault, earlier_to, magic_fault, payload_fault, fault_if, Answer, Choice, expected_decision, answer_fields_of, answer_head_of, choice_head_of, success_fault_if}
+use Rattle.nbd_session.proofs.Common.{◌≡◌, ℕ, ◌==◌, not, List, ◌++◌, length, refl, sym, ◌∙◌, ap, Option, Some, None, Bool, true, false, eqb-true, arith, if◌then◌else◌, WireFault, BadMagic, AnswerHead, ChoiceHead, ANSWER_MAGIC, OPTION_MAGIC, Profile, Exporting, is_error, number_at, Core, abort_answer, answer, choice, abort_fault, answer_fault, answer_head_fault, answer_last_fault, earlier_to, magic_fault, payload_fault, fault_if, Answer, Choice, expected_decision, answer_fields_of, answer_head_of, choice_head_of, success_fault_if, then_some}
 use Rattle.nbd_wire.specs.declared.message.Message.TheVariants as messages
 use Rattle.nbd_wire.specs.declared.options.TheConstants as options
 use Rattle.nbd_session.proofs.expecting.HeadLemmas.{after_head, fields_stay, none_read, some_read}
@@ -47,19 +47,19 @@ module _ (head payload : List ℕ) (h : AnswerHead) (len : length head ≡ 20) (
   }
 
   -- an error is not judged at its last byte
-  pub good_answer : (profile : Profile) (asked : ℕ) (proper takes error : Bool) (info : Option Exporting) (now : Core) → now.profile ≡ profile → is_error h.kind ≡ error →
-      answer_head_fault profile asked proper takes info h.option h.kind h.length ≡ None → answer profile asked proper takes info now.selection (head ++ payload) ≡ expected_decision now (Answer h (if error then None else Some proper)) 20 payload
-  good_answer profile asked proper takes error info now held kind fits = λ i. record {
+  pub good_answer : (profile : Profile) (asked : ℕ) (proper takes : Bool) (info : Option Exporting) (now : Core) → now.profile ≡ profile → answer_head_fault profile asked proper takes info h.option h.kind h.length ≡ None →
+      answer profile asked proper takes info now.selection (head ++ payload) ≡ expected_decision now (Answer h (then_some (not (is_error h.kind)) proper)) 20 payload
+  good_answer profile asked proper takes info now held fits = λ i. record {
     head_length = 20;
     head_fault = ((λ j. magic_fault (well_begun j) (answer_head_fault profile asked proper takes info (fields_are j).option (fields_are j).kind (fields_are j).length)) ∙ fits) i;
     payload_length = (fields_are i).length;
-    last_fault = ((λ j. answer_last_fault (sym held j) (sym (right_option asked h.option _ fits) j) proper now.selection (fields_are j).kind (after_head 20 head payload len j)) ∙ last error kind) i;
+    last_fault = ((λ j. answer_last_fault (sym held j) (sym (right_option asked h.option _ fits) j) proper now.selection (fields_are j).kind (after_head 20 head payload len j)) ∙ last (is_error h.kind)) i;
     message = messages.Answer (fields_are i).option (fields_are i).kind (after_head 20 head payload len i);
   }
     where
-      last : (error : Bool) → is_error h.kind ≡ error → answer_last_fault now.profile h.option proper now.selection h.kind payload ≡ success_fault_if now.profile (earlier_to h.option now.selection) (if error then None else Some proper) h.kind payload
-      last true kind = ap (λ (b : Bool). if b then None else payload_fault now.profile (earlier_to h.option now.selection) proper h.kind payload) kind
-      last false kind = ap (λ (b : Bool). if b then None else payload_fault now.profile (earlier_to h.option now.selection) proper h.kind payload) kind
+      last : (error : Bool) → (if error then None else payload_fault now.profile (earlier_to h.option now.selection) proper h.kind payload) ≡ success_fault_if now.profile (earlier_to h.option now.selection) (then_some (not error) proper) h.kind payload
+      last true = refl
+      last false = refl
 
 module _ (head : List ℕ) where
   -- by what stands behind the number that it begins with

@@ -1,4 +1,4 @@
-use Rattle.nbd_session.proofs.Common.{sym, ◌∙◌, ap, AnswerHead, true, false, answer_fault, answer_head_fault, exporting_if}
+use Rattle.nbd_session.proofs.Common.{not, sym, ◌∙◌, ap, Answer, AnswerHead, answer_fault, answer_head_fault, expected_decision, exporting_if, then_some}
 use Rattle.nbd_session.proofs.expecting.OptionLemmas.{bad_answer, good_answer, no_answer}
 use Rattle.nbd_session.proofs.parsing.LeadingLemmas.{leading_answer-is}
 use Rattle.nbd_session.proofs.options.answer.Goals as goal
@@ -23,14 +23,5 @@ returns-in-None-clause-expected c = λ now payload held.
     let h = c.in-Some.reply in
     let chosen = c.args.chosen in
     good_answer head payload h c.requires (sym c.in-Some.is ∙ leading_answer-is head c.type_inv.head c.answer_head.result c.requires c.answer_head.ensures)
-    c.args.profile chosen.option chosen.proper chosen.takes true (exporting_if chosen.info) now held (sym c.is_error.ensures ∙ c.if-is_error.true)
-    (ap (answer_fault chosen.option h.option) (sym c.kind_fault.ensures) ∙ sym c.answer_fault.ensures ∙ c.in-None.is)
-
-pub returns-in-None-2-clause-expected : goal.returns-in-None-2-clause-expected
-returns-in-None-2-clause-expected c = λ now payload held.
-    let head = c.args.head.now in
-    let h = c.in-Some.reply in
-    let chosen = c.args.chosen in
-    good_answer head payload h c.requires (sym c.in-Some.is ∙ leading_answer-is head c.type_inv.head c.answer_head.result c.requires c.answer_head.ensures)
-    c.args.profile chosen.option chosen.proper chosen.takes false (exporting_if chosen.info) now held (sym c.is_error.ensures ∙ c.if-is_error.false)
-    (ap (answer_fault chosen.option h.option) (sym c.kind_fault.ensures) ∙ sym c.answer_fault.ensures ∙ c.in-None-2.is)
+    c.args.profile chosen.option chosen.proper chosen.takes (exporting_if chosen.info) now held (ap (answer_fault chosen.option h.option) (sym c.kind_fault.ensures) ∙ sym c.answer_fault.ensures ∙ c.in-None.is)
+    ∙ ap (λ given. expected_decision now (Answer h given) 20 payload) (sym (c.then_some.ensures ∙ ap (λ b. then_some (not b) chosen.proper) c.is_error.ensures))
