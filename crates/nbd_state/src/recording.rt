@@ -229,11 +229,13 @@ impl Exchange {
         ensures ended { self.new.asked.ended_at ≡ noted self.old.asked.ended_at ends counts.now }
         ensures outcome { self.new.asked.outcome ≡ (if ends then (if self.old.failed then Failure else Success)
             else self.old.asked.outcome) }
-        ensures kept { self.new ≡ record self.old { asked = record self.old.asked {
+        ensures kept { self.new ≡ record self.old {
+          asked = record self.old.asked {
             known_at = self.new.asked.known_at;
             ended_at = self.new.asked.ended_at;
             outcome = self.new.asked.outcome;
-        } } }
+          };
+        } }
     {
         self.asked.known_at = first(self.asked.known_at, counts.known);
         self.asked.ended_at = ended(self.asked.ended_at, ends, counts.now);

@@ -16,13 +16,13 @@ returns-clause-taken c = λ export e m s u fits none n f p is z.
     (if_proper export e asked.command asked.offset asked.length asked.proper c.args.zeroes c.in_ok-pieces.pieces.items status fits s.command s.offset s.length s.proper z c.in_ok-pieces.ensures) in
     subst (λ y. HasTaken export e m c.args.counts.now x y) (sym c.note.ensures.kept) (
       exchange_shows_reply export e m x _ c.args.ends false c.args.counts.known s u n f
-      (record { flags = refl; command = refl; cookie = refl; offset = refl; length = refl; payload = refl; proper = refl; outside = refl })
-      c.note.ensures.known (sym (or-false x.failed)) c.note.ensures.outcome pieces_are
-      (told_more export e m x c.args.ends s u n c.tell.new.self status is c.in_ok-tell.ensures.told)
-      (λ g. (
-        c.note.ensures.ended ∙ open_still asked.ended_at c.args.ends c.args.counts.now (s.is_open u).0 g,
-        λ q. ap (λ cs. length cs) (none_noted export e x s u no_reply q) ∙ sym (ap (λ ps. length ps) (counted_none export e m _ no_reply p pieces_are q)),
-      )),
+          (record { flags = refl; command = refl; cookie = refl; offset = refl; length = refl; payload = refl; proper = refl; outside = refl })
+          c.note.ensures.known (sym (or-false x.failed)) c.note.ensures.outcome pieces_are
+          (told_more export e m x c.args.ends s u n c.tell.new.self status is c.in_ok-tell.ensures.told)
+          (λ g. (
+            c.note.ensures.ended ∙ open_still asked.ended_at c.args.ends c.args.counts.now (s.is_open u).0 g,
+            λ q. ap (λ cs. length cs) (none_noted export e x s u no_reply q) ∙ sym (ap (λ ps. length ps) (counted_none export e m _ no_reply p pieces_are q)),
+          )),
       record {
         ended = c.note.ensures.ended ∙ ap (λ b. noted asked.ended_at b c.args.counts.now) (sym n);
         shown = noted_first export e m x c.args.counts.now c.from_vec.result.items s u no_reply p;

@@ -14,8 +14,8 @@ returns-clause-shown c = on_one c.take_chunk.result (λ _ taken core export r s 
     c.requires.place
     (indexed state mid place x c.end_if.ensures.kept (subst (λ (z : State). place < length z.exchanges.items) (sym c.end_if.ensures.kept) c.requires.within) c.index_mut.ensures.value)
     (λ e q x u.
-      let t = taken export e x u (size_fits core export r p) (c.is_allocation_told-zeroes.ensures core s ∙ ap (λ p. is_allocation_told (in_force core) (status_in (chunk_of c.args.head.now p))) c.as_slice.ensures ∙ ap (λ cs. is_allocation_told cs (status_in (chunk_of c.args.head.now c.args.payload.now))) (sym q)) in
-      (t.0, counted_now e state.exchanges.items c.counts-counts.ensures t.1))
+    let t = taken export e x u (size_fits core export r p) (c.is_allocation_told-zeroes.ensures core s ∙ ap (λ p. is_allocation_told (in_force core) (status_in (chunk_of c.args.head.now p))) c.as_slice.ensures ∙ ap (λ cs. is_allocation_told cs (status_in (chunk_of c.args.head.now c.args.payload.now))) (sym q)) in
+    (t.0, counted_now e state.exchanges.items c.counts-counts.ensures t.1))
     c.end_if.ensures.kept
     (λ q. c.end_if.ensures.left q ∙ ap (λ b. if b && (c.args.head.now.cookie == q) then None else place_at c.args.self.now.outstanding q) (c.has.ensures ∙ sym (chunk_ends c.args.head.now.flags c.args.head.now.kind c.args.head.now.cookie c.args.payload.now c.args.head.now.at))) refl
     (ap (λ (z : State). slice_set z.exchanges.items place c.take_chunk.new.self) c.end_if.ensures.kept))
