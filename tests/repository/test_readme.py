@@ -25,7 +25,6 @@ PRINTED = {
 RECORDING = ("socat ", "nbdsh ", "nbdkit ", "bin/nbdcheck-record ")
 # What recording by hand takes: these packages of Debian, a server, and the end of a socat to which no client came.
 NEEDED = ("nbdkit,", "python3-libnbd", "libnbd-bin", "socat:", "\nnbdkit memory ", "kill %1")
-LONGEST, WIDEST = 150, 120
 KIT = re.compile(r"logic [0-9a-f]{16}")
 # These have the program built where it is not; what is said of that.
 WRAPPED = ("./nbdcheck ", "tools/install ")
@@ -94,9 +93,6 @@ def kits(tally):
 
 def run(tally):
     page = TOP / "README.md"
-    tally.holds("its length", len(page.read_text().splitlines()) <= LONGEST)
-    prose = "".join(page.read_text().split("```")[::2]).splitlines()
-    tally.want("lines that are too long", [line for line in prose if len(line) > WIDEST and not line.startswith("|")], [])
     section = page.read_text().split("\n## Record your own session\n")[1].split("\n## ")[0]
     tally.want("what a recording takes", [part for part in NEEDED if part not in section], [])
     kits(tally)

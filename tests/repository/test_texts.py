@@ -1,6 +1,6 @@
 """What no program runs: the definitions hold meaning alone and fit their lines, docs/CONTRACTS.md is that of the sources, and
-docs/THEOREMS.md names clauses that there are, on one page, with the counts of files that docs/CONTRACTS.md has, and the C of
-docs/RECORDING.md is C."""
+docs/THEOREMS.md names clauses that there are, on one page, with the counts of files that docs/CONTRACTS.md has, README.md is no
+longer and no wider than it may be, and the C of docs/RECORDING.md is C."""
 
 import re
 import subprocess
@@ -11,6 +11,7 @@ import specs
 from built import TOP
 
 LONGEST = 60
+README_LONGEST, WIDEST = 150, 120
 # A function with its clauses, as docs/THEOREMS.md names them.
 CITED = re.compile(r"`([\w:]+)`((?:,? \*\w+\*)+)")
 COUNTED = re.compile(r"- \*\*`([\w:]+)` \*(\w+)\*\*\*: (\d+) files")
@@ -105,6 +106,14 @@ def theorems(tally, made):
                     re.search(rf"\b{counts[function, clause]}\b", page.split("**What must be believed**")[1]))
 
 
+def readme(tally):
+    page = (TOP / "README.md").read_text()
+    tally.holds("README.md: its length", len(page.splitlines()) <= README_LONGEST)
+    prose = "".join(page.split("```")[::2]).splitlines()
+    wide = [line for line in prose if len(line) > WIDEST and not line.startswith("|")]
+    tally.want("README.md: lines that are too long", wide, [])
+
+
 def compiled(tally):
     """The example of a server that logs an order."""
     source = (TOP / "docs/RECORDING.md").read_text().split("```c\n")[1].split("```")[0]
@@ -114,6 +123,7 @@ def compiled(tally):
 
 
 def run(tally):
+    readme(tally)
     compiled(tally)
     made = contracts.page()
     tally.want("definitions", specs.check(), 0)
