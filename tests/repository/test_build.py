@@ -263,8 +263,8 @@ def longest_way_alone(tally, tree):
                {name: str(nice) for name, nice in wanted.items()})
     tally.want("jobs of a crate beside the longest way", noted["short"][1], 1)
     most = min(3, len(os.sched_getaffinity(0)))
-    tally.holds("jobs of the others", 1 <= noted["low"][1] <= most, noted)
-    tally.holds("as many beside others", noted["low"][1] == noted["high"][1] == noted["nbdcheck"][1], noted)
+    tally.holds("jobs of the others", all(1 <= noted[name][1] <= most for name in ("low", "high", "nbdcheck")), noted)
+    tally.holds("jobs with nothing beside", noted["nbdcheck"][1] == noted["low"][1] >= noted["high"][1], noted)
 
 
 def on_a_terminal(tally, tree):
