@@ -14,7 +14,7 @@ pub use Rattle.nbd_capture.specs.Contents.AreContentsLines.{line as next-line, n
 pub use Rattle.nbd_capture.specs.Contents.IsContentsLine.{blank as blank-line, comment as comment-line, piece as piece-line, size as size-line}
 pub use Rattle.nbd_capture.specs.Contents.Piece.{known, unknown, zeroes}
 pub use Rattle.nbd_capture.specs.Contents.Told.{nothing, part}
-pub use Rattle.nbd_capture.specs.Faults.{IsCaptureFault, IsContentsFault, IsOrderTextFault}
+pub use Rattle.nbd_capture.specs.Faults.{IsContentsFault, IsOrderTextFault}
 pub use Rattle.nbd_capture.specs.Lines.{IsFirstBadLine, IsText, IsUnbroken, line_feed}
 pub use Rattle.nbd_capture.specs.Lines.IsFirstBadLine.{formless, later, unended}
 pub use Rattle.nbd_capture.specs.Lines.IsText.{empty, line}
@@ -34,7 +34,6 @@ pub use Rattle.nbd_capture.specs.internal.Kept.{Adds, IsKept, IsOf, IsPartOf, Ke
 pub use Rattle.nbd_capture.specs.internal.Pieces.{IsLine, IsPiece, reading}
 pub use Rattle.nbd_capture.specs.internal.Steps.{IsChunkFault}
 pub use Rattle.nbd_capture.specs.internal.Telling.{IsLaid, Seen, up_to, word_text}
-pub use Rattle.nbd_capture.specs.internal.Words.{IsWord}
 pub use Rattle.nbd_wire.specs.declared.entry.Entry.{Entry}
 pub use Rattle.nbd_wire.specs.declared.entry.Part.{Part}
 pub use Rattle.nbd_wire.specs.declared.message.Side.{Side}

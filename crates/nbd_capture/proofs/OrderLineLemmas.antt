@@ -1,5 +1,10 @@
 -- The two forms of an order line.
-use Rattle.nbd_capture.proofs.Common.{◌≡◌, ℕ, List, [], ◌∷◌, ◌++◌, ◌⊎◌, inl, inr, refl, sym, ap, ◌∙◌, subst, arith, Some, cases_eq, AllDigits, digit_from_value, Entry, Part, whole, space, IsNumber, IsOrderLine, IsPart, atomically, of_part, IsWord}
+use Rattle.nbd_capture.proofs.Common.{◌≢◌, ◌≡◌, ℕ, List, [], ◌∷◌, ◌++◌, ◌⊎◌, inl, inr, refl, sym, ap, ◌∙◌, subst, arith, Some, cases_eq, AllDigits, digit_from_value, Entry, Part, whole, space, IsNumber, IsOrderLine, IsPart, atomically, of_part}
+use Rattle.std.specs.List.{AllByRecursion}
+
+-- no space is among these bytes
+abbrev pub IsWord : List ℕ → Type 0
+IsWord bytes = AllByRecursion (λ b. b ≢ space) bytes
 
 -- digits have no space
 pub digits_word : (ds : List ℕ) → AllDigits 10 ds → IsWord ds

@@ -1,23 +1,13 @@
 -- What the faults of this crate say of a text.
 use Rattle.std.specs.Prelude.{List, ℕ}
-use Rattle.nbd_capture.specs.declared.capture.CaptureFault.{CaptureFault}
-use Rattle.nbd_capture.specs.declared.capture.CaptureFault.TheVariants as capture_faults
 use Rattle.nbd_capture.specs.declared.contents.ContentsFault.{ContentsFault}
 use Rattle.nbd_capture.specs.declared.contents.ContentsFault.TheVariants as contents_faults
 use Rattle.nbd_capture.specs.declared.order.OrderTextFault.{OrderTextFault}
 use Rattle.nbd_capture.specs.declared.order.OrderTextFault.TheVariants as order_faults
-use Rattle.nbd_capture.specs.Capture.{IsFirstBadCaptureLine}
 use Rattle.nbd_capture.specs.Contents.{IsFirstBadContentsLine}
 use Rattle.nbd_capture.specs.Order.{IsFirstBadOrderLine}
 
--- a line fault names the first bad line; out of memory says nothing of the text; no reader can fail where the text is
--- at hand
-abbrev pub IsCaptureFault : List ℕ → CaptureFault → Type 0
-IsCaptureFault text (capture_faults.Line n) = IsFirstBadCaptureLine text n
-IsCaptureFault text capture_faults.Read = ⊥
-IsCaptureFault text capture_faults.Memory = Unit {0}
-
--- the same of an order text
+-- of an order text: a line fault names the first bad line; out of memory says nothing of the text
 abbrev pub IsOrderTextFault : List ℕ → OrderTextFault → Type 0
 IsOrderTextFault text (order_faults.Line n) = IsFirstBadOrderLine text n
 IsOrderTextFault text order_faults.Memory = Unit {0}

@@ -1,5 +1,6 @@
 pub mod ContextLemmas
 pub mod DisconnectLemmas
+pub mod EachLemmas
 pub mod EndingLemmas
 pub mod GoodLemmas
 pub mod LaidLemmas

@@ -1,4 +1,3 @@
-pub mod Allowed
 pub mod Announcing
 pub mod Awaited
 pub mod Bytes

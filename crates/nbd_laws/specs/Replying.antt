@@ -1,8 +1,8 @@
 -- What the replies to a request are.
-use Rattle.nbd_laws.specs.Allowed.{IsStatus}
-use Rattle.nbd_wire.specs.protocol.Contexts.{Status}
-use Rattle.std.specs.Prelude.{◌≡◌, ◌⊎◌, ℕ, List, [], ◌∷◌, ◌++◌, Bool, true, false, Some, IsTrue, ◌≢◌}
+use Rattle.nbd_wire.specs.protocol.Contexts.{Status, has_id, reach}
+use Rattle.std.specs.Prelude.{◌≡◌, ◌⊎◌, ◌<◌, ◌≤◌, ℕ, List, [], ◌∷◌, ◌++◌, Bool, true, false, Some, IsTrue, ◌≢◌, length}
 use Rattle.nbd_wire.specs.declared.chunks.TheConstants as chunks
+use Rattle.nbd_wire.specs.declared.command_flags.TheConstants as command_flags
 use Rattle.nbd_wire.specs.declared.commands.TheConstants as commands
 use Rattle.nbd_wire.specs.declared.message.Message.{Message}
 use Rattle.nbd_wire.specs.declared.message.Message.TheVariants.{Simple, Chunk, ExtendedChunk}
@@ -17,8 +17,22 @@ use Rattle.nbd_wire.specs.protocol.Flags.{has}
 use Rattle.nbd_wire.specs.protocol.Pieces.{is_in}
 use Rattle.nbd_wire.specs.protocol.Rules.{IsRunOf, cookie_of, ends_at}
 use Rattle.nbd_wire.specs.protocol.States.{operation, start, with_reply}
-use Rattle.nbd_wire.specs.protocol.Statuses.{are_settled, is_settled}
+use Rattle.nbd_wire.specs.protocol.Statuses.{are_settled, but_last, is_settled}
 use Rattle.nbd_wire.specs.protocol.Transmission.{read_as, status_kind}
+
+-- a status chunk answers a BLOCK_STATUS and is of a context in force that the request asks and no earlier chunk of the
+-- reply is of; unless the request's length is 0, its extents but the last end before the range does, and with REQ_ONE
+-- there is one, not longer than the range (proto.md, "Structured reply types", "Command flags"; that no chunk comes
+-- twice in a reply that fails, what a filter asks, that the last extent may pass the range, and what holds of length 0
+-- are this project's choices)
+abbrev pub IsStatus : Operation → Status → Type 0
+IsStatus e status =
+    (e.command ≡ commands.BLOCK_STATUS)
+    × (has_id e.contexts status.id ≡ true)
+    × (is_settled e status.id ≡ false)
+    × (e.length ≢ 0 → (reach (but_last status.extents) < e.length)
+    × (IsTrue (has e.flags command_flags.REQ_ONE)
+    → (length status.extents ≡ 1) × (reach status.extents ≤ e.length)))
 
 -- a chunk to this request: an empty one with DONE, content of a READ, an error in its range, or the status of a context
 -- that is in force and that a BLOCK_STATUS asks

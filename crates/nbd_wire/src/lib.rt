@@ -52,7 +52,7 @@ pub use heads::transmission::{
 pub use message::{Message, Side};
 pub use option_payloads::{context_of, go_of, info_of, listed_of, name_in, queries_of};
 pub use payloads::{Content, Extent, Failure, Info, Piece};
-pub use places::{bit, bytes_in, place_before};
+pub use places::{bytes_in, place_before};
 pub use profile::Profile;
 pub use sides::{carries_payload, fits, side_of};
 pub use sizes::{Sizes, Sizing, asks_sizes, breaks_sizes, sizes_for, sizes_of};

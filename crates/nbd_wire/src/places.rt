@@ -1,9 +1,6 @@
-//! Places: those of bytes in a slice, those of a capture's bytes, and places as the bits of a number.
+//! Places: those of bytes in a slice, and those of a capture's bytes.
 
-ghost use Rattle.std.specs.Prelude.{◌≡◌, ◌+◌, ◌-◌, ◌%◌, ◌^◌, ◌<◌, ◌≤◌, [], drop, length, take};
-
-/// How many places have a bit.
-pub const PLACES: usize = 128;
+ghost use Rattle.std.specs.Prelude.{◌≡◌, ◌+◌, ◌-◌, ◌<◌, ◌≤◌, [], drop, length, take};
 
 /// So many bytes from an index on; none where not all of them are there.
 pub fn bytes_in(bytes: &[u8], from: usize, len: usize) -> &[u8]
@@ -19,11 +16,4 @@ pub fn place_before(place: u64, far: u64) -> u64
     ensures first { place - far ≤ 1 → result ≡ 1 }
 {
     place.saturating_sub(far).max(1)
-}
-
-/// The bit of a place, counted from 0; the bits of more places than there are begin again with that of 0.
-pub fn bit(place: usize) -> u128
-    ensures { result ≡ 2 ^ (place % 128) }
-{
-    1u128 << (place % PLACES)
 }

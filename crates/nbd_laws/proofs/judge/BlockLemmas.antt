@@ -1,5 +1,5 @@
 -- Bytes of one side, taken at once: over any judge, what a reader reads of them is one append and one judgement.
-use Rattle.nbd_laws.proofs.Common.{◌≡◌, ℕ, ◌<◌, ◌≤◌, List, [], ◌∷◌, ◌++◌, length, refl, sym, ◌∙◌, ap, subst, Result, Ok, Err, append_assoc, length-append, arith, Side, Client, Server, Pair, side_pairs, Core, WireFault, Both, get, put, Rest, Reader, Reading, More, Whole, Bad, old_of, IsFilled, settle, Judge, step, reads, on_ok}
+use Rattle.nbd_laws.proofs.Common.{◌≡◌, ℕ, ◌<◌, ◌≤◌, List, [], ◌∷◌, ◌++◌, length, refl, sym, ◌∙◌, ap, subst, Result, Ok, append_assoc, length-append, arith, Side, Pair, side_pairs, Core, WireFault, get, put, Rest, Reader, More, old_of, IsFilled, settle, Judge, step, reads, on_ok}
 use Rattle.nbd_laws.proofs.reading.ReaderLemmas.{get-put_same, old-filled, IsFilled-snoc, Later}
 
 -- no longer list of these bytes and more is judged before it has n of them
@@ -23,31 +23,13 @@ judged_at_once judge reader s more =
 abbrev pub with_rest : Reader → Side → Rest → Reader
 with_rest reader s rest = record reader { rests = put reader.rests s rest }
 
-put-twice : {A : Type 0} (p : Both A) (s : Side) (a b : A) → put (put p s a) s b ≡ put p s b
-put-twice p Client a b = refl
-put-twice p Server a b = refl
-
-put-get : {A : Type 0} (p : Both A) (s : Side) → put p s (get p s) ≡ p
-put-get p Client = refl
-put-get p Server = refl
-
-settle_with : (reader : Reader) (s : Side) (rest next : Rest) (r : Reading) → settle (with_rest reader s rest) s next r ≡ settle reader s next r
-settle_with reader s rest next More = ap (λ rests. Ok (record reader { rests = rests })) (put-twice reader.rests s rest next)
-settle_with reader s rest next (Whole m) = grind (arith, put-twice)
-settle_with reader s rest next (Bad f) = refl
-
-on_ok-Ok : (r : Result Reader WireFault) → on_ok r (λ next. Ok next) ≡ r
-on_ok-Ok (Ok m) = refl
-on_ok-Ok (Err f) = refl
-
 pub reads-append : (judge : Judge) (reader : Reader) (ps qs : List Pair) → reads judge reader (ps ++ qs) ≡ on_ok (reads judge reader ps) (λ next. reads judge next qs)
 reads-append judge reader [] qs = refl
 reads-append judge reader (p ∷ ps) qs = go (step judge reader p.from p.byte) (λ next. reads-append judge next ps qs)
   where
     go : (r : Result Reader WireFault) → ((next : Reader) → reads judge next (ps ++ qs) ≡ on_ok (reads judge next ps) (λ last. reads judge last qs)) →
         on_ok r (λ next. reads judge next (ps ++ qs)) ≡ on_ok (on_ok r (λ next. reads judge next ps)) (λ last. reads judge last qs)
-    go (Ok next) ih = ih next
-    go (Err f) ih = refl
+    go r ih = grind arith
 
 module _ (judge : Judge) (reader : Reader) (s : Side) (old : Core) (n : ℕ) where
   abbrev next_rest : Rest → List ℕ → Rest
@@ -55,11 +37,11 @@ module _ (judge : Judge) (reader : Reader) (s : Side) (old : Core) (n : ℕ) whe
 
   one_step : (rest : Rest) (b : ℕ) → old_of reader.core rest ≡ old →
       step judge (with_rest reader s rest) s b ≡ settle reader s (next_rest rest (b ∷ [])) (judge old reader.core s (rest.bytes ++ b ∷ []))
-  one_step rest b o = grind (arith, get-put_same, settle_with)
+  one_step rest b o = grind (arith, get-put_same)
 
   in_one : (rest : Rest) (b : ℕ) (more : List ℕ) → old_of reader.core rest ≡ old → length (rest.bytes ++ b ∷ more) ≤ n → GoesOn judge old reader.core s rest.bytes n →
       reads judge (with_rest reader s rest) (side_pairs s (b ∷ more)) ≡ settle reader s (next_rest rest (b ∷ more)) (judge old reader.core s (rest.bytes ++ b ∷ more))
-  in_one rest b [] o l g = on_ok-Ok (step judge (with_rest reader s rest) s b) ∙ one_step rest b o
+  in_one rest b [] o l g = (grind arith) ∙ one_step rest b o
   in_one rest b (c ∷ more) o l g =
       let next : Rest = next_rest rest (b ∷ []) in
       let f : IsFilled next.bytes = IsFilled-snoc rest.bytes b in
@@ -79,15 +61,11 @@ pub reads_at_once : (judge : Judge) (reader : Reader) (s : Side) (n : ℕ) (more
     reads judge reader (side_pairs s more) ≡ judged_at_once judge reader s more
 reads_at_once judge reader s n [] f l g = absurd f
 reads_at_once judge reader s n (b ∷ more) f l g =
-    ap (λ rests. reads judge (record reader { rests = rests }) (side_pairs s (b ∷ more))) (sym (put-get reader.rests s))
+    ap (λ rests. reads judge (record reader { rests = rests }) (side_pairs s (b ∷ more))) (sym ((grind arith)))
     ∙ in_one judge reader s (old_of reader.core (get reader.rests s)) n (get reader.rests s) b more refl l g
-
-filled_right : (xs ys : List ℕ) → IsFilled ys → IsFilled (xs ++ ys)
-filled_right [] ys f = f
-filled_right (x ∷ xs) ys f = tt
 
 -- below that length they are only kept
 pub reads_short : (judge : Judge) (reader : Reader) (s : Side) (n : ℕ) (more : List ℕ) → IsFilled more → length ((get reader.rests s).bytes ++ more) < n →
     GoesOn judge (old_of reader.core (get reader.rests s)) reader.core s (get reader.rests s).bytes n →
     reads judge reader (side_pairs s more) ≡ Ok (with_rest reader s (extended reader.core (get reader.rests s) more))
-reads_short judge reader s n more f l g = grind (arith, reads_at_once, filled_right)
+reads_short judge reader s n more f l g = grind (arith, reads_at_once)

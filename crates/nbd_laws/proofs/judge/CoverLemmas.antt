@@ -1,8 +1,7 @@
 -- Pieces inside a range that share no offset cover it exactly where their sizes add up to its length.
-use Rattle.nbd_laws.proofs.Common.{◌≡◌, ℕ, zero, suc, ◌<◌, ◌≤◌, ◌≢◌, ◌+◌, ◌-◌, ◌==◌, List, [], ◌∷◌, min, max, refl, sym, ◌∙◌, ap, subst, Some, Bool, true, false, ◌&&◌, if◌then◌else◌, nat_le, nat_lt, is_some, arith, IsTrue, lt-ltb, eqb-false, le-ltb, ltb-false, leb-false, leb-true, ltb-true, le-leb, lt-leb, Piece, piece_offset, piece_size, piece_byte, byte_at, holds, is_in, SharesNone, total, is_apart, is_apart_from}
+use Rattle.nbd_laws.proofs.Common.{and_from, and_parts, or_cases, or_parts, ◌≡◌, ℕ, zero, suc, ◌<◌, ◌≤◌, ◌+◌, ◌-◌, List, [], ◌∷◌, min, max, refl, sym, ◌∙◌, ap, subst, Some, Bool, true, false, if◌then◌else◌, nat_le, nat_lt, is_some, arith, IsTrue, lt-ltb, eqb-false, le-ltb, ltb-false, leb-false, leb-true, ltb-true, le-leb, lt-leb, Piece, piece_offset, piece_size, piece_byte, byte_at, holds, is_in, SharesNone, total, is_apart, is_apart_from}
 use Rattle.std.proofs.lemmas.Bool.{eqb-true}
 use Rattle.nbd_laws.proofs.requests.LaidLemmas.{AreApart, AreInside}
-use Rattle.nbd_laws.proofs.judge.BoolLemmas.{or_true, or_false, and_true}
 
 abbrev pub one_if : Bool → ℕ
 one_if true = 1
@@ -26,29 +25,15 @@ all-counted f a zero e x l u = absurd (omega arith)
 all-counted f a (suc n) e x l u = go (f a) refl (λ h l. all-counted f (suc a) n h x l (omega arith))
   where
     go : (b : Bool) → f a ≡ b → (counted f (suc a) n ≡ n → suc a ≤ x → f x ≡ true) → f x ≡ true
-    go true is ih =
-        let one : one_if (f a) ≡ 1 = ap one_if is in
-        let rest : counted f (suc a) n ≡ n = omega arith in
-        at_or_behind (x == a) refl (ih rest)
-      where
-        at_or_behind : (c : Bool) → (x == a) ≡ c → (suc a ≤ x → f x ≡ true) → f x ≡ true
-        at_or_behind true same ih = ap f (eqb-true x a same) ∙ is
-        at_or_behind false same ih = let ne : x ≢ a = eqb-false x a same in ih (omega arith)
-    go false is ih =
-        let none : one_if (f a) ≡ 0 = ap one_if is in
-        let most : counted f (suc a) n ≤ n = counted-le f (suc a) n in
-        absurd (omega arith)
+    go b is ih = grind (arith, eqb-true, eqb-false, counted-le)
 
 counted-sum : (f g h : ℕ → Bool) → ((x : ℕ) → one_if (f x) ≡ one_if (g x) + one_if (h x)) → (a n : ℕ) → counted f a n ≡ counted g a n + counted h a n
 counted-sum f g h e a zero = refl
 counted-sum f g h e a (suc n) = let here : one_if (f a) ≡ one_if (g a) + one_if (h a) = e a in let rest : counted f (suc a) n ≡ counted g (suc a) n + counted h (suc a) n = counted-sum f g h e (suc a) n in omega arith
 
-one-in : (f s x : ℕ) → one_if (is_in f s x) ≡ min (suc x) (f + s) - max x f
-one-in f s x = grind (arith, nat_le, nat_lt, min, max, leb-true, ltb-true, ltb-false, leb-false)
-
 counted-in : (f s a n : ℕ) → counted (is_in f s) a n ≡ min (a + n) (f + s) - max a f
 counted-in f s a zero = omega arith
-counted-in f s a (suc n) = grind (arith, min, max, one-in, counted-in f s (suc a) n)
+counted-in f s a (suc n) = grind (arith, min, max, nat_le, nat_lt, leb-true, ltb-true, ltb-false, leb-false, counted-in f s (suc a) n)
 
 inside-counted : (offset len : ℕ) (p : Piece) → offset ≤ piece_offset p → piece_offset p + piece_size p ≤ offset + len → counted (holds p) offset len ≡ piece_size p
 inside-counted offset len p l u = grind (arith, min, max, counted-in (piece_offset p) (piece_size p) offset len)
@@ -85,24 +70,21 @@ covered_total offset len ps i a c = sym (total-counted offset len ps i a) ∙ co
 
 -- ranges side by side share no offset
 apart-holds : (p q : Piece) → is_apart p q ≡ true → (x : ℕ) → holds p x ≡ true → holds q x ≡ false
-apart-holds p q e x h = grind (arith, or_true, leb-true, lt-leb, nat_le, le-ltb, and_true, nat_lt, ltb-true)
+apart-holds p q e x h = grind (arith, or_cases, leb-true, lt-leb, nat_le, le-ltb, and_parts, nat_lt, ltb-true)
 
 pub apart_from-shares : (p : Piece) (qs : List Piece) → is_apart_from p qs ≡ true → SharesNone p qs
 apart_from-shares p [] e x h = refl
 apart_from-shares p (q ∷ qs) e x h =
-    let b : (is_apart p q ≡ true) × (is_apart_from p qs ≡ true) = and_true _ _ e in
+    let b : (is_apart p q ≡ true) × (is_apart_from p qs ≡ true) = and_parts _ _ e in
     ap (λ c. if c then Some (piece_byte q x) else byte_at qs x) (apart-holds p q b.0 x h) ∙ apart_from-shares p qs b.1 x h
 
 pub no_overlap : (p q : Piece) → 0 < piece_size p → 0 < piece_size q → is_apart p q ≡ false → (x : ℕ) × (holds p x ≡ true) × (holds q x ≡ true)
 no_overlap p q lp lq h =
-    let a : (nat_le (piece_offset p + piece_size p) (piece_offset q) ≡ false) × (nat_le (piece_offset q + piece_size q) (piece_offset p) ≡ false) = or_false _ _ h in
+    let a : (nat_le (piece_offset p + piece_size p) (piece_offset q) ≡ false) × (nat_le (piece_offset q + piece_size q) (piece_offset p) ≡ false) = or_parts _ _ h in
     let l : piece_offset q < piece_offset p + piece_size p = leb-false (piece_offset p + piece_size p) (piece_offset q) a.0 in
     let r : piece_offset p < piece_offset q + piece_size q = leb-false (piece_offset q + piece_size q) (piece_offset p) a.1 in
     let x : ℕ = max (piece_offset p) (piece_offset q) in
     (x, is_held p x (omega arith) (omega (arith, l, r, lp, lq)), is_held q x (omega arith) (omega (arith, l, r, lp, lq)))
   where
-    both : {a b : Bool} → a ≡ true → b ≡ true → (a && b) ≡ true
-    both {a} {b} e f = ap (λ z. z && b) e ∙ f
-
     is_held : (p : Piece) (x : ℕ) → piece_offset p ≤ x → x < piece_offset p + piece_size p → holds p x ≡ true
-    is_held p x l u = both (le-leb (piece_offset p) x l) (lt-ltb x (piece_offset p + piece_size p) u)
+    is_held p x l u = and_from _ _ (le-leb (piece_offset p) x l) (lt-ltb x (piece_offset p + piece_size p) u)

@@ -1,8 +1,8 @@
 -- The judge is exact: it takes each message that the rules allow, at its last byte and not before.
-use Rattle.nbd_laws.proofs.Common.{◌≡◌, ℕ, ◌+◌, ◌⊎◌, ◌==◌, List, [], ◌++◌, length, refl, sym, ◌∙◌, ap, subst, inl, inr, Option, Some, None, Err, Bool, true, false, nat_lt, is_some, IsTrue, eq-eqb, arith, length-append, le-ltb, ltb-false, ltb-true, Profile, Side, Client, Server, Message, Greeting, ClientFlags, Choice, Answer, Exported, Request, Simple, Chunk, ExtendedRequest, ExtendedChunk, enc, ArePairs, Pair, Item, pairs, turn, number_at, Operation, Exporting, IsRunOf, MayComplete, MayStart, MayStartIn, is_extended, request_of_reply, IsSendable, side, Core, Phase, Greet, Flags, Choosing, Naming, Aborting, Answering, Transmission, operation, target, WireFault, Decision, abort_answer, choice, client_flags, greeting, chunk_to, extended_chunk_to, operation_of, reply, reply_in, request, request_by, simple_to, decision, request_unless, by_tests, last_reading, reading_by_decision, read_by, staged_reading_by, IsFilled, More, Whole, reads, fresh_of}
+use Rattle.nbd_laws.proofs.Common.{◌≡◌, ℕ, ◌+◌, List, [], ◌++◌, length, refl, sym, ◌∙◌, ap, Option, Some, None, Err, Bool, false, nat_lt, is_some, IsTrue, eq-eqb, arith, length-append, le-ltb, ltb-false, ltb-true, Profile, Side, Client, Server, Message, Greeting, ClientFlags, Choice, Answer, Exported, Request, Simple, Chunk, ExtendedRequest, ExtendedChunk, enc, ArePairs, Pair, Item, pairs, number_at, Operation, Exporting, IsRunOf, MayComplete, MayStart, MayStartIn, is_extended, request_of_reply, IsSendable, side, Core, Phase, Greet, Flags, Choosing, Naming, Aborting, Answering, Transmission, operation, target, WireFault, Decision, abort_answer, choice, client_flags, greeting, chunk_to, extended_chunk_to, operation_of, reply, reply_in, request, decision, request_unless, by_tests, read_by, IsFilled, More, Whole, reads, fresh_of, extended_request_fields}
 use Rattle.nbd_laws.proofs.judge.AwaitedLemmas.{in_head, in_payload}
 use Rattle.nbd_laws.proofs.judge.ExactNegotiationLemmas.{Accepts, HasHead, HasLast, abort_accepts, answer_accepts, choice_accepts, exported_accepts, flags_accepts, greeting_accepts}
-use Rattle.nbd_laws.proofs.judge.ExactTransmissionLemmas.{chunk_accepts, chunk_begins, cookie_of_chunk, cookie_of_extended, cookie_of_simple, extended_accepts, extended_begins, extended_request_accepts, request_accepts, simple_accepts, simple_begins}
+use Rattle.nbd_laws.proofs.judge.ExactTransmissionLemmas.{chunk_accepts, chunk_begins, cookie_of_chunk, cookie_of_extended, cookie_of_simple, extended_accepts, extended_begins, request_accepts, simple_accepts, simple_begins}
 use Rattle.nbd_laws.proofs.reading.ReaderLemmas.{IsExact, Later, Later-trans}
 use Rattle.nbd_laws.proofs.judge.PhaseLemmas.{IsAppended, Later-appended, Later-extended, Later-disconnected, Later-transmission, Later-turn, target-append}
 use Rattle.nbd_laws.proofs.runs.RunLemmas.{no_run}
@@ -27,10 +27,6 @@ abbrev Began : Phase → Core → Core → Message → Type 0
 Began (Transmission export) old now m = (side m ≡ Server → IsAppended old now × IsTrue (is_some (request_of_reply old m))) × (side m ≡ Client → now.disconnected ≡ false) × (is_extended m ≡ now.extended)
 Began phase old now m = Unit {0}
 
-request_taken : (core : Core) (b x : Bool) (bytes : List ℕ) (m : Message) → b ≡ false → x ≡ core.extended → Accepts (request_by x core bytes) m → IsTaken (request_unless b core bytes) core m
-request_taken core true x bytes m e y a = absurd (cc)
-request_taken core false x bytes m e y a = subst (λ z. IsTaken (Some (request_by z core bytes)) core m) y (taken (request_by x core bytes) core m a)
-
 replied_by : {x : Bool} (export : Exporting) (old now : Core) (bytes : List ℕ) → x ≡ now.extended → Some (reply export old now bytes) ≡ Some (reply_in x export now (operation_of old now (number_at 8 8 bytes)) bytes)
 replied_by export old now bytes y = ap (λ z. Some (reply_in z export now (operation_of old now (number_at 8 8 bytes)) bytes)) (sym y)
 
@@ -42,19 +38,12 @@ taken_in Choosing old now (Choice id payload) sn b ok = taken (choice (enc (Choi
 taken_in Naming old now (Exported size flags padded) sn b ok = grind (arith, taken, exported_accepts)
 taken_in Aborting old now (Answer option kind payload) sn b ok = taken (abort_answer (enc (Answer option kind payload))) now _ (abort_accepts option kind payload sn.0 sn.1 sn.2.0 ok)
 taken_in (Answering asked given info) old now (Answer option kind payload) sn b ok = grind (arith, taken, answer_accepts)
-taken_in (Transmission export) old now (Request flags command cookie offset len payload) sn b ok = grind (arith, request_taken, request_accepts)
-taken_in (Transmission export) old now (ExtendedRequest flags command cookie offset len payload) sn b ok = grind (arith, request_taken, extended_request_accepts)
+taken_in (Transmission export) old now (Request flags command cookie offset len payload) sn b ok = grind (arith, taken, request_accepts)
+taken_in (Transmission export) old now (ExtendedRequest flags command cookie offset len payload) sn b ok = grind (arith, taken, extended_request_fields)
 taken_in (Transmission export) old now (Simple error cookie payload) sn b (k, e, at, is, may) =
     let m : Message = Simple error cookie payload in
-    let s : _ ≡ true = simple_begins error cookie payload in
     let to : operation_of old now (number_at 8 8 (enc m)) ≡ Some e = ap (operation_of old now) (cookie_of_simple error cookie payload sn) ∙ same_target old now cookie k e (b.0 refl).0 (b.0 refl).1 at is in
-    let a : Accepts (simple_to export now (Some e) (enc m)) m = simple_accepts now export e error cookie payload sn may in
-    record {
-      d = simple_to export now (Some e) (enc m);
-      is = replied_by export old now (enc m) b.2 ∙ ap Some (is_simple_reply export old now (enc m) (no_chunk (enc m) s) s ∙ ap (λ o. simple_to export now o (enc m)) to);
-      at_head = a.at_head;
-      at_last = a.at_last;
-    }
+    grind (arith, m, to, simple_begins, cookie_of_simple, same_target, simple_accepts, replied_by, is_simple_reply, no_chunk)
 taken_in (Transmission export) old now (Chunk flags kind cookie payload) sn b (k, e, at, is, may) =
     let m : Message = Chunk flags kind cookie payload in
     let to : operation_of old now (number_at 8 8 (enc m)) ≡ Some e = ap (operation_of old now) (cookie_of_chunk flags kind cookie payload sn) ∙ same_target old now cookie k e (b.0 refl).0 (b.0 refl).1 at is in
@@ -91,52 +80,14 @@ deciding_of (Transmission export) Server old m p st = deciding (Transmission exp
 deciding_of phase s old m p st = absurd (cc)
 
 module _ (old now : Core) (m : Message) where
-  server_part : (export : Exporting) → MayStartIn (Transmission export) old Server m → IsTrue (is_some (request_of_reply old m))
-  unfolding MayStartIn
-  server_part export st = st.0
-
-  client_part : (export : Exporting) → MayStartIn (Transmission export) old Client m → old.disconnected ≡ false
-  unfolding MayStartIn
-  client_part export st = st.1
-
-  headed : (export : Exporting) (s : Side) → MayStartIn (Transmission export) old s m → is_extended m ≡ old.extended
-  unfolding MayStartIn
-  headed export Client st = st.2
-  headed export Server st = st.1
-
-  no_turn : (s t : Side) → side m ≡ s → side m ≡ t → (s ≡ t → ⊥) → ⊥
-  no_turn s t e f ne = ne (sym e ∙ f)
-
-  began_in : (export : Exporting) (s : Side) → side m ≡ s → old.phase ≡ Transmission export → Later s old now → MayStartIn (Transmission export) old s m → Began (Transmission export) old now m
-  began_in export Server sd p l st = ((λ e. (Later-appended l export p, server_part export st)), λ e. absurd (no_turn Server Client sd e (λ q. (cc))), headed export Server st ∙ sym (Later-extended l export p))
-  began_in export Client sd p l st = ((λ e. absurd (no_turn Client Server sd e (λ q. (cc)))), λ e. Later-disconnected l ∙ client_part export st, headed export Client st ∙ sym (Later-extended l export p))
-
-  turn_of : (phase : Phase) (s : Side) → MayStartIn phase old s m → (turn phase ≡ Some s) ⊎ ((export : Exporting) × (phase ≡ Transmission export))
-  unfolding MayStartIn
-  turn_of (Transmission export) s st = inr (export, refl)
-  turn_of phase s st = inl st
-
-  quiet : (phase : Phase) (s : Side) → turn phase ≡ Some s → Began phase old now m
-  quiet (Transmission export) s t = absurd (cc)
-  quiet phase s t = tt
-
   began_at : (s : Side) → side m ≡ s → Later s old now → MayStart old s m → Began now.phase old now m
-  began_at s sd l st = elim (turn_of old.phase s st) [
-    | inl t ↦ subst (λ p. Began p old now m) (ap (λ (c : Core). c.phase) (Later-turn l t)) (quiet old.phase s t)
-    | inr (export, p) ↦ subst (λ q. Began q old now m) (sym (Later-transmission l export p)) (began_in export s sd p l (subst (λ q. MayStartIn q old s m) p st))
-  ]
+  unfolding MayStartIn
+  began_at s sd l st = grind (arith, Later-turn, Later-transmission, Later-appended, Later-extended, Later-disconnected)
 
 -- a part of what is taken goes on
 part_goes_on : (s : Side) (now next : Core) (F : Core → List ℕ → Decision) → IsSteady s now F → Later s now next → (bytes left : List ℕ) → IsFilled left →
     length (bytes ++ left) ≡ (F next (bytes ++ left)).head_length + (F next (bytes ++ left)).payload_length → (F next (bytes ++ left)).head_fault ≡ None → read_by (F now bytes) bytes ≡ More
 part_goes_on s now next F st l bytes left f long clean = grind (arith, nat_lt, in_head, ltb-true, ltb-false, in_payload, length-append)
-
-read_whole : (d : Decision) (m : Message) → HasHead d m → HasLast d m → read_by d (enc m) ≡ Whole m
-read_whole d m a b =
-    let long : length (enc m) ≡ d.head_length + d.payload_length = a.long in
-    let past : nat_lt (length (enc m)) d.head_length ≡ false = le-ltb (length (enc m)) d.head_length (omega (arith, long)) in
-    let there : (length (enc m) == d.head_length + d.payload_length) ≡ true = eq-eqb _ _ long in
-    λ i. staged_reading_by (past i) (a.clean i) (there i) (last_reading (b.clean i) (b.is i))
 
 -- what is decided of an encoding, by the side's decisions
 pub record IsTakenBy (F : Core → List ℕ → Decision) (now : Core) (m : Message) : Type 0 where
@@ -146,25 +97,14 @@ pub record IsTakenBy (F : Core → List ℕ → Decision) (now : Core) (m : Mess
 pub taken_by : (old now : Core) (s : Side) (m : Message) (d : IsDeciding s old) → (l : Later s old now) → side m ≡ s → IsSendable m → MayStart old s m → MayComplete now now.phase m → IsTakenBy d.F now m
 taken_by old now s m d l sd sn st ok =
     let t : IsTaken (decision now.phase old now (side m) (enc m)) now m = taken_in now.phase old now m sn (began_at old now m s sd l st) ok in
-    let q : Some t.d ≡ Some (d.F now (enc m)) = sym t.is ∙ ap (λ u. decision now.phase old now u (enc m)) sd ∙ d.decides now l (enc m) in
-    let same : t.d ≡ d.F now (enc m) = cc in
-    record { at_head = subst (λ x. HasHead x m) same t.at_head; at_last = subst (λ x. HasLast x m) same t.at_last }
+    grind (arith, t, taken_in, began_at)
 
 pub exact_more : (old now later : Core) (s : Side) (m : Message) (bytes left : List ℕ) → Later s old now → Later s now later →
     side m ≡ s → IsSendable m → MayStart old s m → MayComplete later later.phase m → enc m ≡ bytes ++ left → IsFilled left → by_tests old now s bytes ≡ More
-exact_more old now later s m bytes left l l' sd sn st ok e f =
-    let d : IsDeciding s old = deciding_of old.phase s old m refl st in
-    let t : IsTakenBy d.F later m = taken_by old later s m d (Later-trans l l') sd sn st ok in
-    let long : length (bytes ++ left) ≡ (d.F later (bytes ++ left)).head_length + (d.F later (bytes ++ left)).payload_length =
-    subst (λ bs. length bs ≡ (d.F later bs).head_length + (d.F later bs).payload_length) e t.at_head.long in
-    let clean : (d.F later (bytes ++ left)).head_fault ≡ None = subst (λ bs. (d.F later bs).head_fault ≡ None) e t.at_head.clean in
-    ap (λ o. reading_by_decision o bytes) (d.decides now l bytes) ∙ part_goes_on s now later d.F (d.steady now l) l' bytes left f long clean
+exact_more old now later s m bytes left l l' sd sn st ok e f = grind (arith, deciding_of, taken_by, Later-trans, part_goes_on)
 
 pub exact_whole : (old now : Core) (s : Side) (m : Message) → Later s old now → side m ≡ s → IsSendable m → MayStart old s m → MayComplete now now.phase m → by_tests old now s (enc m) ≡ Whole m
-exact_whole old now s m l sd sn st ok =
-    let d : IsDeciding s old = deciding_of old.phase s old m refl st in
-    let t : IsTakenBy d.F now m = taken_by old now s m d l sd sn st ok in
-    ap (λ o. reading_by_decision o (enc m)) (d.decides now l (enc m)) ∙ read_whole (d.F now (enc m)) m t.at_head t.at_last
+exact_whole old now s m l sd sn st ok = grind (arith, deciding_of, taken_by, nat_lt, le-ltb, eq-eqb)
 
 pub exact : IsExact by_tests
 exact = grind (arith, exact_more, exact_whole)

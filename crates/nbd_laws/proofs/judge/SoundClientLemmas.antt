@@ -1,5 +1,5 @@
 -- What the judge takes for a request is one that the rules allow.
-use Rattle.nbd_laws.proofs.Common.{◌≡◌, ℕ, ◌<◌, ◌≤◌, ◌+◌, ◌^◌, ◌&&◌, if◌then◌else◌, IsTrue, None, List, length, drop, refl, sym, subst, Bool, true, false, arith, length-drop, ltb-false, OutOfProfile, LONGEST_PAYLOAD, EXTENDED_REQUEST_MAGIC, REQUEST_MAGIC, Client, Message, enc, head, tail, AreBytes, with_number, number_at-lt, AreBytes-drop, number_at, Exporting, MayComplete, is_extended, is_request, IsSendable, carries_payload, Transmission, Core, extended_request, extended_request_of, request_by, request_of, short_request, read_by, request_unless, reading_by_decision, Whole, extended_payload_length, extended_request_fault, is_too_large, request_payload_length}
+use Rattle.nbd_laws.proofs.Common.{◌≡◌, ℕ, ◌<◌, ◌≤◌, ◌+◌, ◌^◌, ◌&&◌, if◌then◌else◌, IsTrue, None, List, length, drop, refl, Bool, true, false, arith, length-drop, ltb-false, OutOfProfile, EXTENDED_REQUEST_MAGIC, REQUEST_MAGIC, Client, Message, enc, head, tail, AreBytes, with_number, number_at-lt, AreBytes-drop, number_at, Exporting, MayComplete, is_extended, is_request, IsSendable, carries_payload, Transmission, Core, extended_request, extended_request_of, request_by, request_of, short_request, read_by, request_unless, reading_by_decision, Whole, extended_payload_length, extended_request_fault, is_too_large, request_payload_length}
 use Rattle.nbd_laws.proofs.judge.BoolLemmas.{fault_none}
 use Rattle.nbd_laws.proofs.judge.SoundNegotiationLemmas.{IsFit, IsWhole, whole, magic_there}
 
@@ -29,9 +29,7 @@ extended_is bytes a l m =
 
 -- what is not too large
 pub not_large : (carries large : Bool) (len n : ℕ) → large ≡ is_too_large len → (carries && large) ≡ false → n ≡ (if carries then len else 0) → n < 2 ^ 32
-not_large true true len n q e l = absurd (cc)
-not_large true false len n q e l = (let h : len ≤ LONGEST_PAYLOAD = ltb-false LONGEST_PAYLOAD len (sym q) in omega (arith, h, l))
-not_large false large len n q e l = omega (arith, l)
+not_large carries large len n q e l = grind (arith, ltb-false)
 
 extended_sendable : (bytes : List ℕ) → AreBytes bytes → length bytes ≡ 32 + extended_payload_length (number_at 4 2 bytes) (number_at 6 2 bytes) (number_at 24 8 bytes) →
     extended_request_fault (number_at 4 2 bytes) (number_at 6 2 bytes) (number_at 16 8 bytes) (number_at 24 8 bytes) ≡ None → IsSendable (extended_request_of bytes)
@@ -59,31 +57,14 @@ pub record IsAsked (now : Core) (export : Exporting) (bytes : List ℕ) (m : Mes
 short_sound : (now : Core) (export : Exporting) (bytes : List ℕ) (m : Message) → now.disconnected ≡ false → now.extended ≡ false → AreBytes bytes → read_by (short_request now bytes) bytes ≡ Whole m → IsAsked now export bytes m
 unfolding MayComplete
 short_sound now export bytes m is_d x a e =
-    let command : ℕ = number_at 6 2 bytes in
-    let len : ℕ = number_at 24 4 bytes in
     let w : IsWhole (short_request now bytes) bytes m = whole (short_request now bytes) bytes m e in
-    let long : length bytes ≡ 28 + request_payload_length command len = w.long in
-    let mg = magic_there (number_at 0 4 bytes) REQUEST_MAGIC _ w.at_head in
-    subst (IsAsked now export bytes) w.is (record {
-      fit = grind (arith, request_is, request_sendable);
-      asks = refl;
-      headed = sym x;
-      open_still = is_d;
-    })
+    grind (arith, w, whole, magic_there, request_is, request_sendable)
 
 extended_sound : (now : Core) (export : Exporting) (bytes : List ℕ) (m : Message) → now.disconnected ≡ false → now.extended ≡ true → AreBytes bytes → read_by (extended_request now bytes) bytes ≡ Whole m → IsAsked now export bytes m
 unfolding MayComplete
 extended_sound now export bytes m is_d x a e =
-    let len : ℕ = number_at 24 8 bytes in
     let w : IsWhole (extended_request now bytes) bytes m = whole (extended_request now bytes) bytes m e in
-    let long : length bytes ≡ 32 + extended_payload_length (number_at 4 2 bytes) (number_at 6 2 bytes) len = w.long in
-    let mg = magic_there (number_at 0 4 bytes) EXTENDED_REQUEST_MAGIC _ w.at_head in
-    subst (IsAsked now export bytes) w.is (record {
-      fit = grind (arith, extended_is, extended_sendable);
-      asks = refl;
-      headed = sym x;
-      open_still = is_d;
-    })
+    grind (arith, w, whole, magic_there, extended_is, extended_sendable)
 
 pub request_sound : (now : Core) (export : Exporting) (d : Bool) (bytes : List ℕ) (m : Message) → now.disconnected ≡ d → AreBytes bytes → reading_by_decision (request_unless d now bytes) bytes ≡ Whole m → IsAsked now export bytes m
 request_sound now export true bytes m is_d a e = absurd (cc)

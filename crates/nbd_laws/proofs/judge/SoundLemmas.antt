@@ -1,5 +1,5 @@
 -- The judge is sound: a message that it calls whole is one that the rules allow.
-use Rattle.nbd_laws.proofs.Common.{◌≡◌, ℕ, ◌⊎◌, List, [], ◌∷◌, refl, sym, ◌∙◌, ap, subst, inl, inr, Some, false, is_some, IsTrue, Side, Client, Server, Message, AreBytes, turn, AreBytes-snoc, Exporting, MayStartIn, MayComplete, request_of_reply, is_extended, is_request, Phase, Greet, Flags, Choosing, Naming, Aborting, Answering, Transmission, Core, OutOfTurn, judge_in, by_tests, Reading, More, Whole, Bad, Judge, IsReached}
+use Rattle.nbd_laws.proofs.Common.{arith, ◌≡◌, ℕ, ◌⊎◌, List, [], ◌∷◌, refl, sym, ◌∙◌, ap, subst, inl, inr, Some, is_some, IsTrue, Side, Client, Server, Message, AreBytes, turn, AreBytes-snoc, Exporting, MayStartIn, MayComplete, request_of_reply, is_extended, Phase, Transmission, Core, OutOfTurn, judge_in, by_tests, Reading, More, Whole, Bad, Judge, IsReached}
 use Rattle.nbd_laws.proofs.reading.ReaderLemmas.{Kept, begun, kept, Later, at_once, Later-trans, IsSoundAt, IsSound}
 use Rattle.nbd_laws.proofs.judge.PhaseLemmas.{IsTransmitting, Later-disconnected, Later-transmission, Later-turn, Later-extended}
 use Rattle.nbd_laws.proofs.judge.SoundClientLemmas.{IsAsked, request_sound}
@@ -16,8 +16,7 @@ kept_later (begun b lt r) = at_once
 kept_later (kept b lt k m l r) = Later-trans (kept_later k) l
 
 pub kept_reached : {judge : Judge} {s : Side} {old now : Core} {bytes : List ℕ} → Kept judge s old now bytes → IsReached now
-kept_reached (begun b lt r) = r
-kept_reached (kept b lt k m l r) = r
+kept_reached h = grind arith
 
 abbrev pub IsFirst : Judge → Side → Core → Core → List ℕ → Type 0
 IsFirst judge s old now bytes = ((old ≡ now) × ((b : ℕ) × (bytes ≡ b ∷ []))) ⊎ ((b : ℕ) × (judge old old s (b ∷ []) ≡ More))
@@ -32,38 +31,17 @@ kept_first {judge} {s} {old} (kept {now = now} {bytes = bytes} b lt k m l r) = e
 
 -- in turn, or in transmission
 in_turn : (phase : Phase) (old now : Core) (s : Side) (bytes : List ℕ) → (judge_in phase old now s bytes ≡ Bad OutOfTurn) ⊎ (turn phase ≡ Some s) ⊎ IsTransmitting phase
-in_turn Greet old now Server bytes = inr (inl refl)
-in_turn Flags old now Client bytes = inr (inl refl)
-in_turn Choosing old now Client bytes = inr (inl refl)
-in_turn Naming old now Server bytes = inr (inl refl)
-in_turn Aborting old now Server bytes = inr (inl refl)
-in_turn (Answering option given info) old now Server bytes = inr (inl refl)
-in_turn (Transmission export) old now s bytes = inr (inr (export, refl))
-in_turn phase old now s bytes = inl refl
-
-pub opened_by : (old now : Core) (s : Side) (bytes : List ℕ) (r : Reading) → by_tests old now s bytes ≡ r → (r ≡ Bad OutOfTurn → ⊥) → (turn now.phase ≡ Some s) ⊎ IsTransmitting now.phase
-opened_by old now s bytes r e n = elim (in_turn now.phase old now s bytes) [ inl q ↦ absurd (n (sym e ∙ q)) | inr o ↦ o ]
+in_turn phase old now s bytes = grind arith
 
 -- a side's bytes that were not refused began in its turn, or in transmission
 pub turn_of_reading : {s : Side} {old now : Core} {bytes : List ℕ} (r : Reading) → Kept by_tests s old now bytes → by_tests old now s bytes ≡ r → (r ≡ Bad OutOfTurn → ⊥) → (turn old.phase ≡ Some s) ⊎ IsTransmitting old.phase
-turn_of_reading {s} {old} {now} {bytes} r k e n = elim (kept_first k) [
-  | inl (same, (c, is)) ↦ opened_by old old s bytes r (ap (λ x. by_tests old x s bytes) same ∙ e) n
-  | inr (c, m) ↦ opened_by old old s (c ∷ []) More m (λ q. (cc))
-]
-
-starts_by_turn : (phase : Phase) (core : Core) (s : Side) (m : Message) → turn phase ≡ Some s → MayStartIn phase core s m
-unfolding MayStartIn
-starts_by_turn (Transmission export) core s m t = absurd (cc)
-starts_by_turn phase core s m t = t
+turn_of_reading {s} {old} {now} {bytes} r k e n = grind (arith, kept_first, in_turn)
 
 sound_in_turn : (now : Core) (s : Side) (bytes : List ℕ) (m : Message) → AreBytes bytes → turn now.phase ≡ Some s → by_tests now now s bytes ≡ Whole m → IsSoundAt now now s bytes m
+unfolding MayStartIn
 sound_in_turn now s bytes m a t e =
     let f : IsFit now now.phase s bytes m = negotiation_sound now.phase now s bytes m a t e in
-    record { encodes = f.encodes; sided = f.sided; sendable = f.sendable; starts = starts_by_turn now.phase now s m t; completes = f.completes }
-
-client_starts : (export : Exporting) (core : Core) (m : Message) → IsTrue (is_request m) → core.disconnected ≡ false → is_extended m ≡ core.extended → MayStartIn (Transmission export) core Client m
-unfolding MayStartIn
-client_starts export core m asks g x = (asks, g, x)
+    record { encodes = f.encodes; sided = f.sided; sendable = f.sendable; starts = grind arith; completes = f.completes }
 
 server_starts : (export : Exporting) (core : Core) (m : Message) → IsTrue (is_some (request_of_reply core m)) → is_extended m ≡ core.extended → MayStartIn (Transmission export) core Server m
 unfolding MayStartIn
@@ -71,13 +49,14 @@ server_starts export core m h x = (h, x)
 
 sound_in_transmission : (old now : Core) (s : Side) (bytes : List ℕ) (m : Message) (export : Exporting) → Later s old now → IsReached now → AreBytes bytes → old.phase ≡ Transmission export → now.phase ≡ Transmission export →
     judge_in (Transmission export) old now s bytes ≡ Whole m → IsSoundAt old now s bytes m
+unfolding MayStartIn
 sound_in_transmission old now Client bytes m export l r a t0 t1 e =
     let q : IsAsked now export bytes m = request_sound now export now.disconnected bytes m refl a e in
     record {
       encodes = q.fit.encodes;
       sided = q.fit.sided;
       sendable = q.fit.sendable;
-      starts = subst (λ p. MayStartIn p old Client m) (sym t0) (client_starts export old m q.asks (sym (Later-disconnected l) ∙ q.open_still) (q.headed ∙ Later-extended l export t0));
+      starts = subst (λ p. MayStartIn p old Client m) (sym t0) ((grind (arith, q.asks, sym (Later-disconnected l) ∙ q.open_still, q.headed ∙ Later-extended l export t0)));
       completes = subst (λ p. MayComplete now p m) (sym t1) q.fit.completes;
     }
 sound_in_transmission old now Server bytes m export l r a t0 t1 e =

@@ -1,9 +1,8 @@
 -- What the judge takes for a message of the negotiation is one that the rules allow.
-use Rattle.nbd_laws.proofs.Common.{◌≡◌, ℕ, ◌<◌, ◌≤◌, ◌+◌, ◌^◌, ◌==◌, List, [], length, drop, refl, sym, ap, subst, Option, Some, None, Bool, true, false, not, ◌&&◌, eqb-true, arith, length-drop, GREETING_MAGIC, OPTION_MAGIC, ANSWER_MAGIC, Side, Client, Server, Message, Greeting, ClientFlags, Choice, Exported, enc, head, tail, AreBytes, is_proper_option, turn, takes_contexts, with_number, number_at-lt, AreBytes-drop, number_at, Exporting, has, MayComplete, IsSendable, side, Phase, Greet, Flags, Choosing, Naming, Aborting, Answering, Transmission, Core, WireFault, BadMagic, BadExport, Decision, greeting, client_flags, choice, export_answer, answer_of, abort_answer, answer, answer_fault, answer_head_fault, greeting_fault, are_zeroes, abort_fault, read_by, last_reading, judge_in, Whole, fault_if}
+use Rattle.nbd_laws.proofs.Common.{and_parts, not-false, ◌≡◌, ℕ, ◌≤◌, ◌+◌, ◌==◌, List, [], length, drop, refl, sym, ap, subst, Option, Some, None, Bool, true, false, not, eqb-true, arith, length-drop, GREETING_MAGIC, OPTION_MAGIC, ANSWER_MAGIC, Side, Client, Server, Message, Greeting, ClientFlags, Choice, Exported, enc, head, tail, AreBytes, is_proper_option, turn, takes_contexts, with_number, number_at-lt, AreBytes-drop, number_at, Exporting, has, MayComplete, IsSendable, side, Phase, Greet, Flags, Choosing, Naming, Aborting, Answering, Core, WireFault, BadMagic, BadExport, Decision, greeting, client_flags, choice, export_answer, answer_of, abort_answer, answer, answer_head_fault, are_zeroes, read_by, judge_in, Whole, fault_if, nat_lt}
 use Rattle.nbd_wire.specs.declared.handshake.TheConstants as handshake
-use Rattle.nbd_wire.specs.declared.options.TheConstants as options
 use Rattle.nbd_laws.proofs.judge.AllowLemmas.{no_length}
-use Rattle.nbd_laws.proofs.judge.BoolLemmas.{not_false, and_true, whole_at, fault_none, ended_whole, are_zeroes-replicate}
+use Rattle.nbd_laws.proofs.judge.BoolLemmas.{fault_none, ended_whole, are_zeroes-replicate}
 
 pub record IsFit (now : Core) (phase : Phase) (s : Side) (bytes : List ℕ) (m : Message) : Type 0 where
   pub encodes : bytes ≡ enc m
@@ -19,16 +18,13 @@ pub record IsWhole (d : Decision) (bytes : List ℕ) (m : Message) : Type 0 wher
   pub is : d.message ≡ m
 
 pub whole : (d : Decision) (bytes : List ℕ) (m : Message) → read_by d bytes ≡ Whole m → IsWhole d bytes m
-whole d bytes m e =
-    let w : (length bytes ≡ d.head_length + d.payload_length) × (d.head_fault ≡ None) × (last_reading d.last_fault d.message ≡ Whole m) = whole_at d.head_length d.payload_length bytes d.head_fault (last_reading d.last_fault d.message) m e in
-    let f : (d.last_fault ≡ None) × (d.message ≡ m) = ended_whole d.last_fault d.message m w.2 in
-    record { long = w.0; at_head = w.1; at_last = f.0; is = f.1 }
+whole d bytes m e = grind (arith, nat_lt, eqb-true, ended_whole)
 
 pub drop_none : (n : ℕ) (xs : List ℕ) → length xs ≡ n → drop n xs ≡ []
 drop_none n xs e = no_length (drop n xs) (omega (arith, length-drop n xs))
 
 pub magic_there : (a b : ℕ) (rest : Option WireFault) → fault_if (not (a == b)) BadMagic rest ≡ None → (a ≡ b) × (rest ≡ None)
-magic_there a b rest e = let h : (not (a == b) ≡ false) × (rest ≡ None) = fault_none (not (a == b)) BadMagic rest e in (eqb-true a b (not_false (a == b) h.0), h.1)
+magic_there a b rest e = let h : (not (a == b) ≡ false) × (rest ≡ None) = fault_none (not (a == b)) BadMagic rest e in (eqb-true a b (not-false (a == b) h.0), h.1)
 
 greeting_is : (bytes : List ℕ) → AreBytes bytes → length bytes ≡ 18 → number_at 0 8 bytes ≡ GREETING_MAGIC → number_at 8 8 bytes ≡ OPTION_MAGIC → bytes ≡ enc (Greeting (number_at 16 2 bytes))
 unfolding enc head tail
@@ -40,14 +36,7 @@ greeting_sound : (now : Core) (bytes : List ℕ) (m : Message) → AreBytes byte
 unfolding MayComplete IsSendable
 greeting_sound now bytes m a e =
     let w : IsWhole (greeting bytes) bytes m = whole (greeting bytes) bytes m e in
-    let f : (not ((number_at 0 8 bytes == GREETING_MAGIC) && (number_at 8 8 bytes == OPTION_MAGIC)) ≡ false) × (greeting_fault (number_at 16 2 bytes) ≡ None) = fault_none _ _ _ w.at_head in
-    let ms : (_ ≡ true) × (_ ≡ true) = and_true (number_at 0 8 bytes == GREETING_MAGIC) (number_at 8 8 bytes == OPTION_MAGIC) (not_false _ f.0) in
-    subst (IsFit now Greet Server bytes) w.is (record {
-      encodes = greeting_is bytes a w.long (eqb-true _ _ ms.0) (eqb-true _ _ ms.1);
-      sided = refl;
-      sendable = number_at-lt 16 2 bytes a;
-      completes = f.1;
-    })
+    grind (arith, w, whole, fault_none, and_parts, not-false, greeting_is, eqb-true, number_at-lt)
 
 flags_is : (bytes : List ℕ) → AreBytes bytes → length bytes ≡ 4 → bytes ≡ enc (ClientFlags (number_at 0 4 bytes))
 unfolding enc head tail
@@ -75,14 +64,7 @@ choice_sound : (now : Core) (bytes : List ℕ) (m : Message) → AreBytes bytes 
 unfolding MayComplete IsSendable
 choice_sound now bytes m a e =
     let w : IsWhole (choice bytes) bytes m = whole (choice bytes) bytes m e in
-    let long : length bytes ≡ 16 + number_at 12 4 bytes = w.long in
-    let lt : number_at 12 4 bytes < 2 ^ 32 = number_at-lt 12 4 bytes a in
-    subst (IsFit now Choosing Client bytes) w.is (record {
-      encodes = choice_is bytes a w.long (magic_there _ _ _ w.at_head).0;
-      sided = refl;
-      sendable = (number_at-lt 8 4 bytes a, (omega (arith, length-drop 16 bytes, long, lt), AreBytes-drop 16 bytes a));
-      completes = tt;
-    })
+    grind (arith, w, whole, number_at-lt, choice_is, magic_there, length-drop, AreBytes-drop)
 
 exported_is : (bytes : List ℕ) (padded : Bool) → AreBytes bytes → 10 ≤ length bytes → drop 10 bytes ≡ tail (Exported (number_at 0 8 bytes) (number_at 8 2 bytes) padded) → bytes ≡ enc (Exported (number_at 0 8 bytes) (number_at 8 2 bytes) padded)
 unfolding enc head
@@ -104,7 +86,7 @@ exported_sound now false bytes m is_c a e =
     let long : length bytes ≡ 10 + 124 = w.long in
     let g : (not (are_zeroes (drop 10 bytes)) ≡ false) × (None ≡ None) = fault_none _ BadExport None w.at_last in
     subst (IsFit now Naming Server bytes) w.is (record {
-      encodes = exported_is bytes true a (omega (arith, long)) (are_zeroes-replicate 124 (drop 10 bytes) (omega (arith, long, length-drop 10 bytes)) (not_false _ g.0));
+      encodes = exported_is bytes true a (omega (arith, long)) (are_zeroes-replicate 124 (drop 10 bytes) (omega (arith, long, length-drop 10 bytes)) (not-false _ g.0));
       sided = refl;
       sendable = (number_at-lt 0 8 bytes a, number_at-lt 8 2 bytes a);
       completes = (sym (ap not is_c), w.at_head);
@@ -130,13 +112,7 @@ abort_sound : (now : Core) (bytes : List ℕ) (m : Message) → AreBytes bytes �
 unfolding MayComplete
 abort_sound now bytes m a e =
     let w : IsWhole (abort_answer bytes) bytes m = whole (abort_answer bytes) bytes m e in
-    let mg = magic_there (number_at 0 8 bytes) ANSWER_MAGIC _ w.at_head in
-    subst (IsFit now Aborting Server bytes) w.is (record {
-      encodes = answer_is bytes a w.long mg.0;
-      sided = refl;
-      sendable = answer_sendable bytes a w.long;
-      completes = subst (λ n. answer_fault options.ABORT (number_at 8 4 bytes) (abort_fault (number_at 12 4 bytes) n) ≡ None) (stated bytes w.long) mg.1;
-    })
+    grind (arith, w, whole, magic_there, answer_is, answer_sendable, stated)
 
 answer_sound : (now : Core) (option : ℕ) (given : List ℕ) (info : Option Exporting) (bytes : List ℕ) (m : Message) → AreBytes bytes → read_by (answer now.profile option (is_proper_option option given) (takes_contexts option given) info now.selection bytes) bytes ≡ Whole m → IsFit now (Answering option given info) Server bytes m
 unfolding MayComplete
@@ -161,5 +137,4 @@ negotiation_sound Choosing now Client bytes m a t e = choice_sound now bytes m a
 negotiation_sound Naming now Server bytes m a t e = exported_sound now (has now.client_flags handshake.C_NO_ZEROES) bytes m refl a e
 negotiation_sound Aborting now Server bytes m a t e = abort_sound now bytes m a e
 negotiation_sound (Answering option given info) now Server bytes m a t e = answer_sound now option given info bytes m a e
-negotiation_sound (Transmission export) now s bytes m a t e = absurd (cc)
-negotiation_sound phase now s bytes m a t e = absurd (cc)
+negotiation_sound phase now s bytes m a t e = grind (arith, greeting_sound, flags_sound, choice_sound, exported_sound, abort_sound, answer_sound)

@@ -1,10 +1,11 @@
 -- What the judge takes for a reply is one that the rules allow.
-use Rattle.nbd_laws.proofs.Common.{◌≡◌, ℕ, ◌<◌, ◌≤◌, ◌+◌, ◌^◌, ◌==◌, List, length, drop, refl, sym, ◌∙◌, ap, subst, Option, Some, None, Bool, true, false, eqb-true, is_some, arith, length-drop, IsTrue, nat_le, leb-true, ltb-false, EXTENDED_CHUNK_MAGIC, SIMPLE_MAGIC, CHUNK_MAGIC, LONGEST_PAYLOAD, WireFault, Server, Message, enc, head, tail, AreBytes, with_number, number_at-lt, AreBytes-drop, number_at, extended_chunk_of, extended_chunk_to, extended_last_fault, extended_reply_by, reply_in, chunk_last_fault, begins, chunk_of, chunk_to, operation_if, operation_of, no_reply, reply, reply_by, simple_of, simple_to, read_by, Whole, is_too_large, offset_fault, simple_length, chunk_head_fault, simple_fault, simple_last_fault, MayReply, MayComplete, is_extended, request_of_reply, Profile, Operation, Exporting, IsSendable, Transmission, Core, target, operation, BadMagic, BadReplyOffset, OutOfProfile, UnknownCookie}
-use Rattle.nbd_laws.proofs.judge.BoolLemmas.{and_true, fault_none, not_false}
+use Rattle.nbd_laws.proofs.Common.{and_parts, not-false, ◌≡◌, ℕ, ◌<◌, ◌≤◌, ◌+◌, ◌^◌, ◌==◌, List, length, drop, refl, sym, ◌∙◌, ap, subst, Option, Some, None, Bool, true, false, eqb-true, is_some, arith, length-drop, IsTrue, nat_le, leb-true, ltb-false, EXTENDED_CHUNK_MAGIC, SIMPLE_MAGIC, CHUNK_MAGIC, LONGEST_PAYLOAD, WireFault, Server, Message, enc, head, tail, AreBytes, with_number, number_at-lt, AreBytes-drop, number_at, extended_chunk_of, extended_chunk_to, extended_last_fault, extended_reply_by, reply_in, chunk_last_fault, begins, chunk_of, chunk_to, operation_if, operation_of, no_reply, reply, reply_by, simple_of, simple_to, read_by, Whole, is_too_large, offset_fault, simple_length, chunk_head_fault, simple_fault, simple_last_fault, MayReply, MayComplete, is_extended, request_of_reply, Profile, Operation, Exporting, IsSendable, Transmission, Core, target, operation, BadMagic, BadReplyOffset, OutOfProfile, UnknownCookie}
+use Rattle.nbd_laws.proofs.judge.BoolLemmas.{fault_none}
 use Rattle.nbd_laws.proofs.reading.ReaderLemmas.{Later}
 use Rattle.nbd_laws.proofs.judge.PhaseLemmas.{IsAppended, Later-appended, target-append}
 use Rattle.nbd_laws.proofs.judge.SoundNegotiationLemmas.{IsFit, IsWhole, whole}
-use Rattle.nbd_laws.proofs.judge.TidyLemmas.{IsTidy, AreTidy, tidy_entry}
+use Rattle.nbd_laws.proofs.judge.TidyLemmas.{IsTidy}
+use Rattle.nbd_laws.proofs.requests.EachLemmas.{Each, each_entry}
 
 pub record IsReplying (old now : Core) (export : Exporting) (bytes : List ℕ) (m : Message) : Type 0 where
   pub fit : IsFit now (Transmission export) Server bytes m
@@ -19,11 +20,7 @@ pub record IsFound (old now : Core) (cookie : ℕ) (e : Operation) : Type 0 wher
   pub is : operation k now.entries ≡ Some e
 
 pub operation_is_found : (old now : Core) (cookie : ℕ) (e : Operation) → IsAppended old now → operation_of old now cookie ≡ Some e → IsFound old now cookie e
-operation_is_found old now cookie e a h = go (target cookie old.entries) refl h
-  where
-    go : (o : Option ℕ) → target cookie old.entries ≡ o → operation_if o now.entries ≡ Some e → IsFound old now cookie e
-    go (Some k) q h = record { k = k; was = q; still = ap (target cookie) a.entries_are ∙ target-append cookie old.entries a.more k q; is = h }
-    go None q h = absurd (cc)
+operation_is_found old now cookie e a h = grind (arith, target-append)
 
 simple_is : (bytes : List ℕ) → AreBytes bytes → 16 ≤ length bytes → number_at 0 4 bytes ≡ SIMPLE_MAGIC → bytes ≡ enc (simple_of bytes)
 unfolding enc head tail
@@ -31,15 +28,11 @@ simple_is bytes a l m =
     with_number 0 4 bytes SIMPLE_MAGIC _ a (omega arith) m (with_number 4 4 bytes (number_at 4 4 bytes) _ a (omega (arith, length-drop 4 bytes)) refl
     (with_number 8 8 bytes (number_at 8 8 bytes) (drop 16 bytes) a (omega (arith, length-drop 8 bytes)) refl refl))
 
-simple-short : {x : Bool} (e : Operation) (error : ℕ) → x ≡ false → IsTidy x e → simple_length e error < 2 ^ 32
-simple-short e error q t = grind arith
-
 simple_sendable : {x : Bool} (bytes : List ℕ) (e : Operation) → x ≡ false → AreBytes bytes → length bytes ≡ 16 + simple_length e (number_at 4 4 bytes) → IsTidy x e → IsSendable (simple_of bytes)
 unfolding IsSendable
 simple_sendable bytes e q a l t =
     let p : length (drop 16 bytes) ≡ simple_length e (number_at 4 4 bytes) = omega (arith, length-drop 16 bytes, l) in
-    let lt : simple_length e (number_at 4 4 bytes) < 2 ^ 32 = simple-short e (number_at 4 4 bytes) q t in
-    (number_at-lt 4 4 bytes a, number_at-lt 8 8 bytes a, (omega (arith, p, lt), AreBytes-drop 16 bytes a))
+    grind (arith, p, length-drop, number_at-lt, AreBytes-drop)
 
 simple_may : (profile : Profile) (structured : Bool) (export : Exporting) (e : Operation) (bytes : List ℕ) → length bytes ≡ 16 + simple_length e (number_at 4 4 bytes) →
     simple_fault structured (Some e) (number_at 4 4 bytes) ≡ None → simple_last_fault export (Some e) (number_at 4 4 bytes) ≡ None → MayReply profile structured export e (simple_of bytes)
@@ -54,7 +47,7 @@ simple_complete : (old now : Core) (export : Exporting) (bytes : List ℕ) (e : 
 unfolding MayComplete
 simple_complete old now export bytes e f h = (f.k, e, f.still, f.is, h)
 
-simple_sound : (old now : Core) (export : Exporting) (bytes : List ℕ) (o : Option Operation) (m : Message) → operation_of old now (number_at 8 8 bytes) ≡ o → IsAppended old now → now.extended ≡ false → AreTidy now.extended now.entries → AreBytes bytes → number_at 0 4 bytes ≡ SIMPLE_MAGIC →
+simple_sound : (old now : Core) (export : Exporting) (bytes : List ℕ) (o : Option Operation) (m : Message) → operation_of old now (number_at 8 8 bytes) ≡ o → IsAppended old now → now.extended ≡ false → Each (IsTidy now.extended) now.entries → AreBytes bytes → number_at 0 4 bytes ≡ SIMPLE_MAGIC →
     read_by (simple_to export now o bytes) bytes ≡ Whole m → IsReplying old now export bytes m
 simple_sound old now export bytes None m is_o ap_ x t a mg eq = absurd (let q : Some UnknownCookie ≡ None = (whole (simple_to export now None bytes) bytes m eq).at_head in (cc))
 simple_sound old now export bytes (Some e) m is_o ap_ x t a mg eq =
@@ -63,7 +56,7 @@ simple_sound old now export bytes (Some e) m is_o ap_ x t a mg eq =
     let is : IsFound old now (number_at 8 8 bytes) e = operation_is_found old now (number_at 8 8 bytes) e ap_ is_o in
     let may : MayReply now.profile now.structured export e (simple_of bytes) = simple_may now.profile now.structured export e bytes long w.at_head w.at_last in
     subst (IsReplying old now export bytes) w.is (record {
-      fit = record { encodes = simple_is bytes a (omega (arith, long)) mg; sided = refl; sendable = simple_sendable bytes e x a long (tidy_entry is.k now.entries e t is.is); completes = simple_complete old now export bytes e is may };
+      fit = record { encodes = simple_is bytes a (omega (arith, long)) mg; sided = refl; sendable = simple_sendable bytes e x a long (each_entry (IsTidy now.extended) is.k now.entries e t is.is); completes = simple_complete old now export bytes e is may };
       starts = reply_may old now (simple_of bytes) (number_at 8 8 bytes) e refl is;
       headed = sym x;
     })
@@ -89,7 +82,7 @@ chunk_complete : (old now : Core) (export : Exporting) (bytes : List ℕ) (e : O
 unfolding MayComplete
 chunk_complete old now export bytes e f h = (f.k, e, f.still, f.is, h)
 
-chunk_sound : (old now : Core) (export : Exporting) (bytes : List ℕ) (o : Option Operation) (m : Message) → operation_of old now (number_at 8 8 bytes) ≡ o → IsAppended old now → now.extended ≡ false → AreTidy now.extended now.entries → AreBytes bytes → number_at 0 4 bytes ≡ CHUNK_MAGIC →
+chunk_sound : (old now : Core) (export : Exporting) (bytes : List ℕ) (o : Option Operation) (m : Message) → operation_of old now (number_at 8 8 bytes) ≡ o → IsAppended old now → now.extended ≡ false → Each (IsTidy now.extended) now.entries → AreBytes bytes → number_at 0 4 bytes ≡ CHUNK_MAGIC →
     read_by (chunk_to export now o bytes) bytes ≡ Whole m → IsReplying old now export bytes m
 chunk_sound old now export bytes None m is_o ap_ x t a mg eq = absurd (let q : Some UnknownCookie ≡ None = (whole (chunk_to export now None bytes) bytes m eq).at_head in (cc))
 chunk_sound old now export bytes (Some e) m is_o ap_ x t a mg eq =
@@ -103,7 +96,7 @@ chunk_sound old now export bytes (Some e) m is_o ap_ x t a mg eq =
     })
 
 pub magic_of : (magic : ℕ) (bytes : List ℕ) → begins magic bytes ≡ true → (4 ≤ length bytes) × (number_at 0 4 bytes ≡ magic)
-magic_of magic bytes h = let b : (nat_le 4 (length bytes) ≡ true) × ((number_at 0 4 bytes == magic) ≡ true) = and_true _ _ h in (leb-true 4 (length bytes) b.0, eqb-true _ _ b.1)
+magic_of magic bytes h = let b : (nat_le 4 (length bytes) ≡ true) × ((number_at 0 4 bytes == magic) ≡ true) = and_parts _ _ h in (leb-true 4 (length bytes) b.0, eqb-true _ _ b.1)
 
 extended_chunk_is : (bytes : List ℕ) → AreBytes bytes → length bytes ≡ 32 + number_at 24 8 bytes → number_at 0 4 bytes ≡ EXTENDED_CHUNK_MAGIC → bytes ≡ enc (extended_chunk_of bytes)
 unfolding enc head tail
@@ -123,8 +116,7 @@ extended_chunk_sendable bytes a l small =
 
 -- what the last byte of such a chunk is refused for
 no_offset_fault : (earlier : Option WireFault) (e : Operation) (offset : ℕ) → offset_fault earlier e offset ≡ None → (earlier ≡ None) × (offset ≡ e.offset)
-no_offset_fault (Some f) e offset h = absurd (cc)
-no_offset_fault None e offset h = (refl, eqb-true offset e.offset (not_false _ (fault_none _ BadReplyOffset None h).0))
+no_offset_fault earlier e offset h = grind (arith, eqb-true, not-false, fault_none)
 
 extended_may : (profile : Profile) (structured : Bool) (export : Exporting) (e : Operation) (bytes : List ℕ) → chunk_head_fault structured (Some e) ≡ None → extended_last_fault profile export (Some e) bytes ≡ None → MayReply profile structured export e (extended_chunk_of bytes)
 unfolding MayReply
@@ -148,7 +140,7 @@ extended_sound old now export bytes (Some e) m is_o ap_ x a mg eq =
       headed = sym x;
     })
 
-pub reply_sound : (old now : Core) (export : Exporting) (bytes : List ℕ) (m : Message) → Later Server old now → old.phase ≡ Transmission export → AreTidy now.extended now.entries → AreBytes bytes →
+pub reply_sound : (old now : Core) (export : Exporting) (bytes : List ℕ) (m : Message) → Later Server old now → old.phase ≡ Transmission export → Each (IsTidy now.extended) now.entries → AreBytes bytes →
     read_by (reply export old now bytes) bytes ≡ Whole m → IsReplying old now export bytes m
 reply_sound old now export bytes m l t0 t a e = by now.extended refl e
   where
@@ -165,5 +157,4 @@ reply_sound old now export bytes m l t0 t a e = by now.extended refl e
     wide x false c e = absurd (let q : Some BadMagic ≡ None = (whole (no_reply bytes) bytes m e).at_head in (cc))
 
     by : (x : Bool) → now.extended ≡ x → read_by (reply_in x export now to bytes) bytes ≡ Whole m → IsReplying old now export bytes m
-    by false x e = go x (begins CHUNK_MAGIC bytes) (begins SIMPLE_MAGIC bytes) refl refl e
-    by true x e = wide x (begins EXTENDED_CHUNK_MAGIC bytes) refl e
+    by x' x e = grind (arith, go, wide)

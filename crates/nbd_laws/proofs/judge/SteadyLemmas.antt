@@ -1,6 +1,6 @@
 -- What is decided of a message does not change as its bytes come, nor where the other side's
 -- messages complete meanwhile.
-use Rattle.nbd_laws.proofs.Common.{not, ◌≡◌, ℕ, zero, suc, ◌+◌, ◌<◌, ◌≤◌, ◌==◌, List, [], ◌∷◌, ◌++◌, length, refl, sym, ◌∙◌, ap, subst, Option, Some, None, Bool, true, false, ◌&&◌, eq-eqb, nat_le, arith, length-append, le-leb, lt-leb, SIMPLE_MAGIC, CHUNK_MAGIC, EXTENDED_CHUNK_MAGIC, EXTENDED_REQUEST_MAGIC, GREETING_MAGIC, OPTION_MAGIC, ANSWER_MAGIC, REQUEST_MAGIC, Side, Client, Server, number_at-append, is_proper_option, turn, takes_contexts, number_at, Operation, Exporting, has, Phase, Greet, Flags, Choosing, Naming, Aborting, Answering, Transmission, Core, operation, target, BadMagic, UnknownCookie, Decision, abort_answer, answer, choice, client_flags, export_answer, greeting, begins, chunk_to, operation_if, operation_of, no_reply, reply_by, reply_in, extended_reply_by, extended_chunk_to, short_request, extended_request, request_by, simple_to, answer_head_fault, abort_fault, answer_fault, client_flags_fault, export_fault, greeting_fault, decision, request_unless, fault_if, request_fault, request_payload_length, simple_payload_length, simple_fault, chunk_head_fault, extended_head_fault, extended_payload_length, extended_request_fault, Selection, Profile}
+use Rattle.nbd_laws.proofs.Common.{and_from, not, ◌≡◌, ℕ, zero, suc, ◌+◌, ◌<◌, ◌≤◌, ◌==◌, List, [], ◌∷◌, ◌++◌, length, refl, sym, ◌∙◌, ap, subst, Option, Some, None, Bool, true, false, ◌&&◌, eq-eqb, nat_le, arith, length-append, le-leb, lt-leb, SIMPLE_MAGIC, CHUNK_MAGIC, EXTENDED_CHUNK_MAGIC, EXTENDED_REQUEST_MAGIC, GREETING_MAGIC, OPTION_MAGIC, ANSWER_MAGIC, REQUEST_MAGIC, Side, Client, Server, number_at-append, is_proper_option, turn, takes_contexts, number_at, Operation, Exporting, has, Phase, Greet, Flags, Choosing, Naming, Aborting, Answering, Transmission, Core, operation, BadMagic, Decision, abort_answer, answer, choice, client_flags, export_answer, greeting, begins, chunk_to, operation_of, no_reply, reply_by, reply_in, extended_reply_by, extended_chunk_to, short_request, extended_request, request_by, simple_to, answer_head_fault, abort_fault, answer_fault, client_flags_fault, export_fault, greeting_fault, decision, request_unless, fault_if, request_fault, request_payload_length, extended_head_fault, extended_payload_length, extended_request_fault, Selection, Profile}
 use Rattle.nbd_wire.specs.declared.handshake.TheConstants as handshake
 use Rattle.nbd_laws.proofs.reading.ReaderLemmas.{Later}
 use Rattle.nbd_laws.proofs.judge.SoundServerLemmas.{magic_of}
@@ -27,108 +27,69 @@ pub record IsDeciding (s : Side) (old : Core) : Type 0 where
   pub steady : (now : Core) → Later s old now → IsSteady s now F
   pub one_message : (now next : Core) (bytes : List ℕ) → (F now bytes).message ≡ (F next bytes).message
 
--- a head of one length
-pub record IsFixed (h : ℕ) (G : List ℕ → Decision) : Type 0 where
-  pub two : 2 ≤ h
-  pub is : (bytes : List ℕ) → (G bytes).head_length ≡ h
-  pub same : (bytes more : List ℕ) → h ≤ length bytes → IsSameHead (G bytes) (G (bytes ++ more))
-
 fixed_steady : (s : Side) (now : Core) (h : ℕ) (F : Core → List ℕ → Decision) (two : 2 ≤ h) → ((c : Core) (bytes : List ℕ) → (F c bytes).head_length ≡ h) →
     ((c d : Core) (bytes more : List ℕ) → h ≤ length bytes → IsSameHead (F c bytes) (F d (bytes ++ more))) → IsSteady s now F
-fixed_steady s now h F two is same = record {
-  two = λ bytes. (let e : (F now bytes).head_length ≡ h = is now bytes in omega (arith, e, two));
-  below = λ next l bytes more low. is next (bytes ++ more) ∙ sym (is now bytes);
-  grows = λ next l bytes more. (let e : (F now bytes).head_length ≡ h = is now bytes in let f : (F next (bytes ++ more)).head_length ≡ h = is next (bytes ++ more) in omega (arith, e, f));
-  beyond = λ next l bytes more long clean. (let e : (F now bytes).head_length ≡ h = is now bytes in same now next bytes more (omega (arith, e, long)));
-  back = λ next l bytes more long clean. (let e : (F now bytes).head_length ≡ h = is now bytes in sym (same now next bytes more (omega (arith, e, long))).head_fault_is ∙ clean);
-}
+fixed_steady s now h F two is same = grind arith
 
--- in negotiation nothing completes meanwhile
-in_negotiation : (s : Side) (old : Core) (h : ℕ) (G : List ℕ → Decision) → turn old.phase ≡ Some s → ((bytes : List ℕ) → decision old.phase old old s bytes ≡ Some (G bytes)) → IsFixed h G → IsDeciding s old
-in_negotiation s old h G t d f = record {
+-- in negotiation nothing completes meanwhile, and a head has one length
+in_negotiation : (s : Side) (old : Core) (h : ℕ) (G : List ℕ → Decision) → turn old.phase ≡ Some s → ((bytes : List ℕ) → decision old.phase old old s bytes ≡ Some (G bytes)) → 2 ≤ h → ((bytes : List ℕ) → (G bytes).head_length ≡ h) →
+    ((bytes more : List ℕ) → h ≤ length bytes → IsSameHead (G bytes) (G (bytes ++ more))) → IsDeciding s old
+in_negotiation s old h G t d two is same = record {
   F = λ c. G;
   decides = λ now l bytes. subst (λ (c : Core). decision c.phase old c s bytes ≡ Some (G bytes)) (Later-turn l t) (d bytes);
-  steady = λ now l. fixed_steady s now h (λ c. G) f.two (λ c. f.is) (λ c d. f.same);
+  steady = λ now l. fixed_steady s now h (λ c. G) two (λ c. is) (λ c d. same);
   one_message = λ now next bytes. refl;
 }
 
 at : (p n h : ℕ) (bytes more : List ℕ) → h ≤ length bytes → p + n ≤ h → number_at p n (bytes ++ more) ≡ number_at p n bytes
 at p n h bytes more long fits = number_at-append p n bytes more (omega (arith, long, fits))
 
-greeting_fixed : IsFixed 18 greeting
-greeting_fixed = record {
-  two = omega arith;
-  is = λ bytes. refl;
-  same = λ bytes more l. record {
-    head_length_is = refl;
-    head_fault_is = λ i. fault_if (not ((at 0 8 18 bytes more l (omega arith) i == GREETING_MAGIC) && (at 8 8 18 bytes more l (omega arith) i == OPTION_MAGIC))) BadMagic (greeting_fault (at 16 2 18 bytes more l (omega arith) i));
-    payload_length_is = refl;
-  };
+greeting_same : (bytes more : List ℕ) → 18 ≤ length bytes → IsSameHead (greeting bytes) (greeting (bytes ++ more))
+greeting_same bytes more l = record {
+  head_length_is = refl;
+  head_fault_is = λ i. fault_if (not ((at 0 8 18 bytes more l (omega arith) i == GREETING_MAGIC) && (at 8 8 18 bytes more l (omega arith) i == OPTION_MAGIC))) BadMagic (greeting_fault (at 16 2 18 bytes more l (omega arith) i));
+  payload_length_is = refl;
 }
 
-client_flags_fixed : (offered : ℕ) → IsFixed 4 (client_flags offered)
-client_flags_fixed offered = record {
-  two = omega arith;
-  is = λ bytes. refl;
-  same = λ bytes more l. record {
-    head_length_is = refl;
-    head_fault_is = λ i. client_flags_fault offered (at 0 4 4 bytes more l (omega arith) i);
-    payload_length_is = refl;
-  };
+client_flags_same : (offered : ℕ) (bytes more : List ℕ) → 4 ≤ length bytes → IsSameHead (client_flags offered bytes) (client_flags offered (bytes ++ more))
+client_flags_same offered bytes more l = record {
+  head_length_is = refl;
+  head_fault_is = λ i. client_flags_fault offered (at 0 4 4 bytes more l (omega arith) i);
+  payload_length_is = refl;
 }
 
-choice_fixed : IsFixed 16 choice
-choice_fixed = record {
-  two = omega arith;
-  is = λ bytes. refl;
-  same = λ bytes more l. record {
-    head_length_is = refl;
-    head_fault_is = λ i. fault_if (not (at 0 8 16 bytes more l (omega arith) i == OPTION_MAGIC)) BadMagic None;
-    payload_length_is = at 12 4 16 bytes more l (omega arith);
-  };
+choice_same : (bytes more : List ℕ) → 16 ≤ length bytes → IsSameHead (choice bytes) (choice (bytes ++ more))
+choice_same bytes more l = record {
+  head_length_is = refl;
+  head_fault_is = λ i. fault_if (not (at 0 8 16 bytes more l (omega arith) i == OPTION_MAGIC)) BadMagic None;
+  payload_length_is = at 12 4 16 bytes more l (omega arith);
 }
 
-exported_fixed : (no_zeroes : Bool) → IsFixed 10 (export_answer no_zeroes)
-exported_fixed true = record {
-  two = omega arith;
-  is = λ bytes. refl;
-  same = λ bytes more l. record {
-    head_length_is = refl;
-    head_fault_is = λ i. export_fault (at 0 8 10 bytes more l (omega arith) i) (at 8 2 10 bytes more l (omega arith) i);
-    payload_length_is = refl;
-  };
+exported_same : (no_zeroes : Bool) (bytes more : List ℕ) → 10 ≤ length bytes → IsSameHead (export_answer no_zeroes bytes) (export_answer no_zeroes (bytes ++ more))
+exported_same true bytes more l = record {
+  head_length_is = refl;
+  head_fault_is = λ i. export_fault (at 0 8 10 bytes more l (omega arith) i) (at 8 2 10 bytes more l (omega arith) i);
+  payload_length_is = refl;
 }
-exported_fixed false = record {
-  two = omega arith;
-  is = λ bytes. refl;
-  same = λ bytes more l. record {
-    head_length_is = refl;
-    head_fault_is = λ i. export_fault (at 0 8 10 bytes more l (omega arith) i) (at 8 2 10 bytes more l (omega arith) i);
-    payload_length_is = refl;
-  };
+exported_same false bytes more l = record {
+  head_length_is = refl;
+  head_fault_is = λ i. export_fault (at 0 8 10 bytes more l (omega arith) i) (at 8 2 10 bytes more l (omega arith) i);
+  payload_length_is = refl;
 }
 
-abort_fixed : IsFixed 20 abort_answer
-abort_fixed = record {
-  two = omega arith;
-  is = λ bytes. refl;
-  same = λ bytes more l. record {
-    head_length_is = refl;
-    head_fault_is = λ i. fault_if (not (at 0 8 20 bytes more l (omega arith) i == ANSWER_MAGIC)) BadMagic (answer_fault 2 (at 8 4 20 bytes more l (omega arith) i) (abort_fault (at 12 4 20 bytes more l (omega arith) i) (at 16 4 20 bytes more l (omega arith) i)));
-    payload_length_is = at 16 4 20 bytes more l (omega arith);
-  };
+abort_same : (bytes more : List ℕ) → 20 ≤ length bytes → IsSameHead (abort_answer bytes) (abort_answer (bytes ++ more))
+abort_same bytes more l = record {
+  head_length_is = refl;
+  head_fault_is = λ i. fault_if (not (at 0 8 20 bytes more l (omega arith) i == ANSWER_MAGIC)) BadMagic (answer_fault 2 (at 8 4 20 bytes more l (omega arith) i) (abort_fault (at 12 4 20 bytes more l (omega arith) i) (at 16 4 20 bytes more l (omega arith) i)));
+  payload_length_is = at 16 4 20 bytes more l (omega arith);
 }
 
-answer_fixed : (profile : Profile) (option : ℕ) (proper takes : Bool) (info : Option Exporting) (selection : Selection) → IsFixed 20 (answer profile option proper takes info selection)
-answer_fixed profile option proper takes info selection = record {
-  two = omega arith;
-  is = λ bytes. refl;
-  same = λ bytes more l. record {
-    head_length_is = refl;
-    head_fault_is = λ i. fault_if (not (at 0 8 20 bytes more l (omega arith) i == ANSWER_MAGIC)) BadMagic
-        (answer_head_fault profile option proper takes info (at 8 4 20 bytes more l (omega arith) i) (at 12 4 20 bytes more l (omega arith) i) (at 16 4 20 bytes more l (omega arith) i));
-    payload_length_is = at 16 4 20 bytes more l (omega arith);
-  };
+answer_same : (profile : Profile) (option : ℕ) (proper takes : Bool) (info : Option Exporting) (selection : Selection) (bytes more : List ℕ) → 20 ≤ length bytes → IsSameHead (answer profile option proper takes info selection bytes) (answer profile option proper takes info selection (bytes ++ more))
+answer_same profile option proper takes info selection bytes more l = record {
+  head_length_is = refl;
+  head_fault_is = λ i. fault_if (not (at 0 8 20 bytes more l (omega arith) i == ANSWER_MAGIC)) BadMagic
+      (answer_head_fault profile option proper takes info (at 8 4 20 bytes more l (omega arith) i) (at 12 4 20 bytes more l (omega arith) i) (at 16 4 20 bytes more l (omega arith) i));
+  payload_length_is = at 16 4 20 bytes more l (omega arith);
 }
 
 request_same : (c d : Core) (bytes more : List ℕ) → 28 ≤ length bytes → IsSameHead (short_request c bytes) (short_request d (bytes ++ more))
@@ -148,10 +109,7 @@ extended_same c d bytes more l = record {
 
 -- where no DISC has come, by whether extended headers are in force
 requests_are : {old now : Core} (export : Exporting) → Later Client old now → old.phase ≡ Transmission export → old.disconnected ≡ false → (bytes : List ℕ) → decision now.phase old now Client bytes ≡ Some (request_by old.extended now bytes)
-requests_are {old} {now} export l t d bytes =
-    ap (λ p. decision p old now Client bytes) (Later-transmission l export t)
-    ∙ ap (λ b. request_unless b now bytes) (Later-disconnected l ∙ d)
-    ∙ ap (λ x. Some (request_by x now bytes)) (Later-extended l export t)
+requests_are {old} {now} export l t d bytes = grind (arith, Later-transmission, Later-disconnected, Later-extended)
 
 in_requests : (old : Core) (export : Exporting) (x : Bool) → old.phase ≡ Transmission export → old.disconnected ≡ false → old.extended ≡ x → IsDeciding Client old
 in_requests old export false t d is = record {
@@ -173,22 +131,15 @@ entry-append zero (x ∷ es) more e h = absurd (cc)
 entry-append (suc zero) (x ∷ es) more e h = h
 entry-append (suc (suc k)) (x ∷ es) more e h = entry-append (suc k) es more e h
 
-both : {a b : Bool} → a ≡ true → b ≡ true → (a && b) ≡ true
-both {a} {b} e f = ap (λ z. z && b) e ∙ f
-
 pub begun_true : (magic : ℕ) (bytes more : List ℕ) → begins magic bytes ≡ true → begins magic (bytes ++ more) ≡ true
 begun_true magic bytes more e =
     let m : (4 ≤ length bytes) × (number_at 0 4 bytes ≡ magic) = magic_of magic bytes e in
     let long : 4 ≤ length bytes = m.0 in
-    both (le-leb 4 (length (bytes ++ more)) (omega (arith, long, length-append bytes more))) (eq-eqb _ _ (at 0 4 4 bytes more long (omega arith) ∙ m.1))
+    and_from _ _ (le-leb 4 (length (bytes ++ more)) (omega (arith, long, length-append bytes more))) (eq-eqb _ _ (at 0 4 4 bytes more long (omega arith) ∙ m.1))
 
 -- what begins as a simple reply does not begin as a chunk
 pub no_chunk : (bytes : List ℕ) → begins SIMPLE_MAGIC bytes ≡ true → begins CHUNK_MAGIC bytes ≡ false
 no_chunk bytes e = grind (arith, magic_of, le-leb)
-
--- less than four bytes begin nothing
-too_short : (magic : ℕ) (bytes : List ℕ) → length bytes < 4 → begins magic bytes ≡ false
-too_short magic bytes l = ap (λ b. b && (number_at 0 4 bytes == magic)) (lt-leb 4 (length bytes) l)
 
 -- which of the three a reply's bytes are
 pub data IsBegun (bytes : List ℕ) : Type 0 where
@@ -213,64 +164,22 @@ module _ (export : Exporting) (old now : Core) (bytes : List ℕ) where
   pub is_no_reply : begins CHUNK_MAGIC bytes ≡ false → begins SIMPLE_MAGIC bytes ≡ false → short_reply export old now bytes ≡ no_reply bytes
   is_no_reply c s = λ i. reply_by (c i) (s i) export now (operation_of old now (number_at 8 8 bytes)) bytes
 
-abbrev length_of : Decision → ℕ
-length_of d = d.head_length
-
 reply_two : (chunk simple : Bool) (export : Exporting) (now : Core) (o : Option Operation) (bytes : List ℕ) → 4 ≤ (reply_by chunk simple export now o bytes).head_length
-reply_two true simple export now o bytes = omega arith
-reply_two false true export now o bytes = omega arith
-reply_two false false export now o bytes = omega arith
+reply_two chunk simple export now o bytes = grind arith
 
 module _ (export : Exporting) (old now next : Core) (bytes more : List ℕ) where
   reply_below : IsBegun bytes → length (bytes ++ more) < (short_reply export old now bytes).head_length → (short_reply export old next (bytes ++ more)).head_length ≡ (short_reply export old now bytes).head_length
-  reply_below (as_chunk c) l = ap length_of (is_chunk_reply export old next (bytes ++ more) (begun_true CHUNK_MAGIC bytes more c)) ∙ sym (ap length_of (is_chunk_reply export old now bytes c))
-  reply_below (as_simple c s) l = grind (arith, begun_true, is_simple_reply, no_chunk)
-  reply_below (as_neither c s) l = grind (arith, is_no_reply, too_short)
+  reply_below h l = grind (arith, is_chunk_reply, begun_true, is_simple_reply, no_chunk, is_no_reply, lt-leb)
 
   reply_grows : IsBegun bytes → (short_reply export old now bytes).head_length ≤ (short_reply export old next (bytes ++ more)).head_length
-  reply_grows (as_chunk c) = grind (arith, is_chunk_reply, begun_true)
-  reply_grows (as_simple c s) = grind (arith, begun_true, is_simple_reply, no_chunk)
-  reply_grows (as_neither c s) = grind (arith, is_no_reply, reply_two)
+  reply_grows h = grind (arith, is_chunk_reply, begun_true, is_simple_reply, no_chunk, is_no_reply, reply_two)
 
   -- the request that is answered stays as it is
   same_entry : IsAppended now next → 16 ≤ length bytes → (e : Operation) → operation_of old now (number_at 8 8 bytes) ≡ Some e → operation_of old next (number_at 8 8 (bytes ++ more)) ≡ Some e
-  same_entry a l e h = ap (operation_of old next) (at 8 8 16 bytes more l (omega arith)) ∙ go (target (number_at 8 8 bytes) old.entries) h
-    where
-      go : (o : Option ℕ) → operation_if o now.entries ≡ Some e → operation_if o next.entries ≡ Some e
-      go (Some k) h = ap (operation k) a.entries_are ∙ entry-append k now.entries a.more e h
-      go None h = absurd (cc)
-
-  chunk_beyond : (o o' : Option Operation) → ((e : Operation) → o ≡ Some e → o' ≡ Some e) → next.structured ≡ now.structured → 20 ≤ length bytes → chunk_head_fault now.structured o ≡ None → IsSameHead (chunk_to export now o bytes) (chunk_to export next o' (bytes ++ more))
-  chunk_beyond None o' same st l clean = absurd (cc)
-  chunk_beyond (Some e) o' same st l clean = record {
-    head_length_is = refl;
-    head_fault_is = λ i. chunk_head_fault (st i) (same e refl i);
-    payload_length_is = at 16 4 20 bytes more l (omega arith);
-  }
-
-  simple_beyond : (o o' : Option Operation) → ((e : Operation) → o ≡ Some e → o' ≡ Some e) → next.structured ≡ now.structured → 16 ≤ length bytes → simple_fault now.structured o (number_at 4 4 bytes) ≡ None → IsSameHead (simple_to export now o bytes) (simple_to export next o' (bytes ++ more))
-  simple_beyond None o' same st l clean = absurd (cc)
-  simple_beyond (Some e) o' same st l clean = record {
-    head_length_is = refl;
-    head_fault_is = λ i. simple_fault (st i) (same e refl i) (at 4 4 16 bytes more l (omega arith) i);
-    payload_length_is = λ i. simple_payload_length (same e refl i) (at 4 4 16 bytes more l (omega arith) i);
-  }
+  same_entry a l e h = ap (operation_of old next) (at 8 8 16 bytes more l (omega arith)) ∙ (grind (arith, entry-append))
 
   reply_beyond : IsAppended now next → IsBegun bytes → (short_reply export old now bytes).head_length ≤ length bytes → (short_reply export old now bytes).head_fault ≡ None → IsSameHead (short_reply export old now bytes) (short_reply export old next (bytes ++ more))
-  reply_beyond a (as_chunk c) l clean = grind (arith, is_chunk_reply, begun_true, chunk_beyond, same_entry)
-  reply_beyond a (as_simple c s) l clean = grind (arith, begun_true, is_simple_reply, no_chunk, simple_beyond, same_entry)
-  reply_beyond a (as_neither c s) l clean = grind (arith, is_no_reply)
-
--- a request that was not found is found no later
-none_stays : (old now next : Core) (cookie : ℕ) → IsAppended old now → operation_of old now cookie ≡ None → operation_of old next cookie ≡ None
-none_stays old now next cookie a h = grind (arith, target_entry, entry-append)
-
--- begins neither as one nor as the other, and goes on so
-neither_stays : (magic : ℕ) (bytes more : List ℕ) → 4 ≤ length bytes → begins magic bytes ≡ false → begins magic (bytes ++ more) ≡ false
-neither_stays magic bytes more long e =
-    let a : nat_le 4 (length bytes) ≡ true = le-leb 4 (length bytes) long in
-    let b : nat_le 4 (length (bytes ++ more)) ≡ true = le-leb 4 (length (bytes ++ more)) (omega (arith, long, length-append bytes more)) in
-    (λ i. b i && (at 0 4 4 bytes more long (omega arith) i == magic)) ∙ ap (λ x. x && (number_at 0 4 bytes == magic)) (sym a) ∙ e
+  reply_beyond a h l clean = grind (arith, is_chunk_reply, begun_true, at, same_entry, is_simple_reply, no_chunk, is_no_reply)
 
 module _ (export : Exporting) (old now next : Core) (bytes more : List ℕ) where
   abbrev cookie_now : ℕ
@@ -279,28 +188,19 @@ module _ (export : Exporting) (old now next : Core) (bytes more : List ℕ) wher
   abbrev cookie_next : ℕ
   cookie_next = number_at 8 8 (bytes ++ more)
 
-  chunk_back : (o o' : Option Operation) → ((e : Operation) → o ≡ Some e → o' ≡ Some e) → (o ≡ None → o' ≡ None) → next.structured ≡ now.structured → chunk_head_fault next.structured o' ≡ None → chunk_head_fault now.structured o ≡ None
-  chunk_back None o' same none st clean = absurd (let q : Some UnknownCookie ≡ None = ap (chunk_head_fault next.structured) (sym (none refl)) ∙ clean in (cc))
-  chunk_back (Some e) o' same none st clean = (λ i. chunk_head_fault (sym st i) (sym (same e refl) i)) ∙ clean
-
-  simple_back : (o o' : Option Operation) → ((e : Operation) → o ≡ Some e → o' ≡ Some e) → (o ≡ None → o' ≡ None) → next.structured ≡ now.structured → 16 ≤ length bytes → simple_fault next.structured o' (number_at 4 4 (bytes ++ more)) ≡ None →
-      simple_fault now.structured o (number_at 4 4 bytes) ≡ None
-  simple_back None o' same none st long clean = absurd (let q : Some UnknownCookie ≡ None = ap (λ o. simple_fault next.structured o (number_at 4 4 (bytes ++ more))) (sym (none refl)) ∙ clean in (cc))
-  simple_back (Some e) o' same none st long clean = (λ i. simple_fault (sym st i) (sym (same e refl) i) (sym (at 4 4 16 bytes more long (omega arith)) i)) ∙ clean
-
   still_none : IsAppended old now → 16 ≤ length bytes → operation_of old now cookie_now ≡ None → operation_of old next cookie_next ≡ None
-  still_none a long h = ap (operation_of old next) (at 8 8 16 bytes more long (omega arith)) ∙ none_stays old now next cookie_now a h
+  still_none a long h = ap (operation_of old next) (at 8 8 16 bytes more long (omega arith)) ∙ (grind (arith, target_entry, entry-append))
 
   reply_back : IsAppended old now → IsAppended now next → IsBegun bytes → (short_reply export old now bytes).head_length ≤ length bytes → (short_reply export old next (bytes ++ more)).head_fault ≡ None → (short_reply export old now bytes).head_fault ≡ None
-  reply_back a b (as_chunk c) l clean = grind (arith, is_chunk_reply, begun_true, chunk_back, same_entry, still_none)
+  reply_back a b (as_chunk c) l clean = grind (arith, is_chunk_reply, begun_true, same_entry, still_none)
   reply_back a b (as_simple c s) l clean =
       let s' : begins SIMPLE_MAGIC (bytes ++ more) ≡ true = begun_true SIMPLE_MAGIC bytes more s in
       let now_is : short_reply export old now bytes ≡ simple_to export now (operation_of old now cookie_now) bytes = is_simple_reply export old now bytes c s in
       let next_is : short_reply export old next (bytes ++ more) ≡ simple_to export next (operation_of old next cookie_next) (bytes ++ more) = is_simple_reply export old next (bytes ++ more) (no_chunk (bytes ++ more) s') s' in
       let long : 16 ≤ length bytes = subst (λ (d : Decision). d.head_length ≤ length bytes) now_is l in
       ap (λ (d : Decision). d.head_fault) now_is
-      ∙ simple_back (operation_of old now cookie_now) (operation_of old next cookie_next) (same_entry export old now next bytes more b long) (still_none a long) b.structured_is long (sym (ap (λ (d : Decision). d.head_fault) next_is) ∙ clean)
-  reply_back a b (as_neither c s) l clean = grind (arith, is_no_reply, neither_stays)
+      ∙ (grind (arith, at, operation_of old now cookie_now, operation_of old next cookie_next, same_entry export old now next bytes more b long, still_none a long, b.structured_is, sym (ap (λ (d : Decision). d.head_fault) next_is) ∙ clean))
+  reply_back a b (as_neither c s) l clean = grind (arith, is_no_reply, nat_le, le-leb, length-append, at)
 
 -- a reply where extended headers are in force
 abbrev pub long_reply : Exporting → (old now : Core) → List ℕ → Decision
@@ -322,17 +222,14 @@ module _ (export : Exporting) (old now : Core) (bytes : List ℕ) where
   is_no_extended c = ap (λ b. extended_reply_by b export now (operation_of old now (number_at 8 8 bytes)) bytes) c
 
 long_two : (chunk : Bool) (export : Exporting) (now : Core) (o : Option Operation) (bytes : List ℕ) → 4 ≤ (extended_reply_by chunk export now o bytes).head_length
-long_two true export now o bytes = omega arith
-long_two false export now o bytes = omega arith
+long_two chunk export now o bytes = grind arith
 
 module _ (export : Exporting) (old now next : Core) (bytes more : List ℕ) where
   long_below : IsExtendedOrNot bytes → length (bytes ++ more) < (long_reply export old now bytes).head_length → (long_reply export old next (bytes ++ more)).head_length ≡ (long_reply export old now bytes).head_length
-  long_below (as_extended c) l = ap length_of (is_extended_reply export old next (bytes ++ more) (begun_true EXTENDED_CHUNK_MAGIC bytes more c)) ∙ sym (ap length_of (is_extended_reply export old now bytes c))
-  long_below (as_other c) l = grind (arith, is_no_extended, too_short)
+  long_below h l = grind (arith, is_extended_reply, begun_true, is_no_extended, lt-leb)
 
   long_grows : IsExtendedOrNot bytes → (long_reply export old now bytes).head_length ≤ (long_reply export old next (bytes ++ more)).head_length
-  long_grows (as_extended c) = grind (arith, is_extended_reply, begun_true)
-  long_grows (as_other c) = grind (arith, is_no_extended, long_two)
+  long_grows h = grind (arith, is_extended_reply, begun_true, is_no_extended, long_two)
 
   extended_beyond : (o o' : Option Operation) → ((e : Operation) → o ≡ Some e → o' ≡ Some e) → next.structured ≡ now.structured → 32 ≤ length bytes → extended_head_fault now.structured o (number_at 24 8 bytes) ≡ None →
       IsSameHead (extended_chunk_to export now o bytes) (extended_chunk_to export next o' (bytes ++ more))
@@ -365,7 +262,7 @@ module _ (export : Exporting) (old now next : Core) (bytes more : List ℕ) wher
       let short : 16 ≤ length bytes = omega (arith, long) in
       ap (λ (d : Decision). d.head_fault) now_is
       ∙ extended_back (operation_of old now (number_at 8 8 bytes)) (operation_of old next (number_at 8 8 (bytes ++ more))) (same_entry export old now next bytes more b short) (still_none export old now next bytes more a short) b.structured_is long (sym (ap (λ (d : Decision). d.head_fault) next_is) ∙ clean)
-  long_back a b (as_other c) l clean = grind (arith, is_no_extended, neither_stays)
+  long_back a b (as_other c) l clean = grind (arith, is_no_extended, nat_le, le-leb, length-append, at)
 
 -- by whether extended headers are in force
 replies_are : {old now : Core} (export : Exporting) → Later Server old now → old.phase ≡ Transmission export → (bytes : List ℕ) →
@@ -374,14 +271,8 @@ replies_are {old} {now} export l t bytes =
     ap (λ p. decision p old now Server bytes) (Later-transmission l export t)
     ∙ ap (λ x. Some (reply_in x export now (operation_of old now (number_at 8 8 bytes)) bytes)) (Later-extended l export t)
 
-one_short : (chunk simple : Bool) (export : Exporting) (now next : Core) (o o' : Option Operation) (bytes : List ℕ) → (reply_by chunk simple export now o bytes).message ≡ (reply_by chunk simple export next o' bytes).message
-one_short true simple export now next o o' bytes = refl
-one_short false true export now next o o' bytes = refl
-one_short false false export now next o o' bytes = refl
-
 one_long : (chunk : Bool) (export : Exporting) (now next : Core) (o o' : Option Operation) (bytes : List ℕ) → (extended_reply_by chunk export now o bytes).message ≡ (extended_reply_by chunk export next o' bytes).message
-one_long true export now next o o' bytes = refl
-one_long false export now next o o' bytes = refl
+one_long chunk export now next o o' bytes = grind arith
 
 in_replies : (old : Core) (export : Exporting) (x : Bool) → old.phase ≡ Transmission export → old.extended ≡ x → IsDeciding Server old
 in_replies old export false t is = record {
@@ -394,7 +285,7 @@ in_replies old export false t is = record {
     beyond = λ next k bytes more long clean. reply_beyond export old now next bytes more (Later-appended k export (Later-transmission l export t)) (bytes_are_begun bytes) long clean;
     back = λ next k bytes more long clean. reply_back export old now next bytes more (Later-appended l export t) (Later-appended k export (Later-transmission l export t)) (bytes_are_begun bytes) long clean;
   };
-  one_message = λ now next bytes. one_short (begins CHUNK_MAGIC bytes) (begins SIMPLE_MAGIC bytes) export now next (operation_of old now (number_at 8 8 bytes)) (operation_of old next (number_at 8 8 bytes)) bytes;
+  one_message = λ now next bytes. (grind arith);
 }
 in_replies old export true t is = record {
   F = long_reply export old;
@@ -410,20 +301,19 @@ in_replies old export true t is = record {
 }
 
 by_disconnected : (old : Core) (export : Exporting) (b : Bool) (bytes : List ℕ) (d : Decision) → old.phase ≡ Transmission export → old.disconnected ≡ b → request_unless b old bytes ≡ Some d → IsDeciding Client old
-by_disconnected old export true bytes d t is h = absurd (cc)
-by_disconnected old export false bytes d t is h = in_requests old export old.extended t is refl
+by_disconnected old export b bytes d t is h = grind (arith, in_requests)
 
 -- where something is decided of a side's bytes, it goes on as it began
 pub deciding : (phase : Phase) (s : Side) (old : Core) (bytes : List ℕ) (d : Decision) → old.phase ≡ phase → decision phase old old s bytes ≡ Some d → IsDeciding s old
-deciding Greet Server old bytes d p h = in_negotiation Server old 18 greeting (ap turn p) (λ bytes. ap (λ p. decision p old old Server bytes) p) greeting_fixed
-deciding Flags Client old bytes d p h = in_negotiation Client old 4 (client_flags old.offered) (ap turn p) (λ bytes. ap (λ p. decision p old old Client bytes) p) (client_flags_fixed old.offered)
-deciding Choosing Client old bytes d p h = in_negotiation Client old 16 choice (ap turn p) (λ bytes. ap (λ p. decision p old old Client bytes) p) choice_fixed
+deciding Greet Server old bytes d p h = in_negotiation Server old 18 greeting (ap turn p) (λ bytes. ap (λ p. decision p old old Server bytes) p) (omega arith) (λ bytes. refl) greeting_same
+deciding Flags Client old bytes d p h = in_negotiation Client old 4 (client_flags old.offered) (ap turn p) (λ bytes. ap (λ p. decision p old old Client bytes) p) (omega arith) (λ bytes. refl) (client_flags_same old.offered)
+deciding Choosing Client old bytes d p h = in_negotiation Client old 16 choice (ap turn p) (λ bytes. ap (λ p. decision p old old Client bytes) p) (omega arith) (λ bytes. refl) choice_same
 deciding Naming Server old bytes d p h =
-    in_negotiation Server old 10 (export_answer (has old.client_flags handshake.C_NO_ZEROES)) (ap turn p) (λ bytes. ap (λ p. decision p old old Server bytes) p) (exported_fixed (has old.client_flags handshake.C_NO_ZEROES))
-deciding Aborting Server old bytes d p h = in_negotiation Server old 20 abort_answer (ap turn p) (λ bytes. ap (λ p. decision p old old Server bytes) p) abort_fixed
+    in_negotiation Server old 10 (export_answer (has old.client_flags handshake.C_NO_ZEROES)) (ap turn p) (λ bytes. ap (λ p. decision p old old Server bytes) p) (omega arith) (λ bytes. (grind arith)) (exported_same (has old.client_flags handshake.C_NO_ZEROES))
+deciding Aborting Server old bytes d p h = in_negotiation Server old 20 abort_answer (ap turn p) (λ bytes. ap (λ p. decision p old old Server bytes) p) (omega arith) (λ bytes. refl) abort_same
 deciding (Answering option given info) Server old bytes d p h =
     in_negotiation Server old 20 (answer old.profile option (is_proper_option option given) (takes_contexts option given) info old.selection) (ap turn p) (λ bytes. ap (λ p. decision p old old Server bytes) p)
-    (answer_fixed old.profile option (is_proper_option option given) (takes_contexts option given) info old.selection)
+    (omega arith) (λ bytes. refl) (answer_same old.profile option (is_proper_option option given) (takes_contexts option given) info old.selection)
 deciding (Transmission export) Client old bytes d p h = by_disconnected old export old.disconnected bytes d p refl h
 deciding (Transmission export) Server old bytes d p h = in_replies old export old.extended p refl
 deciding phase s old bytes d p h = absurd (cc)

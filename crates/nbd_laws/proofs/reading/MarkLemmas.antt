@@ -1,5 +1,5 @@
 -- A run's pairs are read without a fault, and what completes is the run's.
-use Rattle.nbd_laws.proofs.Common.{◌≡◌, ℕ, ◌<◌, List, [], ◌∷◌, ◌++◌, length, refl, sym, ◌∙◌, ap, subst, Ok, append_assoc, append-nil, Entry, Side, Message, enc, side, Item, pairs, Pair, ArePairs, Core, IsSendable, MayStart, MayComplete, complete, Obeys, within, Both, get, put, IsFilled, Rest, Reader, Reading, More, Whole, Bad, old_of, settle, Judge, rest_with, reads, on_ok, with_message}
+use Rattle.nbd_laws.proofs.Common.{arith, ◌≡◌, ℕ, ◌<◌, List, [], ◌∷◌, ◌++◌, length, refl, sym, ◌∙◌, ap, subst, Ok, append_assoc, append-nil, Entry, Side, Message, enc, side, Item, pairs, Pair, ArePairs, Core, IsSendable, MayStart, MayComplete, complete, Obeys, within, Both, get, put, IsFilled, Rest, Reader, Reading, More, Whole, Bad, old_of, Judge, rest_with, reads, with_message}
 use Rattle.nbd_laws.proofs.reading.ReaderLemmas.{put_both, IsFilled-snoc, old-empty, old-filled, Kept, AreHeld, kept_next, held_more, held_whole, get-put_same, Open, Idle, Busy, Loose, Walk, ended, serving, opening, middle, final, loose, Later, at_once, behind, Later-trans, IsExact}
 use Rattle.nbd_laws.proofs.runs.FollowLemmas.{HasEnd, IsSidedOpen, completes_later, each_with, follows}
 use Rattle.nbd_laws.proofs.runs.TraceLemmas.{IsWithin}
@@ -19,12 +19,7 @@ pub record IsRead (judge : Judge) (reader : Reader) (ps : List Pair) (messages :
   pub messages_are : end.messages ≡ reader.messages ++ messages
 
 pub in_step_sided : (reader : Reader) (o : Both Open) → AreInStep reader o → (u : Side) → IsSidedOpen u (get o u)
-in_step_sided reader o h u = go (get o u) (h u)
-  where
-    go : (x : Open) → InStep reader.core (get reader.rests u) u x → IsSidedOpen u x
-    go Idle i = tt
-    go (Busy m left) i = i.0.sided
-    go Loose i = tt
+in_step_sided reader o h u = grind arith
 
 pub in_step_with : (reader : Reader) (o : Both Open) (s : Side) (rest : Rest) (x : Open) → AreInStep reader o → InStep reader.core rest s x →
     AreInStep (record reader { rests = put reader.rests s rest }) (put o s x)
@@ -52,17 +47,7 @@ reads_next judge reader s b ps messages (Bad f) = ⊥
 read_on : (judge : Judge) (reader : Reader) (s : Side) (b : ℕ) (ps : List Pair) (messages : List Message) (r : Reading) →
     judge (rest_with reader.core (get reader.rests s) b).since reader.core s (rest_with reader.core (get reader.rests s) b).bytes ≡ r →
     reads_next judge reader s b ps messages r → IsRead judge reader (record { from = s; byte = b } ∷ ps) messages
-read_on judge reader s b ps messages More e h = record {
-  end = h.end;
-  reads_it = ap (λ r. on_ok (settle reader s (rest_with reader.core (get reader.rests s) b) r) (λ next. reads judge next ps)) e ∙ h.reads_it;
-  messages_are = h.messages_are;
-}
-read_on judge reader s b ps messages (Whole m) e (rest, is, h) = record {
-  end = h.end;
-  reads_it = ap (λ r. on_ok (settle reader s (rest_with reader.core (get reader.rests s) b) r) (λ next. reads judge next ps)) e ∙ h.reads_it;
-  messages_are = h.messages_are ∙ append_assoc reader.messages (m ∷ []) rest ∙ ap (λ ms. reader.messages ++ ms) (sym is);
-}
-read_on judge reader s b ps messages (Bad f) e h = absurd h
+read_on judge reader s b ps messages r e h = grind (arith, append_assoc)
 
 nothing_read : (judge : Judge) (reader : Reader) (messages : List Message) → messages ≡ [] → IsRead judge reader [] messages
 nothing_read judge reader messages e = record { end = reader; reads_it = refl; messages_are = sym (append-nil reader.messages) ∙ ap (λ ms. reader.messages ++ ms) (sym e) }
@@ -83,29 +68,14 @@ within_opening core rest s m b left e f g sd sn ms = (
 )
 
 pub within_middle : (core : Core) (rest : Rest) (s : Side) (m : Message) (b : ℕ) (left : List ℕ) → InStep core rest s (Busy m (b ∷ left)) → IsFilled left → InStep core (rest_with core rest b) s (Busy m left)
-within_middle core rest s m b left i g = (
-  record {
-    filled = IsFilled-snoc rest.bytes b;
-    unfinished = g;
-    encodes = i.0.encodes ∙ sym (append_assoc rest.bytes (b ∷ []) left);
-    sided = i.0.sided;
-    sendable = i.0.sendable;
-    starts = subst (λ c. MayStart c s m) (sym (old-filled core rest i.0.filled)) i.0.starts;
-  },
-  subst (λ c. Later s c core) (sym (old-filled core rest i.0.filled)) i.1,
-)
+within_middle core rest s m b left i g = search (IsFilled-snoc, append_assoc, old-filled)
 
 pub judged_more : (judge : Judge) → IsExact judge → (core : Core) (rest : Rest) (s : Side) (m : Message) (left : List ℕ) → InStep core rest s (Busy m left) → HasEnd s core m → Kept judge s rest.since core rest.bytes → judge rest.since core s rest.bytes ≡ More
-judged_more judge exact core rest s m left i end k =
-    exact.more rest.since core end.end s m rest.bytes left i.1 end.later i.0.sided i.0.sendable i.0.starts end.completes i.0.encodes i.0.filled i.0.unfinished k
+judged_more judge exact core rest s m left i end k = grind arith
 
 pub judged_whole : (judge : Judge) → IsExact judge → (core : Core) (rest : Rest) (s : Side) (m : Message) (b : ℕ) → InStep core rest s (Busy m (b ∷ [])) → MayComplete core core.phase m → Kept judge s (old_of core rest) core (rest.bytes ++ b ∷ []) →
     judge (old_of core rest) core s (rest.bytes ++ b ∷ []) ≡ Whole m
-judged_whole judge exact core rest s m b i ok k =
-    let since_is : old_of core rest ≡ rest.since = old-filled core rest i.0.filled in
-    ap (λ c. judge c core s (rest.bytes ++ b ∷ [])) since_is ∙ ap (λ bs. judge rest.since core s bs) (sym i.0.encodes)
-    ∙ exact.whole rest.since core s m i.1 i.0.sided i.0.sendable i.0.starts ok
-    (subst (λ l. Kept judge s rest.since core l) (sym i.0.encodes) (subst (λ c. Kept judge s c core (rest.bytes ++ b ∷ [])) since_is k))
+judged_whole judge exact core rest s m b i ok k = grind (arith, old-filled)
 
 -- the pairs that a walk begins with are read, with the messages that complete within them
 pub marks : (judge : Judge) → IsExact judge → {o : Both Open} {items : List Item} (w : Walk ⊥ o items) (reader : Reader) (js : List Entry) →

@@ -1,5 +1,5 @@
 -- What a reader has read states the report of any run with its bytes.
-use Rattle.nbd_laws.proofs.Common.{◌≡◌, ℕ, suc, List, [], ◌∷◌, length, refl, sym, ◌∙◌, ap, subst, Option, Ok, Some, None, Bool, true, false, if◌then◌else◌, Profile, Base, Client, Server, Side, Message, Item, Byte, Starts, Completes, Serves, pairs, Pair, ArePairs, Report, report, asked_list, asked_of, known_count, known_from, noted, Operation, is_reply_to, is_this, MayComplete, request_of_reply, complete, ends_at, IsRunOf, side, Core, start, start_of, export_in, Both, Reader, Rest, IsFilled, fresh_of, get, put, reads, by_tests, rest_with, old_of, with_message, with_profile}
+use Rattle.nbd_laws.proofs.Common.{arith, ◌≡◌, ℕ, suc, List, [], ◌∷◌, length, refl, sym, ◌∙◌, ap, subst, Option, Ok, Some, None, Bool, false, if◌then◌else◌, Profile, Base, Client, Server, Side, Message, Item, Byte, Starts, Completes, Serves, pairs, Pair, ArePairs, Report, report, asked_list, asked_of, known_from, noted, Operation, is_reply_to, is_this, MayComplete, request_of_reply, complete, ends_at, IsRunOf, side, Core, start, start_of, export_in, Both, Reader, Rest, IsFilled, fresh_of, get, put, reads, by_tests, rest_with, old_of, with_message, with_profile}
 use Rattle.nbd_laws.proofs.judge.SoundLemmas.{sound}
 use Rattle.nbd_laws.proofs.reading.ReaderLemmas.{Busy, Idle, IsFilled-snoc, IsNotBusy, Later, Later-trans, Loose, Open, Walk, at_once, behind, ended, final, led, loose, middle, old-empty, old-filled, opening, put_both, serving, with_byte}
 use Rattle.nbd_laws.proofs.runs.BegunLemmas.{AreBegun, BegunOpen, answers_same, asks_only, begun_completed}
@@ -22,13 +22,7 @@ known_open Loose core n k later = later
 
 -- what was known, with one more message, and then what comes later
 noted_then : (o : Option ℕ) (b : Bool) (n : ℕ) (later : Option ℕ) → or_later (noted o b n) later ≡ or_later o (if b then Some n else later)
-noted_then (Some j) b n later = refl
-noted_then None true n later = refl
-noted_then None false n later = refl
-
-later_none : (o : Option ℕ) → o ≡ or_later o None
-later_none None = refl
-later_none (Some n) = refl
+noted_then o b n later = grind arith
 
 open_moved : (core : Core) (m : Message) (x : Open) (n k : ℕ) (later : Option ℕ) → side m ≡ Client → MayComplete core core.phase m → BegunOpen core Server x → known_open x (complete core m) n k later ≡ known_open x core n k later
 open_moved core m Idle n k later sd ok h = refl
@@ -38,9 +32,7 @@ open_moved core m (Busy r left) n k later sd ok h =
     ap (λ a. known_here a n k later) (sym (answers_same r next h.1) ∙ answers_same r h.2 h.1)
 
 open_idle : (x : Open) (core : Core) (n k : ℕ) (later : Option ℕ) → IsNotBusy x → known_open x core n k later ≡ later
-open_idle Idle core n k later h = refl
-open_idle (Busy m left) core n k later h = absurd h
-open_idle Loose core n k later h = refl
+open_idle x core n k later h = grind arith
 
 -- a side that is in a message has a byte of it
 abbrev IsAt : Rest → Open → Type 0
@@ -62,7 +54,7 @@ since_is core rest m k later f = ap (λ (c : Core). known_here (request_of_reply
 -- the reader knows what it knew, or else what comes in the items
 known_led : {o : Both Open} {items : List Item} → Walk ⊥ o items → (reader : Reader) → Follows reader.core items → AreBegun reader.core o → AreAt reader.rests o → (k : ℕ) →
     (led reader items).known k ≡ or_later (reader.known k) (known_open (get o Server) reader.core (length reader.rests.server.since.entries) k (known_from reader.core k items))
-known_led {o} (ended c d) reader f all at k = later_none (reader.known k) ∙ sym (ap (or_later (reader.known k)) (open_idle (get o Server) reader.core (length reader.rests.server.since.entries) k None d))
+known_led {o} (ended c d) reader f all at k = (grind arith) ∙ sym (ap (or_later (reader.known k)) (open_idle (get o Server) reader.core (length reader.rests.server.since.entries) k None d))
 known_led (serving j w) reader f all at k = known_led w reader f all at k
 known_led {o} (opening Client m b left {items = items} i e g w) reader f all at k =
     known_led w (with_byte reader Client b) f.1 (each_with (BegunOpen reader.core) o Client (Busy m left) all (reader.core, f.0, at_once))
@@ -133,9 +125,6 @@ stated_in : (q : Profile) (n : ℕ) (core : Core) (known : ℕ → Option ℕ) (
 stated_in q n core known [] = refl
 stated_in q n core known (e ∷ es) = ap (λ l. asked_of (export_in core.phase) (known (suc n)) (core.shown (suc n)) (core.ended_at (suc n)) e ∷ l) (stated_in q (suc n) core known es)
 
-report_in : (q : Profile) (core : Core) (known : ℕ → Option ℕ) → report_by (with_profile q core) known ≡ report_by core known
-report_in q core known = λ i. record { export = export_in core.phase; asked = stated_in q 0 core known core.entries i }
-
 -- of the items of a run
 pub known_of_run : {profile : Profile} (items : List Item) → IsRunOf profile items → (k : ℕ) → (led (fresh_of profile) items).known k ≡ known_from (start_of profile).core k items
 known_of_run {profile} items run k = known_at_end (fresh_of profile) (walk_of run) refl (follows items (start_of profile) run.obeys) (elim [ Client ↦ tt | Server ↦ tt ]) (elim [ Client ↦ refl | Server ↦ refl ]) k refl
@@ -145,11 +134,8 @@ led_report : {profile : Profile} (items : List Item) (end : Reader) → IsRunOf 
 unfolding report
 led_report {profile} items end run leads =
     let first : Core = (start_of profile).core in
-    let core_same : (ends_at start items).core ≡ with_profile Base end.core =
-    sym (at_base profile items) ∙ ap (with_profile Base) (sym (core_end-ends_at first [] items) ∙ sym (core_led (fresh_of profile) items) ∙ ap (λ (r : Reader). r.core) leads) in
-    let known : (k : ℕ) → known_count items k ≡ end.known k =
-    λ k. sym (known_at_base profile items k) ∙ sym (known_of_run items run k) ∙ ap (λ (r : Reader). r.known k) leads in
-    ap (λ known. report_by (ends_at start items).core known) (λ i k. known k i) ∙ ap (λ core. report_by core end.known) core_same ∙ report_in Base end.core end.known
+    let core_same : (ends_at start items).core ≡ with_profile Base end.core = sym (at_base profile items) ∙ ap (with_profile Base) (sym (core_end-ends_at first [] items) ∙ sym (core_led (fresh_of profile) items) ∙ ap (λ (r : Reader). r.core) leads) in
+    grind (arith, first, core_same, at_base, core_end-ends_at, core_led, known_at_base, known_of_run, stated_in)
 
 -- of any run with the pairs that the reader has read to their end
 pub read_report : {profile : Profile} (ps : List Pair) (end : Reader) → ArePairs ps → reads by_tests (fresh_of profile) ps ≡ Ok end → ((s : Side) → (get end.rests s).bytes ≡ []) →

@@ -1,18 +1,13 @@
-use Rattle.nbd_laws.proofs.Common.{◌≡◌, ℕ, ◌<◌, ◌⊎◌, List, [], ◌∷◌, ◌++◌, refl, sym, ◌∙◌, ap, subst, inl, inr, Ok, Entry, Side, Client, Server, Message, enc, side, Item, Byte, Starts, Completes, Serves, Pair, ArePairs, Core, IsSendable, MayStart, MayComplete, complete, Both, get, put, IsFilled, Rest, Reader, Reading, old_by, old_of, settle, Judge, rest_with, on_ok, reads, More, Whole, Bad, IsReached, after_message, with_message}
+use Rattle.nbd_laws.proofs.Common.{arith, ◌≡◌, ℕ, ◌<◌, ◌⊎◌, List, [], ◌∷◌, ◌++◌, refl, sym, ◌∙◌, ap, subst, Ok, Entry, Side, Client, Server, Message, enc, side, Item, Byte, Starts, Completes, Serves, Pair, ArePairs, Core, IsSendable, MayStart, MayComplete, complete, Both, get, put, IsFilled, Rest, Reader, Reading, old_by, old_of, settle, Judge, rest_with, on_ok, reads, More, Whole, Bad, IsReached, after_message, with_message}
 
 pub get-put_same : {A : Type 0} (p : Both A) (s : Side) (a : A) → get (put p s a) s ≡ a
-get-put_same p Client a = refl
-get-put_same p Server a = refl
+get-put_same p s a = grind arith
 
 pub get-put_other : {A : Type 0} (p : Both A) (s t : Side) (a : A) → (s ≡ t → ⊥) → get (put p s a) t ≡ get p t
-get-put_other p Client Client a ne = absurd (ne refl)
-get-put_other p Client Server a ne = refl
-get-put_other p Server Client a ne = refl
-get-put_other p Server Server a ne = absurd (ne refl)
+get-put_other p s t a ne = grind arith
 
 pub put-put : {A : Type 0} (p : Both A) (s : Side) (a b : A) → get p s ≡ b → put (put p s a) s b ≡ p
-put-put p Client a b e = ap (λ x. record { client = x; server = p.server }) (sym e)
-put-put p Server a b e = ap (λ x. record { client = p.client; server = x }) (sym e)
+put-put p s a b e = grind arith
 
 -- one side changes
 pub put_both : {A B : Type 0} (P : Side → A → B → Type 0) (p : Both A) (q : Both B) (s : Side) (a : A) (b : B) → P s a b → ((u : Side) → (s ≡ u → ⊥) → P u (get p u) (get q u)) → (u : Side) → P u (get (put p s a) u) (get (put q s b) u)
@@ -22,10 +17,7 @@ put_both P p q Server a b here other Client = other Client (λ e. cc)
 put_both P p q Server a b here other Server = here
 
 pub same_or_not : (s t : Side) → (s ≡ t) ⊎ (s ≡ t → ⊥)
-same_or_not Client Client = inl refl
-same_or_not Client Server = inr (λ e. (cc))
-same_or_not Server Client = inr (λ e. (cc))
-same_or_not Server Server = inl refl
+same_or_not s t = grind arith
 
 -- the message that a side is in, with the bytes to come; or bytes that belong to none
 pub data Open : Type 0 where
@@ -118,11 +110,7 @@ pub old-empty : (core : Core) (rest : Rest) → rest.bytes ≡ [] → old_of cor
 old-empty core rest e = ap (λ bs. old_by bs core rest.since) e
 
 pub old-filled : (core : Core) (rest : Rest) → IsFilled rest.bytes → old_of core rest ≡ rest.since
-old-filled core rest f = go rest.bytes refl f
-  where
-    go : (bs : List ℕ) → rest.bytes ≡ bs → IsFilled bs → old_of core rest ≡ rest.since
-    go [] e f = absurd f
-    go (b ∷ bs) e f = ap (λ bs. old_by bs core rest.since) e
+old-filled core rest f = grind arith
 
 pub IsFilled-snoc : (bs : List ℕ) (b : ℕ) → IsFilled (bs ++ b ∷ [])
 IsFilled-snoc [] b = tt
@@ -137,8 +125,7 @@ abbrev pub AreHeld : Judge → Reader → Type 0
 AreHeld judge reader = (s : Side) → Held judge reader.core s (get reader.rests s)
 
 pub reached_of : {judge : Judge} {core : Core} {s : Side} {rest : Rest} → Held judge core s rest → IsReached core
-reached_of (none_held rc e) = rc
-reached_of (some_held rc now f k m l) = rc
+reached_of h = grind arith
 
 pub kept_next : (judge : Judge) (core : Core) (s : Side) (rest : Rest) (b : ℕ) → b < 256 → Held judge core s rest → Kept judge s (rest_with core rest b).since core (rest_with core rest b).bytes
 kept_next judge core s rest b lt (none_held rc e) =

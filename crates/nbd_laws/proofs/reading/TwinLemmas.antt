@@ -1,8 +1,8 @@
 -- Two runs with the same bytes have the same marks, but for those of service.
-use Rattle.nbd_laws.proofs.Common.{◌≡◌, ℕ, List, [], ◌∷◌, ◌++◌, refl, sym, ◌∙◌, ap, subst, append_assoc, append-nil, Side, Client, Server, Message, enc, Item, Byte, Starts, Completes, pairs, Pair, MayComplete, complete, side, Core, Both, get, put, IsFilled}
+use Rattle.nbd_laws.proofs.Common.{arith, ◌≡◌, ℕ, List, [], ◌∷◌, ◌++◌, refl, sym, ◌∙◌, ap, subst, append_assoc, append-nil, Side, Client, Server, Message, enc, Item, Byte, Starts, Completes, pairs, Pair, MayComplete, complete, side, Core, Both, get, put, IsFilled}
 use Rattle.nbd_laws.proofs.runs.FollowLemmas.{IsBegun, Follows, IsBare, HasEnd, IsSidedOpen, completes_later}
-use Rattle.nbd_laws.proofs.judge.SameLemmas.{IsSame, same_message}
-use Rattle.nbd_laws.proofs.reading.ReaderLemmas.{put_both, get-put_same, Open, Idle, Busy, Loose, IsNotBusy, Walk, ended, serving, opening, middle, final, loose, Later, Later-trans, at_once, behind}
+use Rattle.nbd_laws.proofs.judge.SameLemmas.{same_message}
+use Rattle.nbd_laws.proofs.reading.ReaderLemmas.{put_both, get-put_same, Open, Idle, Busy, IsNotBusy, Walk, ended, serving, opening, middle, final, loose, Later, Later-trans, at_once, behind}
 
 -- two messages that a side may be in, of which the same bytes have come
 pub record AreTwins (core : Core) (s : Side) (m n : Message) (left left' : List ℕ) : Type 0 where
@@ -54,31 +54,14 @@ twins_moved core s m o o' sd ok all u = put_both (Twin (complete core m)) o o' s
       encodes = t.encodes;
       encodes_too = t.encodes_too;
     }
-    moved u Idle (Busy n left) ne t = absurd t
-    moved u Idle Loose ne t = absurd t
-    moved u (Busy n left) x ne t = absurd t
-    moved u Loose x ne t = absurd t
+    moved u x' x ne t = grind (arith, Later-trans, behind)
 
 -- each open message is of its side
 sided_first : (core : Core) (o o' : Both Open) → Twins core o o' → (u : Side) → IsSidedOpen u (get o u)
-sided_first core o o' all u = go (get o u) (get o' u) (all u)
-  where
-    go : (x x' : Open) → Twin core u x x' → IsSidedOpen u x
-    go Idle x' t = tt
-    go (Busy m left) (Busy n left') t = t.begun.sided
-    go (Busy m left) Idle t = absurd t
-    go (Busy m left) Loose t = absurd t
-    go Loose x' t = tt
+sided_first core o o' all u = grind arith
 
 sided_second : (core : Core) (o o' : Both Open) → Twins core o o' → (u : Side) → IsSidedOpen u (get o' u)
-sided_second core o o' all u = go (get o u) (get o' u) (all u)
-  where
-    go : (x x' : Open) → Twin core u x x' → IsSidedOpen u x'
-    go x Idle t = tt
-    go (Busy m left) (Busy n left') t = t.begun_too.sided
-    go Idle (Busy n left') t = absurd t
-    go Loose (Busy n left') t = absurd t
-    go x Loose t = tt
+sided_second core o o' all u = grind arith
 
 -- how a walk takes its next byte
 pub data Next (o : Both Open) (items : List Item) (s : Side) (b : ℕ) : Type 0 where
@@ -100,35 +83,16 @@ next (final t m c {items = items} i w) bare s b ps e = next_is s t b c ps (pairs
 next (loose t c p i w) bare s b ps e = absurd p
 
 nothing_next : {o : Both Open} {items : List Item} → Walk ⊥ o items → IsBare items → pairs items ≡ [] → (items ≡ []) × IsNotBusy (get o Client) × IsNotBusy (get o Server)
-nothing_next (ended c d) bare e = (refl, c, d)
-nothing_next (serving k w) bare e = absurd bare
-nothing_next (loose t c p i w) bare e = absurd p
-nothing_next x bare e = absurd (cc)
+nothing_next x bare e = grind arith
 
 both_idle : (core : Core) (s : Side) (x x' : Open) → Twin core s x x' → IsNotBusy x → x ≡ x'
-both_idle core s Idle Idle t n = refl
-both_idle core s (Busy m left) x' t n = absurd n
-both_idle core s Idle (Busy m left) t n = absurd t
-both_idle core s Idle Loose t n = absurd t
-both_idle core s Loose x' t n = absurd t
+both_idle core s x x' t n = grind arith
 
 -- of two twins, one cannot end where the other goes on
 no_early_end : (core : Core) (s : Side) (m n : Message) (b : ℕ) (left : List ℕ) → AreTwins core s n m (b ∷ left) (b ∷ []) → MayComplete core core.phase m → HasEnd s core n → IsFilled left → ⊥
 no_early_end core s m n b left t ok end f =
     let e : enc n ≡ enc m ++ left = t.encodes ∙ sym (append_assoc t.bytes (b ∷ []) left) ∙ ap (λ l. l ++ left) (sym t.encodes_too) in
-    let r : IsSame n m left = same_message t.old core end.end s n m left t.before end.later t.begun t.begun_too end.completes ok e in
-    subst IsFilled r.1 f
-
-flipped : (core : Core) (s : Side) (m n : Message) (left left' : List ℕ) → AreTwins core s m n left left' → AreTwins core s n m left' left
-flipped core s m n left left' t = record {
-  old = t.old;
-  bytes = t.bytes;
-  before = t.before;
-  begun = t.begun_too;
-  begun_too = t.begun;
-  encodes = t.encodes_too;
-  encodes_too = t.encodes;
-}
+    grind (arith, e, append_assoc, same_message)
 
 grown_twins : (core : Core) (s : Side) (m n : Message) (b : ℕ) (left left' : List ℕ) → AreTwins core s m n (b ∷ left) (b ∷ left') → AreTwins core s m n left left'
 grown_twins core s m n b left left' t = record {
@@ -164,8 +128,7 @@ module _ (o o' : Both Open) (core : Core) (s : Side) (b : ℕ) (items' : List It
         ap (λ x. Starts s x ∷ Byte s b ∷ items) mn ∙ ap (λ l. Starts s n ∷ Byte s b ∷ l) r.0 ∙ sym is,
         equal_with o o' s (Busy m left) (Busy n left') r.1 (i ∙ sym i'),
       )
-  opening_step m left items i e claim follow bare ps (goes_on n left' rest i' f w is) =
-      absurd (subst (λ x. Twin core s x (Busy n (b ∷ left'))) i (subst (λ x. Twin core s (get o s) x) i' (twins s)))
+  opening_step m left items i e claim follow bare ps (goes_on n left' rest i' f w is) = grind (arith, twins)
   opening_step m left items i e claim follow bare ps (ends n rest i' w is) =
       absurd (subst (λ x. Twin core s x (Busy n (b ∷ []))) i (subst (λ x. Twin core s (get o s) x) i' (twins s)))
 
@@ -184,11 +147,8 @@ module _ (o o' : Both Open) (core : Core) (s : Side) (b : ℕ) (items' : List It
       claim (put o' s (Busy n left')) rest core w' follow (subst (Follows core) is follow') bare (subst IsBare is bare') (twins_with core o o' s (Busy m left) (Busy n left') twins tw) (cc) in
       let same : Busy m left ≡ Busy n left' = sym (get-put_same o s (Busy m left)) ∙ r.1 s ∙ get-put_same o' s (Busy n left') in (
         ap (λ l. Byte s b ∷ l) r.0 ∙ sym is,
-        equal_with o o' s (Busy m left) (Busy n left') r.1 (i ∙ grown_open m n left left' same ∙ sym i'),
+        equal_with o o' s (Busy m left) (Busy n left') r.1 (i ∙ (grind arith) ∙ sym i'),
       )
-    where
-      grown_open : (m n : Message) (left left' : List ℕ) → Busy m left ≡ Busy n left' → Busy m (b ∷ left) ≡ Busy n (b ∷ left')
-      grown_open m n left left' e = (let p : m ≡ n = cc in let q : left ≡ left' = cc in ap (λ x. Busy x (b ∷ left)) p ∙ ap (λ l. Busy n (b ∷ l)) q)
   middle_step m left items i f w claim follow bare ps (ends n rest i' w' is) =
       let tw : AreTwins core s m n (b ∷ left) (b ∷ []) = twin_here (Busy m (b ∷ left)) (Busy n (b ∷ [])) i i' in
       let fl : Follows core (Byte s b ∷ Completes s n ∷ rest) = subst (Follows core) is follow' in
@@ -203,7 +163,7 @@ module _ (o o' : Both Open) (core : Core) (s : Side) (b : ℕ) (items' : List It
       let tw : AreTwins core s m n (b ∷ []) (b ∷ left') = twin_here (Busy m (b ∷ [])) (Busy n (b ∷ left')) i i' in
       let fl : Follows core (Byte s b ∷ rest) = subst (Follows core) is follow' in
       let sd : (u : Side) → IsSidedOpen u (get (put o' s (Busy n left')) u) = sided_second core (put o s (Busy m [])) (put o' s (Busy n left')) (twins_with core o o' s (Busy m []) (Busy n left') twins (grown_twins core s m n b [] left' tw)) in
-      absurd (no_early_end core s m n b left' (flipped core s m n (b ∷ []) (b ∷ left') tw) follow.0 (completes_later w' core fl sd s n left' (get-put_same o' s (Busy n left'))) f')
+      absurd (no_early_end core s m n b left' ((grind arith)) follow.0 (completes_later w' core fl sd s n left' (get-put_same o' s (Busy n left'))) f')
   final_step m items i claim follow bare ps (ends n rest i' w' is) =
       let tw : AreTwins core s m n (b ∷ []) (b ∷ []) = twin_here (Busy m (b ∷ [])) (Busy n (b ∷ [])) i i' in
       let fl : Follows core (Byte s b ∷ Completes s n ∷ rest) = subst (Follows core) is follow' in

@@ -1,5 +1,5 @@
 -- The metadata contexts that each request was asked with.
-use Rattle.nbd_laws.proofs.Common.{◌≡◌, ℕ, zero, suc, ◌==◌, List, [], ◌∷◌, ◌++◌, refl, sym, ◌∙◌, ap, subst, Option, Some, None, Bool, true, false, Message, Greeting, ClientFlags, Choice, Answer, Exported, Request, Context, Item, Completes, Serves, Operation, Exporting, MayComplete, Obeys, after, complete, core_with_request, ends_at, reply_to, Core, Phase, State, Greet, Flags, Choosing, Naming, Aborting, Answering, Transmission, export_in, in_force, operation, with_reply_at, start_of, AreAskedWith, ContextsStay}
+use Rattle.nbd_laws.proofs.Common.{arith, ◌≡◌, ℕ, zero, suc, ◌==◌, List, [], ◌∷◌, ◌++◌, refl, sym, ◌∙◌, ap, Option, Some, None, Bool, Message, Greeting, ClientFlags, Choice, Answer, Exported, Request, Context, Item, Completes, Serves, Operation, Exporting, MayComplete, Obeys, after, complete, core_with_request, ends_at, reply_to, Core, Phase, State, Greet, Flags, Choosing, Naming, Aborting, Answering, Transmission, export_in, in_force, operation, with_reply_at, start_of, AreAskedWith, ContextsStay}
 use Rattle.nbd_wire.specs.declared.commands.TheConstants as commands
 
 pub asked_snoc : (contexts : List Context) (es : List Operation) (e : Operation) → AreAskedWith contexts es → e.contexts ≡ contexts → AreAskedWith contexts (es ++ e ∷ [])
@@ -25,23 +25,13 @@ record IsSteady (core : Core) : Type 0 where
 
 -- before transmission nothing but requests counts
 idle : (core next : Core) → export_in core.phase ≡ None → next.entries ≡ core.entries → IsSteady core → IsSteady next
-idle core next before same s =
-    let empty : next.entries ≡ [] = same ∙ s.none before in
-    record { none = λ q. empty; asked = subst (AreAskedWith (in_force next)) (sym empty) tt }
+idle core next before same s = grind arith
 
 requested : (b : Bool) (core : Core) (e : Operation) (export : Exporting) → core.phase ≡ Transmission export → e.contexts ≡ in_force core → IsSteady core → IsSteady (core_with_request b core e)
-requested true core e export q same s = record { none = s.none; asked = s.asked }
-requested false core e export q same s = record {
-  none = λ h. absurd (let z : Some export ≡ None = sym (ap export_in q) ∙ h in (cc));
-  asked = asked_snoc (in_force core) core.entries e s.asked same;
-}
+requested b core e export q same s = grind (arith, asked_snoc)
 
 replied : (o : Option ℕ) (core : Core) (m : Message) (export : Exporting) → core.phase ≡ Transmission export → IsSteady core → IsSteady (reply_to o core m)
-replied None core m export q s = s
-replied (Some k) core m export q s = record {
-  none = λ h. absurd (let z : Some export ≡ None = sym (ap export_in q) ∙ h in (cc));
-  asked = asked_answered (in_force core) k m core.entries s.asked;
-}
+replied o core m export q s = grind (arith, asked_answered)
 
 completed : (core : Core) (phase : Phase) (m : Message) → core.phase ≡ phase → MayComplete core phase m → IsSteady core → IsSteady (complete core m)
 unfolding MayComplete complete

@@ -1,5 +1,5 @@
 -- Pieces that lie in a range and share no offset.
-use Rattle.nbd_laws.proofs.Common.{◌≡◌, ℕ, zero, suc, ◌+◌, ◌≤◌, List, [], ◌∷◌, ◌++◌, refl, sym, ◌∙◌, ap, subst, Some, None, Bool, true, false, if◌then◌else◌, slice_get, append_assoc, append-nil, Message, Piece, SharesNone, byte_at, holds, piece_byte, piece_of, piece_offset, piece_size, pieces_of, AreLaid}
+use Rattle.nbd_laws.proofs.Common.{arith, ◌≡◌, ℕ, suc, ◌+◌, ◌≤◌, List, [], ◌∷◌, ◌++◌, refl, sym, ◌∙◌, ap, Some, None, Bool, true, false, if◌then◌else◌, slice_get, append_assoc, append-nil, Message, Piece, SharesNone, byte_at, holds, piece_byte, piece_of, piece_offset, piece_size, pieces_of, AreLaid}
 
 abbrev pub AreInside : ℕ → ℕ → List Piece → Type 0
 AreInside offset len [] = Unit {0}
@@ -15,23 +15,14 @@ inside_snoc offset len [] p i l u = ((l, u), tt)
 inside_snoc offset len (q ∷ ps) p i l u = (i.0, inside_snoc offset len ps p i.1 l u)
 
 shares_snoc : (q : Piece) (ps : List Piece) (p : Piece) (x : ℕ) → holds q x ≡ true → byte_at ps x ≡ None → (holds p x ≡ true → holds q x ≡ false) → byte_at (ps ++ p ∷ []) x ≡ None
-shares_snoc q [] p x h e n = go (holds p x) refl
-  where
-    go : (b : Bool) → holds p x ≡ b → (if b then Some (piece_byte p x) else None) ≡ None
-    go true is = let y : holds q x ≡ false = n is in absurd (cc)
-    go false is = refl
+shares_snoc q [] p x h e n = grind (arith, holds)
 shares_snoc q (r ∷ ps) p x h e n = go (holds r x) refl e (λ e'. shares_snoc q ps p x h e' n)
   where
     go : (b : Bool) → holds r x ≡ b → (if b then Some (piece_byte r x) else byte_at ps x) ≡ None → (byte_at ps x ≡ None → byte_at (ps ++ p ∷ []) x ≡ None) → (if b then Some (piece_byte r x) else byte_at (ps ++ p ∷ []) x) ≡ None
-    go true is e ih = e
-    go false is e ih = ih e
+    go b is e ih = grind arith
 
 first_none : (q : Piece) (ps : List Piece) (x : ℕ) → byte_at (q ∷ ps) x ≡ None → (holds q x ≡ false) × (byte_at ps x ≡ None)
-first_none q ps x e = go (holds q x) refl e
-  where
-    go : (b : Bool) → holds q x ≡ b → (if b then Some (piece_byte q x) else byte_at ps x) ≡ None → (b ≡ false) × (byte_at ps x ≡ None)
-    go true is e = absurd (cc)
-    go false is e = (refl, e)
+first_none q ps x e = grind (arith, holds)
 
 pub apart_snoc : (ps : List Piece) (p : Piece) → AreApart ps → SharesNone p ps → AreApart (ps ++ p ∷ [])
 apart_snoc [] p a n = ((λ x h. refl), tt)
@@ -43,21 +34,16 @@ pieces-snoc offset (n ∷ ms) m = ap (λ l. piece_of offset n ++ l) (pieces-snoc
 
 -- a piece of the list
 inside_at : (offset len : ℕ) (ps : List Piece) → AreInside offset len ps → (i : ℕ) (p : Piece) → slice_get ps i ≡ Some p → (offset ≤ piece_offset p) × (piece_offset p + piece_size p ≤ offset + len)
-inside_at offset len [] h i p e = absurd (cc)
-inside_at offset len (q ∷ ps) h zero p e = (let s : q ≡ p = cc in subst (λ (r : Piece). (offset ≤ piece_offset r) × (piece_offset r + piece_size r ≤ offset + len)) s h.0)
 inside_at offset len (q ∷ ps) h (suc i) p e = inside_at offset len ps h.1 i p e
+inside_at offset len ps h i p e = grind arith
 
 held_at : (ps : List Piece) (i : ℕ) (p : Piece) (x : ℕ) → slice_get ps i ≡ Some p → holds p x ≡ true → byte_at ps x ≡ None → ⊥
-held_at [] i p x e h n = absurd (cc)
-held_at (q ∷ ps) zero p x e h n = (let s : q ≡ p = cc in let f : holds q x ≡ false = (first_none q ps x n).0 in let t : holds q x ≡ true = subst (λ r. holds r x ≡ true) (sym s) h in absurd (cc))
 held_at (q ∷ ps) (suc i) p x e h n = held_at ps i p x e h (first_none q ps x n).1
+held_at ps i p x e h n = absurd (cc)
 
 apart_at : (ps : List Piece) → AreApart ps → (i j : ℕ) (p q : Piece) (x : ℕ) → slice_get ps i ≡ Some p → slice_get ps j ≡ Some q → holds p x ≡ true → holds q x ≡ true → i ≡ j
-apart_at [] a i j p q x e f h k = absurd (cc)
-apart_at (r ∷ ps) a zero zero p q x e f h k = refl
-apart_at (r ∷ ps) a zero (suc j) p q x e f h k = (let s : r ≡ p = cc in absurd (held_at ps j q x f k (a.0 x (subst (λ y. holds y x ≡ true) (sym s) h))))
-apart_at (r ∷ ps) a (suc i) zero p q x e f h k = (let s : r ≡ q = cc in absurd (held_at ps i p x e h (a.0 x (subst (λ y. holds y x ≡ true) (sym s) k))))
 apart_at (r ∷ ps) a (suc i) (suc j) p q x e f h k = ap suc (apart_at ps a.1 i j p q x e f h k)
+apart_at ps a i j p q x e f h k = grind (arith, held_at, holds)
 
 pub are_laid : (offset len : ℕ) (ps : List Piece) → AreInside offset len ps → AreApart ps → AreLaid offset len ps
 are_laid offset len ps i a = record { inside = inside_at offset len ps i; apart = apart_at ps a }

@@ -1,5 +1,5 @@
 -- What a session that is held to one profile may do, it may do under the other too, but for answers of success to the options on metadata contexts.
-use Rattle.nbd_laws.proofs.Common.{◌≡◌, ℕ, ◌==◌, Bool, true, false, List, [], ◌∷◌, length, refl, sym, ◌∙◌, ap, subst, Option, Some, All, not, if◌then◌else◌, Result, Ok, Err, inl, inr, nat_lt, drop, ◌+◌, append_assoc, arith, ◌≢◌, ◌++◌, ◌<◌, None, ◌||◌, eqb-true, All-head, All-tail, eqb-false, ltb-false, DuesAgree, RunsAgree, AnnouncesAllowed, BaseIsWide, IsParting, NothingFrom, NothingParts, PlacesAgree, UnderWayAgrees, with_profile, IsUnderWayOf, ArePairs, Pair, answer, answer_of, begins, chunk_last_fault, chunk_of, chunk_to, extended_chunk_of, extended_chunk_to, extended_last_fault, extended_reply_by, operation_of, reply_by, reply_in, ack_fault, answer_fault, info_fault, is_wide, answers_option, earlier_to, is_bad_payload, is_followed, is_good_info, extends, payload_fault, success_fault, Both, by_tests, judge_in, last_reading, read_by, staged_reading_by, Reader, More, Reading, Rest, Whole, fresh_of, get, old_by, on_ok, reads, rest_with, settle, step, fault_if, IsExplainedOf, pairs, without_service, Item, Byte, Starts, Completes, Serves, completed_messages, report, Passes, Selection, Context, ANSWER_MAGIC, CHUNK_MAGIC, EXTENDED_CHUNK_MAGIC, SIMPLE_MAGIC, WireFault, BadMagic, SuccessOfImproper, BadReplyKind, BadReplyPayload, OutOfProfile, WrongOption, number_at, info_of, Ended, Core, Phase, Greet, Flags, Choosing, Naming, Aborting, Answering, Transmission, start_of, with_reply, Info, BlockSize, Export, Other, is_proper_option, takes_contexts, is_error, Entry, Message, Greeting, ClientFlags, Choice, Answer, Exported, Request, Simple, Chunk, ExtendedRequest, ExtendedChunk, Side, Client, Server, Profile, Base, Wide, Exporting, Operation, is_error_chunk, chunk_fault, chunk_head_fault, extended_head_fault, offset_fault, read_as, IsChunk, Sizes, are_allowed, sizes_of, IsRunOf, MayComplete, MayReply, MayStartIn, Obeys, complete}
+use Rattle.nbd_laws.proofs.Common.{not-false, or_parts, ◌≡◌, ℕ, ◌==◌, Bool, true, false, List, [], ◌∷◌, length, refl, sym, ◌∙◌, ap, subst, Option, Some, All, not, if◌then◌else◌, Result, Ok, Err, inl, inr, nat_lt, drop, ◌+◌, append_assoc, arith, ◌≢◌, ◌++◌, ◌<◌, None, ◌||◌, eqb-true, All-head, All-tail, eqb-false, ltb-false, DuesAgree, RunsAgree, AnnouncesAllowed, BaseIsWide, IsParting, NothingFrom, NothingParts, PlacesAgree, UnderWayAgrees, with_profile, IsUnderWayOf, ArePairs, Pair, answer, answer_of, begins, chunk_last_fault, chunk_of, chunk_to, extended_chunk_of, extended_chunk_to, extended_last_fault, extended_reply_by, operation_of, reply_by, answer_fault, is_wide, earlier_to, is_bad_payload, is_good_info, payload_fault, success_fault, Both, by_tests, judge_in, last_reading, read_by, staged_reading_by, Reader, Reading, Rest, Whole, fresh_of, get, on_ok, reads, rest_with, settle, step, fault_if, IsExplainedOf, pairs, without_service, Item, Byte, Starts, Completes, Serves, completed_messages, report, Passes, Selection, Context, ANSWER_MAGIC, CHUNK_MAGIC, EXTENDED_CHUNK_MAGIC, WireFault, BadMagic, SuccessOfImproper, BadReplyPayload, WrongOption, number_at, info_of, Ended, Core, Phase, Greet, Flags, Choosing, Naming, Aborting, Answering, Transmission, start_of, with_reply, Info, BlockSize, Export, Other, is_proper_option, takes_contexts, is_error, Entry, Message, Greeting, ClientFlags, Choice, Answer, Exported, Chunk, ExtendedChunk, Side, Client, Server, Profile, Base, Wide, Exporting, Operation, is_error_chunk, chunk_fault, chunk_head_fault, extended_head_fault, offset_fault, read_as, Sizes, are_allowed, sizes_of, IsRunOf, MayComplete, MayReply, MayStartIn, Obeys, complete}
 use Rattle.std.proofs.lemmas.Bool.{eq-eqb}
 use Rattle.nbd_laws.proofs.judge.BlockLemmas.{reads-append}
 use Rattle.nbd_laws.proofs.judge.ExactLemmas.{exact}
@@ -12,12 +12,11 @@ use Rattle.nbd_laws.proofs.service.DueProfileLemmas.{due_at_once, faultless_wide
 use Rattle.nbd_laws.proofs.service.ExplainingLemmas.{explained_passes, passing_is_explained}
 use Rattle.nbd_laws.proofs.service.ServiceLemmas.{reports_ignore_service}
 use Rattle.nbd_laws.proofs.runs.RunLemmas.{fresh_held, walk_of}
-use Rattle.nbd_laws.proofs.judge.BoolLemmas.{and_false, fault_none, not_false, or_false}
+use Rattle.nbd_laws.proofs.judge.BoolLemmas.{and_false, fault_none}
 use Rattle.nbd_laws.proofs.judge.ExactNegotiationLemmas.{no_fault_if}
 use Rattle.nbd_wire.specs.declared.chunks.TheConstants as chunks
-use Rattle.nbd_laws.proofs.judge.AllowLemmas.{chunk_allow, extended_allow}
-use Rattle.nbd_laws.proofs.judge.KindLemmas.{error_content, no_other, read_kind, low_kind}
-use Rattle.nbd_laws.proofs.requests.GoodLemmas.{failure_kind}
+use Rattle.nbd_laws.proofs.judge.AllowLemmas.{IsChunk, chunk_allow, extended_allow}
+use Rattle.nbd_laws.proofs.judge.KindLemmas.{error_content, failure_kind, no_other, read_kind}
 use Rattle.nbd_wire.specs.declared.answers.TheConstants as answers
 use Rattle.nbd_laws.proofs.runs.ProfileLemmas.{complete_with}
 
@@ -25,14 +24,6 @@ use Rattle.nbd_laws.proofs.runs.ProfileLemmas.{complete_with}
 abbrev pub IsFalse : Message → Type 0
 IsFalse (Answer answered kind given) = (kind ≡ answers.INFO) × ((sizes : Sizes) × (sizes_of (info_of given) ≡ Some sizes) × (are_allowed sizes ≡ false))
 IsFalse m = ⊥
-
--- Wide follows what a profile follows
-follows_wide : (profile : Profile) (option : ℕ) → is_followed profile option ≡ true → is_followed Wide option ≡ true
-follows_wide Wide option e = e
-follows_wide Base option e = grind arith
-
-head_wide : (profile : Profile) (option : ℕ) (proper takes : Bool) (info : Option Exporting) (kind len : ℕ) → success_fault profile option proper takes info kind len ≡ None → success_fault Wide option proper takes info kind len ≡ None
-head_wide profile option proper takes info kind len e = grind (arith, fault_none, no_fault_if, follows_wide, not_false)
 
 info_wide : (profile : Profile) (o : Option Info) → ((sizes : Sizes) → sizes_of o ≡ Some sizes → are_allowed sizes ≡ false → ⊥) → is_good_info profile o ≡ true → is_good_info Wide o ≡ true
 info_wide profile None fair e = e
@@ -45,11 +36,11 @@ info_wide profile o fair e = e
 
 last_wide : (profile : Profile) (earlier : List Context) (proper : Bool) (kind : ℕ) (payload : List ℕ) → (kind ≡ answers.INFO → (sizes : Sizes) → sizes_of (info_of payload) ≡ Some sizes → are_allowed sizes ≡ false → ⊥) →
     payload_fault profile earlier proper kind payload ≡ None → payload_fault Wide earlier proper kind payload ≡ None
-last_wide profile earlier proper kind payload fair e = grind (arith, fault_none, no_fault_if, or_false, info_wide, eqb-true, not_false, and_false)
+last_wide profile earlier proper kind payload fair e = grind (arith, fault_none, no_fault_if, or_parts, info_wide, eqb-true, not-false, and_false)
 
 -- in Base a chunk is of a type that Wide reads as it is
 known_kind : (extended : Bool) (export : Exporting) (e : Operation) (flags kind : ℕ) (payload : List ℕ) → IsChunk Base extended export e flags kind payload → read_as Wide kind ≡ kind
-known_kind extended export e flags kind payload h = grind (arith, read_kind, error_content, failure_kind, low_kind, eq-eqb, no_other)
+known_kind extended export e flags kind payload h = grind (arith, read_kind, error_content, failure_kind, eq-eqb, no_other)
 
 chunk_wide : (profile : Profile) (structured : Bool) (export : Exporting) (e : Operation) (flags kind cookie : ℕ) (payload : List ℕ) → MayReply profile structured export e (Chunk flags kind cookie payload) →
     MayReply Wide structured export e (Chunk flags kind cookie payload)
@@ -84,23 +75,12 @@ may_wide core (Answering asked given info) (Answer option kind payload) fair (at
 )
   where
     head : (b : Bool) → (if b then None else (success_fault core.profile asked (is_proper_option asked given) (takes_contexts asked given) info kind (length payload))) ≡ None → (if b then None else (success_fault Wide asked (is_proper_option asked given) (takes_contexts asked given) info kind (length payload))) ≡ None
-    head true e = refl
-    head false e = head_wide core.profile asked _ _ info kind (length payload) e
+    head b e = grind (arith, fault_none, no_fault_if)
 
     last : (b : Bool) → (if b then None else (payload_fault core.profile (earlier_to asked core.selection) (is_proper_option asked given) kind payload)) ≡ None → (if b then None else (payload_fault Wide (earlier_to asked core.selection) (is_proper_option asked given) kind payload)) ≡ None
     last true e = refl
     last false e = last_wide core.profile _ _ kind payload (λ k sizes h e. fair (k, (sizes, h, e))) e
-may_wide core (Transmission export) (Request flags command cookie offset len payload) fair ok = ok
-may_wide core (Transmission export) (Simple error cookie payload) fair ok = ok
-may_wide core (Transmission export) (ExtendedRequest flags command cookie offset len payload) fair ok = ok
-may_wide core (Transmission export) (ExtendedChunk flags kind cookie at payload) fair (k, e, found, is, may) = (k, e, found, is, extended_wide core.profile core.structured export e flags kind cookie at payload may)
-may_wide core (Transmission export) (Chunk flags kind cookie payload) fair (k, e, found, is, may) = (k, e, found, is, chunk_wide core.profile core.structured export e flags kind cookie payload may)
-may_wide core phase m fair ok = absurd ok
-
-starts_with : (q : Profile) (core : Core) (phase : Phase) (s : Side) (m : Message) → MayStartIn phase core s m → MayStartIn phase (with_profile q core) s m
-unfolding MayStartIn
-starts_with q core (Transmission export) Client m h = h
-starts_with q core phase s m h = grind arith
+may_wide core phase m fair ok = grind (arith, no_fault_if, fault_none, last_wide, extended_wide, chunk_wide)
 
 -- each message that completes may do so in the profile
 abbrev pub Carries : Profile → Core → List Item → Type 0
@@ -112,14 +92,14 @@ Carries q core (Serves k ∷ items) = Carries q core items
 
 -- so the marks that were allowed are
 follows_with : (q : Profile) (items : List Item) (core : Core) → Follows core items → Carries q core items → Follows (with_profile q core) items
+unfolding MayStartIn
 follows_with q [] core f c = tt
-follows_with q (Starts s m ∷ items) core f c = (record { sided = f.0.sided; sendable = f.0.sendable; starts = starts_with q core core.phase s m f.0.starts }, follows_with q items core f.1 c)
+follows_with q (Starts s m ∷ items) core f c = (record { sided = f.0.sided; sendable = f.0.sendable; starts = (grind arith) }, follows_with q items core f.1 c)
 follows_with q (Completes s m ∷ items) core f c = (c.0, subst (λ x. Follows x items) (sym (complete_with q core m)) (follows_with q items (complete core m) f.1 c.1))
 follows_with q (item ∷ items) core f c = follows_with q items core f c
 
 allowed_is_no_false : (m : Message) → AnnouncesAllowed m → IsFalse m → ⊥
-allowed_is_no_false (Answer option kind payload) a f = (let t : are_allowed f.1.0 ≡ true = a f.0 f.1.0 f.1.1 in let z : true ≡ false = sym t ∙ f.1.2 in (cc))
-allowed_is_no_false m a f = absurd f
+allowed_is_no_false m a f = grind arith
 
 -- in Wide each message may that may in the profile of the core
 carries_wide : (items : List Item) (core : Core) (js : List Entry) → All AnnouncesAllowed (completed_messages items) → Obeys (record { core = core; served = js }) items → Carries Wide core items
@@ -148,11 +128,7 @@ abbrev Quiet : Phase → Side → List ℕ → Type 0
 Quiet phase s bytes = s ≡ Server → IsParting phase bytes → ⊥
 
 staged_end : (fault : Option WireFault) (end other : Reading) → staged_reading_by false fault false end ≡ staged_reading_by false fault false other
-staged_end None end other = refl
-staged_end (Some f) end other = refl
-
-followed_either : (p q : Profile) (option : ℕ) → extends option ≡ false → is_followed p option ≡ is_followed q option
-followed_either p q option e = grind arith
+staged_end fault end other = grind arith
 
 info_either : (p q : Profile) (o : Option Info) → ((sizes : Sizes) → sizes_of o ≡ Some sizes → are_allowed sizes ≡ false → ⊥) → is_good_info p o ≡ is_good_info q o
 info_either p q None fair = refl
@@ -161,8 +137,7 @@ info_either p q (Some (Other kind)) fair = refl
 info_either p q (Some (BlockSize a b c)) fair = go (are_allowed (record { least = a; preferred = b; largest = c })) refl
   where
     all : (p : Profile) → (not (is_wide p) || true) ≡ true
-    all Base = refl
-    all Wide = refl
+    all p = grind arith
 
     go : (x : Bool) → are_allowed (record { least = a; preferred = b; largest = c }) ≡ x → (not (is_wide p) || x) ≡ (not (is_wide q) || x)
     go true e = all p ∙ sym (all q)
@@ -183,13 +158,7 @@ module _ (option : ℕ) (given : List ℕ) (proper takes : Bool) (info : Option 
   answer_either p q none = go (nat_lt (length bytes) 20) refl (is_error (number_at 12 4 bytes)) refl (length bytes == 20 + number_at 16 4 bytes) refl
     where
       head_same : nat_lt (length bytes) 20 ≡ false → is_error (number_at 12 4 bytes) ≡ false → at_head p false ≡ at_head q false
-      head_same l e = by (extends option) refl
-        where
-          by : (c : Bool) → extends option ≡ c → at_head p false ≡ at_head q false
-          by true c = absurd (none (inl (c, ltb-false (length bytes) 20 l, e)))
-          by false c = ap (λ f. fault_if (not (number_at 0 8 bytes == ANSWER_MAGIC)) BadMagic (answer_fault option (number_at 8 4 bytes)
-              (fault_if (not f) OutOfProfile (fault_if (not (answers_option option takes (number_at 12 4 bytes))) BadReplyKind
-              (ack_fault (number_at 12 4 bytes) (number_at 16 4 bytes) (if number_at 12 4 bytes == answers.ACK then info_fault option proper info else None)))))) (followed_either p q option c)
+      head_same l e = grind (arith, ltb-false)
 
       last_same : length bytes ≡ 20 + number_at 16 4 bytes → at_last p false ≡ at_last q false
       last_same l = ap (λ b. last_reading (fault_if b BadReplyPayload (fault_if (not proper) SuccessOfImproper None)) (answer_of bytes))
@@ -204,8 +173,7 @@ module _ (option : ℕ) (given : List ℕ) (proper takes : Bool) (info : Option 
 
 -- a type that both profiles read as it is, or that of an unknown error
 kinds_agree : (kind : ℕ) → (is_error_chunk kind ≡ true → kind ≢ chunks.ERROR → kind ≢ chunks.ERROR_OFFSET → ⊥) → (p : Profile) → read_as p kind ≡ kind
-kinds_agree kind known Base = refl
-kinds_agree kind known Wide = grind (arith, eqb-true, eqb-false)
+kinds_agree kind known p = grind (arith, eqb-true, eqb-false)
 
 module _ (export : Exporting) (now : Core) (q : Profile) (bytes : List ℕ) where
   chunk_either : (o : Option Operation) → begins CHUNK_MAGIC bytes ≡ true → (IsParting (Transmission export) bytes → ⊥) → read_by (chunk_to export (with_profile q now) o bytes) bytes ≡ read_by (chunk_to export now o bytes) bytes
@@ -224,9 +192,7 @@ module _ (export : Exporting) (now : Core) (q : Profile) (bytes : List ℕ) wher
           ap (λ k. chunk_fault false (number_at 6 2 bytes == chunks.NONE) export e (with_reply e (chunk_of bytes)) (number_at 4 2 bytes) k (drop 20 bytes)) (known q ∙ sym (known now.profile))
 
       go : (low whole : Bool) → (length bytes == 20 + number_at 16 4 bytes) ≡ whole → staged_reading_by low head whole (end q) ≡ staged_reading_by low head whole (end now.profile)
-      go true w y = refl
-      go false true y = ap (λ f. staged_reading_by false head true (last_reading f (chunk_of bytes))) (last_same (eqb-true _ _ y) o)
-      go false false y = staged_end head (end q) (end now.profile)
+      go low w y = grind (arith, head, last_same, eqb-true, staged_end, end)
 
   extended_either : (o : Option Operation) → begins EXTENDED_CHUNK_MAGIC bytes ≡ true → (IsParting (Transmission export) bytes → ⊥) → read_by (extended_chunk_to export (with_profile q now) o bytes) bytes ≡ read_by (extended_chunk_to export now o bytes) bytes
   extended_either o magic none = go (nat_lt (length bytes) 32) (length bytes == 32 + number_at 24 8 bytes) refl
@@ -257,20 +223,13 @@ reading_in q Naming since now Client bytes none = refl
 reading_in q Aborting since now Client bytes none = refl
 reading_in q Ended since now Client bytes none = refl
 reading_in q (Transmission export) since now Client bytes none = grind arith
-reading_in q (Transmission export) since now Server bytes none = by now.extended
+reading_in q (Transmission export) since now Server bytes none = grind (arith, replied, wide)
   where
     wide : (c : Bool) → begins EXTENDED_CHUNK_MAGIC bytes ≡ c → read_by (extended_reply_by c export (with_profile q now) (operation_of since now (number_at 8 8 bytes)) bytes) bytes ≡ read_by (extended_reply_by c export now (operation_of since now (number_at 8 8 bytes)) bytes) bytes
-    wide true magic = extended_either export now q bytes (operation_of since now (number_at 8 8 bytes)) magic (none refl)
-    wide false magic = refl
+    wide c magic = grind (arith, extended_either)
 
     replied : (c : Bool) → begins CHUNK_MAGIC bytes ≡ c → (s : Bool) → read_by (reply_by c s export (with_profile q now) (operation_of since now (number_at 8 8 bytes)) bytes) bytes ≡ read_by (reply_by c s export now (operation_of since now (number_at 8 8 bytes)) bytes) bytes
-    replied true magic s = chunk_either export now q bytes (operation_of since now (number_at 8 8 bytes)) magic (none refl)
-    replied false magic true = refl
-    replied false magic false = refl
-
-    by : (x : Bool) → read_by (reply_in x export (with_profile q now) (operation_of since now (number_at 8 8 bytes)) bytes) bytes ≡ read_by (reply_in x export now (operation_of since now (number_at 8 8 bytes)) bytes) bytes
-    by false = replied (begins CHUNK_MAGIC bytes) refl (begins SIMPLE_MAGIC bytes)
-    by true = wide (begins EXTENDED_CHUNK_MAGIC bytes) refl
+    replied c magic s = grind (arith, chunk_either)
 reading_in q phase since now s bytes none = refl
 
 -- a reader, held to the profile
@@ -285,19 +244,12 @@ result_in q (Ok reader) = Ok (reader_in q reader)
 result_in q (Err fault) = Err fault
 
 get_in : (q : Profile) (reader : Reader) (s : Side) → get (reader_in q reader).rests s ≡ rest_in q (get reader.rests s)
-get_in q reader Client = refl
-get_in q reader Server = refl
-
-old_in : (q : Profile) (bytes : List ℕ) (core old : Core) → old_by bytes (with_profile q core) (with_profile q old) ≡ with_profile q (old_by bytes core old)
-old_in q [] core old = refl
-old_in q (x ∷ xs) core old = refl
+get_in q reader s = grind arith
 
 grown_in : (q : Profile) (core : Core) (rest : Rest) (b : ℕ) → rest_with (with_profile q core) (rest_in q rest) b ≡ rest_in q (rest_with core rest b)
-grown_in q core rest b = λ i. record { bytes = rest.bytes ++ b ∷ []; since = old_in q rest.bytes core rest.since i }
+grown_in q core rest b = grind arith
 
 settle_in : (q : Profile) (reader : Reader) (s : Side) (rest : Rest) (r : Reading) → settle (reader_in q reader) s (rest_in q rest) r ≡ result_in q (settle reader s rest r)
-settle_in q reader Client rest More = refl
-settle_in q reader Server rest More = refl
 settle_in q reader s rest r = grind (arith, complete_with)
 
 abbrev grown : Reader → Side → ℕ → Rest
@@ -325,8 +277,7 @@ reads_in q (p ∷ ps) reader none = ap (λ o. on_ok o (λ next. reads by_tests n
   where
     go : (r : Result Reader WireFault) → ((next : Reader) → r ≡ Ok next → reads by_tests (reader_in q next) ps ≡ result_in q (reads by_tests next ps)) →
         on_ok (result_in q r) (λ next. reads by_tests next ps) ≡ result_in q (on_ok r (λ next. reads by_tests next ps))
-    go (Err f) h = refl
-    go (Ok next) h = h next refl
+    go r h = grind arith
 
 pub nothing_before : (reader : Reader) (ps more : List Pair) → NothingFrom reader (ps ++ more) → NothingFrom reader ps
 nothing_before reader ps more none before rest b mid is = none before (rest ++ more) b mid (ap (λ l. l ++ more) is ∙ append_assoc before (record { from = Server; byte = b } ∷ rest) more)

@@ -1,5 +1,5 @@
 -- A message answers the same request while its side is in it.
-use Rattle.nbd_laws.proofs.Common.{◌≡◌, ◌⊎◌, List, ◌++◌, refl, sym, ◌∙◌, ap, subst, inl, inr, Option, Some, None, is_some, IsTrue, ℕ, Side, Client, Server, Message, Simple, Chunk, ExtendedChunk, turn, Operation, Exporting, MayComplete, MayStartIn, request_of_reply, complete, cookie_of, target_of, side, Core, Phase, Transmission, target, Both, get, put}
+use Rattle.nbd_laws.proofs.Common.{arith, ◌≡◌, ◌⊎◌, List, ◌++◌, sym, ◌∙◌, ap, inl, inr, Option, Some, None, is_some, IsTrue, ℕ, Side, Client, Server, Message, turn, Operation, MayComplete, MayStartIn, request_of_reply, complete, cookie_of, target_of, side, Core, Phase, Both, get, put}
 use Rattle.nbd_laws.proofs.reading.ReaderLemmas.{put_both, Busy, Idle, Later, Later-trans, Loose, Open, at_once, behind}
 use Rattle.nbd_laws.proofs.runs.FollowLemmas.{IsBegun}
 use Rattle.nbd_laws.proofs.judge.PhaseLemmas.{IsAppended, IsTransmitting, Later-appended, Later-turn, target-append}
@@ -7,35 +7,23 @@ use Rattle.nbd_laws.proofs.judge.PhaseLemmas.{IsAppended, IsTransmitting, Later-
 -- a side's message begins in its turn, or in transmission
 starts_in : (phase : Phase) (core : Core) (s : Side) (m : Message) → MayStartIn phase core s m → (turn phase ≡ Some s) ⊎ IsTransmitting phase
 unfolding MayStartIn
-starts_in (Transmission export) core s m h = inr (export, refl)
-starts_in phase core s m h = inl h
-
-reply_answers : (export : Exporting) (core : Core) (m : Message) → MayStartIn (Transmission export) core Server m → IsTrue (is_some (request_of_reply core m))
-unfolding MayStartIn
-reply_answers export core m h = h.0
+starts_in phase core s m h = grind arith
 
 target_stays : (c : Option ℕ) (es more : List Operation) → IsTrue (is_some (target_of c es)) → target_of c es ≡ target_of c (es ++ more)
-target_stays None es more h = absurd (cc)
-target_stays (Some cookie) es more h = go (target cookie es) refl h
-  where
-    go : (o : Option ℕ) → target cookie es ≡ o → IsTrue (is_some o) → target cookie es ≡ target cookie (es ++ more)
-    go None e h = absurd (cc)
-    go (Some k) e h = e ∙ sym (target-append cookie es more k e)
+target_stays c es more h = grind (arith, target-append)
 
 -- while the server is in a message, that message answers the same request
 pub answers_same : {old now : Core} (m : Message) → Later Server old now → IsBegun old Server m → request_of_reply old m ≡ request_of_reply now m
+unfolding MayStartIn
 answers_same {old} {now} m l b = elim (starts_in old.phase old Server m b.starts) [
   | inl t ↦ ap (λ (c : Core). request_of_reply c m) (Later-turn l t)
   | inr (export, t) ↦ (let a : IsAppended old now = Later-appended l export t in
-      target_stays (cookie_of m) old.entries a.more (reply_answers export old m (subst (λ phase. MayStartIn phase old Server m) t b.starts)) ∙ ap (target_of (cookie_of m)) (sym a.entries_are))
+      target_stays (cookie_of m) old.entries a.more ((grind arith)) ∙ ap (target_of (cookie_of m)) (sym a.entries_are))
 ]
 
 -- the client's messages answer nothing
 pub asks_only : (core : Core) (m : Message) → side m ≡ Client → request_of_reply core m ≡ None
-asks_only core (Simple error cookie payload) e = absurd (cc)
-asks_only core (Chunk flags kind cookie payload) e = absurd (cc)
-asks_only core (ExtendedChunk flags kind cookie at payload) e = absurd (cc)
-asks_only core m e = refl
+asks_only core m e = grind arith
 
 -- an open message of a side began in its place
 abbrev pub BegunOpen : Core → Side → Open → Type 0

@@ -1,38 +1,26 @@
 -- Marked captures by blocks are those that are read from the left.
-use Rattle.nbd_laws.proofs.Common.{◌≡◌, ℕ, List, [], ◌∷◌, ◌++◌, map, flat_map, refl, sym, ◌∙◌, ap, subst, inl, inr, append_assoc, whole, Side, Client, Server, Message, enc, Item, Byte, Starts, Completes, Serves, of_side, block, IsByteOf, MayFollow, IsTight, IsMarkedBut, Both, get, put, IsFilled}
+use Rattle.nbd_laws.proofs.Common.{arith, ◌≡◌, ℕ, List, [], ◌∷◌, ◌++◌, map, flat_map, refl, sym, ◌∙◌, ap, subst, inl, inr, append_assoc, whole, Side, Client, Server, Message, enc, Item, Byte, Starts, Completes, Serves, of_side, block, IsByteOf, MayFollow, IsTight, IsMarkedBut, Both, get, put, IsFilled}
 use Rattle.nbd_laws.proofs.reading.ReaderLemmas.{put_both, get-put_same, get-put_other, same_or_not, Open, Idle, Busy, Loose, IsNotBusy, Walk, ended, serving, opening, middle, final, loose}
 use Rattle.nbd_laws.proofs.runs.TraceLemmas.{enc-long}
 use Rattle.nbd_laws.proofs.runs.FollowLemmas.{each_with}
 
 pub byte_same : (s : Side) (b : ℕ) (items : List Item) → of_side s (Byte s b ∷ items) ≡ Byte s b ∷ of_side s items
-byte_same Client b items = refl
-byte_same Server b items = refl
+byte_same s b items = grind arith
 
 pub byte_other : (s t : Side) (b : ℕ) (items : List Item) → (t ≡ s → ⊥) → of_side s (Byte t b ∷ items) ≡ of_side s items
-byte_other Client Client b items ne = absurd (ne refl)
-byte_other Client Server b items ne = refl
-byte_other Server Client b items ne = refl
-byte_other Server Server b items ne = absurd (ne refl)
+byte_other s t b items ne = grind arith
 
 pub starts_same : (s : Side) (m : Message) (items : List Item) → of_side s (Starts s m ∷ items) ≡ Starts s m ∷ of_side s items
-starts_same Client m items = refl
-starts_same Server m items = refl
+starts_same s m items = grind arith
 
 pub starts_other : (s t : Side) (m : Message) (items : List Item) → (t ≡ s → ⊥) → of_side s (Starts t m ∷ items) ≡ of_side s items
-starts_other Client Client m items ne = absurd (ne refl)
-starts_other Client Server m items ne = refl
-starts_other Server Client m items ne = refl
-starts_other Server Server m items ne = absurd (ne refl)
+starts_other s t m items ne = grind arith
 
 pub completes_same : (s : Side) (m : Message) (items : List Item) → of_side s (Completes s m ∷ items) ≡ Completes s m ∷ of_side s items
-completes_same Client m items = refl
-completes_same Server m items = refl
+completes_same s m items = grind arith
 
 pub completes_other : (s t : Side) (m : Message) (items : List Item) → (t ≡ s → ⊥) → of_side s (Completes t m ∷ items) ≡ of_side s items
-completes_other Client Client m items ne = absurd (ne refl)
-completes_other Client Server m items ne = refl
-completes_other Server Client m items ne = refl
-completes_other Server Server m items ne = absurd (ne refl)
+completes_other s t m items ne = grind arith
 
 abbrev pub bytes_of : Side → List ℕ → List Item
 bytes_of s bs = map (λ b. Byte s b) bs
@@ -71,33 +59,15 @@ opening_left s m b left items e l =
       strays = l.strays;
     }
 
-middle_left : {P : Type 0} (s : Side) (m : Message) (b : ℕ) (left : List ℕ) (items : List Item) → IsLeft P s (Busy m left) items → IsLeft P s (Busy m (b ∷ left)) (Byte s b ∷ items)
-middle_left s m b left items l = record {
-  messages = l.messages;
-  rest = l.rest;
-  blocks = byte_same s b items ∙ ap (λ x. Byte s b ∷ x) l.blocks;
-  loosely = λ q. absurd (cc);
-  strays = l.strays;
-}
-
 final_left : {P : Type 0} (s : Side) (m : Message) (b : ℕ) (items : List Item) → IsLeft P s Idle items → IsLeft P s (Busy m (b ∷ [])) (Byte s b ∷ Completes s m ∷ items)
-final_left s m b items l = record {
-  messages = l.messages;
-  rest = l.rest;
-  blocks = byte_same s b (Completes s m ∷ items) ∙ ap (λ x. Byte s b ∷ x) (completes_same s m items ∙ ap (λ x. Completes s m ∷ x) l.blocks);
-  loosely = λ q. absurd (cc);
-  strays = l.strays;
-}
+final_left s m b items l = grind (arith, byte_same, completes_same)
 
 loose_left : {P : Type 0} (s : Side) (b : ℕ) (items : List Item) (x : Open) → P → IsNotBusy x → IsLeft P s Loose items → IsLeft P s x (Byte s b ∷ items)
 loose_left {P} s b items x p n l = go x n
   where
-    all : of_side s (Byte s b ∷ items) ≡ bytes_of s (b ∷ l.rest)
-    all = byte_same s b items ∙ ap (λ y. Byte s b ∷ y) (l.blocks ∙ ap (λ ms. flat_map (block s) ms ++ bytes_of s l.rest) (l.loosely refl))
-
     go : (x : Open) → IsNotBusy x → IsLeft P s x (Byte s b ∷ items)
     go (Busy m left) n = absurd n
-    go x n = record { messages = []; rest = b ∷ l.rest; blocks = all; loosely = λ e. refl; strays = λ f. p }
+    go x n = record { messages = []; rest = b ∷ l.rest; blocks = grind (arith, byte_same); loosely = λ e. refl; strays = λ f. p }
 
 -- one side takes a step and the other does not
 stepped : {P : Type 0} (o : Both Open) (t : Side) (x : Open) (items items' : List Item) → Lefts P (put o t x) items → (IsLeft P t x items → IsLeft P t (get o t) items') → ((s : Side) → (t ≡ s → ⊥) → of_side s items' ≡ of_side s items) → Lefts P o items'
@@ -121,7 +91,7 @@ lefts {P} {o} (opening t m b left {items = items} i e f w) s =
     (λ u ne. starts_other u t m (Byte t b ∷ items) ne ∙ byte_other u t b items ne) s
 lefts {P} {o} (middle t m b left {items = items} i f w) s =
     stepped o t (Busy m left) items (Byte t b ∷ items) (lefts w)
-    (λ l. subst (λ y. IsLeft P t y (Byte t b ∷ items)) (sym i) (middle_left t m b left items l)) (λ u ne. byte_other u t b items ne) s
+    (λ l. subst (λ y. IsLeft P t y (Byte t b ∷ items)) (sym i) ((grind (arith, byte_same)))) (λ u ne. byte_other u t b items ne) s
 lefts {P} {o} (final t m b {items = items} i w) s =
     stepped o t Idle items (Byte t b ∷ Completes t m ∷ items) (lefts w)
     (λ l. subst (λ y. IsLeft P t y (Byte t b ∷ Completes t m ∷ items)) (sym i) (final_left t m b items l))
@@ -140,9 +110,7 @@ IsNoEnd (Completes s m) = ⊥
 IsNoEnd _ = Unit {0}
 
 calm_before : (x y : Item) → IsCalm x → IsNoEnd y → MayFollow x y
-calm_before (Starts s m) y c n = absurd c
-calm_before x (Completes s m) c n = absurd n
-calm_before x y c n = tt
+calm_before x y c n = grind arith
 
 tight_after : {P : Type 0} {o : Both Open} {items : List Item} → Walk P o items → (x : Item) → IsCalm x → IsTight (x ∷ items)
 tight_after (ended c d) x k = tt
@@ -153,8 +121,7 @@ tight_after (final t m b i w) x k = (calm_before x (Byte t b) k tt, (refl, tight
 tight_after (loose t b p i w) x k = (calm_before x (Byte t b) k tt, tight_after w (Byte t b) tt)
 
 tight_tail : (x : Item) (items : List Item) → IsTight (x ∷ items) → IsTight items
-tight_tail x [] h = tt
-tight_tail x (y ∷ items) h = h.1
+tight_tail x items h = grind arith
 
 abbrev pub Idles : Both Open
 Idles = record { client = Idle; server = Idle }
@@ -182,20 +149,10 @@ beyond s ms rest = flat_map (block s) ms ++ bytes_of s rest
 starts_in : (s : Side) (m : Message) (items : List Item) (x : Open) (ms : List Message) (rest : List ℕ) → (x ≡ Loose → ms ≡ []) → Starts s m ∷ items ≡ to_come s x ++ beyond s ms rest →
     (x ≡ Idle) × ((ms' : List Message) × (items ≡ (bytes_of s (enc m) ++ Completes s m ∷ []) ++ beyond s ms' rest))
 starts_in s m items Idle [] [] lo e = absurd (cc)
-starts_in s m items Idle (n ∷ ms) rest lo e =
-    let nm : n ≡ m = cc in
-    let t : items ≡ ((bytes_of s (enc n) ++ Completes s n ∷ []) ++ flat_map (block s) ms) ++ bytes_of s rest = cc in (
-      refl,
-      (
-        ms,
-        t ∙ append_assoc (bytes_of s (enc n) ++ Completes s n ∷ []) (flat_map (block s) ms) (bytes_of s rest)
-            ∙ ap (λ k. (bytes_of s (enc k) ++ Completes s k ∷ []) ++ beyond s ms rest) nm,
-      ),
-    )
+starts_in s m items Idle (n ∷ ms) rest lo e = grind (arith, append_assoc)
 starts_in s m items (Busy n []) ms rest lo e = absurd (cc)
 starts_in s m items Loose [] [] lo e = absurd (cc)
-starts_in s m items Loose (n ∷ ms) rest lo e = (let q : n ∷ ms ≡ [] = lo refl in absurd (cc))
-starts_in s m items x ms rest lo e = absurd (cc)
+starts_in s m items x ms rest lo e = grind (arith, append_assoc)
 
 -- the open message that a byte goes on with, or none
 pub data ByteIn (s : Side) (b : ℕ) (items : List Item) (x : Open) (ms : List Message) (rest : List ℕ) : Type 0 where
@@ -223,12 +180,10 @@ ends_in s m items x ms rest e = absurd (cc)
 
 nothing_in : (s : Side) (x : Open) (ms : List Message) (rest : List ℕ) → [] ≡ to_come s x ++ beyond s ms rest → IsNotBusy x
 nothing_in s (Busy n []) ms rest e = absurd (cc)
-nothing_in s (Busy n (c ∷ left)) ms rest e = absurd (cc)
-nothing_in s x ms rest e = tt
+nothing_in s x ms rest e = grind arith
 
 -- the last byte's message completes at once
 ends_now : (s : Side) (m : Message) (items : List Item) (y : List Item) (x : Item) → (IsByteOf s x → ⊥) → IsTight (x ∷ items) → of_side s items ≡ Completes s m ∷ y → ⊥
-ends_now s m [] y x nb t e = absurd (cc)
 ends_now s m (Byte u b ∷ items) y x nb t e = elim (same_or_not u s) [
   | inl q ↦ (let e' : of_side s (Byte s b ∷ items) ≡ Completes s m ∷ y = subst (λ v. of_side s (Byte v b ∷ items) ≡ Completes s m ∷ y) q e in
       let c : Byte s b ∷ of_side s items ≡ Completes s m ∷ y = sym (byte_same s b items) ∙ e' in (cc))
@@ -244,8 +199,7 @@ ends_now s m (Completes u n ∷ items) y (Byte v b) nb t e = elim (same_or_not u
   | inl q ↦ nb (sym (t.0 ∙ q))
   | inr ne ↦ ends_now s m items y (Completes u n) (λ q. q) t.1 (sym (completes_other s u n items ne) ∙ e)
 ]
-ends_now s m (Completes u n ∷ items) y (Starts v k) nb t e = elim t.0 [ ]
-ends_now s m (Completes u n ∷ items) y x nb t e = elim t.0 [ ]
+ends_now s m items y x nb t e = grind (arith, same_or_not, byte_same, byte_other, starts_same, starts_other, completes_other)
 
 abbrev IsUnfinished : Side → Open → Type 0
 IsUnfinished s Idle = Unit {0}
@@ -338,9 +292,4 @@ unblocked {P} items o un l t = elim t.0 [ ]
 
 -- a marked capture is read from the left
 pub marked_is_walk : {P : Type 0} (items : List Item) (client server : List ℕ) → (IsFilled client → P) → (IsFilled server → P) → IsMarkedBut items client server → Walk P Idles items
-marked_is_walk items client server cs ss m = unblocked items Idles (elim [ Client ↦ tt | Server ↦ tt ])
-    (elim [
-      | Client ↦ record { messages = m.client_side.messages; rest = client; blocks = m.client_side.blocks; loosely = λ e. absurd (cc); strays = cs }
-      | Server ↦ record { messages = m.server_side.messages; rest = server; blocks = m.server_side.blocks; loosely = λ e. absurd (cc); strays = ss }
-    ])
-    m.tight
+marked_is_walk items client server cs ss m = grind (arith, unblocked)

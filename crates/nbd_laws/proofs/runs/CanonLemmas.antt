@@ -1,5 +1,5 @@
 -- A run may have each request served atomically where it completes.
-use Rattle.nbd_laws.proofs.Common.{◌≡◌, List, [], ◌∷◌, ◌++◌, refl, ◌∙◌, ap, inl, inr, Entry, Profile, Item, Byte, Starts, Completes, Serves, without_service, Both, IsRunOf, Obeys, complete, Core, start_of}
+use Rattle.nbd_laws.proofs.Common.{arith, ◌≡◌, List, [], ◌∷◌, ◌++◌, refl, ◌∙◌, ap, Entry, Profile, Item, Byte, Starts, Completes, Serves, without_service, Both, IsRunOf, Obeys, complete, Core, start_of}
 use Rattle.nbd_laws.proofs.reading.ReaderLemmas.{Open, Walk, ended, final, loose, middle, opening, serving}
 use Rattle.nbd_laws.proofs.runs.BlockLemmas.{Idles}
 use Rattle.nbd_laws.proofs.runs.FollowLemmas.{Follows}
@@ -34,15 +34,11 @@ walk_canon (middle s m b left e f w) core = middle s m b left e f (walk_canon w 
 walk_canon (final s m b {items = items} e w) core = final s m b e (walk_service core (complete core m) (length-complete core m) _ (canon (complete core m) items) (walk_canon w (complete core m)))
 walk_canon (loose s b p e w) core = loose s b p e (walk_canon w core)
 
-unserved_service : (old new : Core) (g : IsGrown old new) (items : List Item) → without_service (service old new g ++ items) ≡ without_service items
-unserved_service old new (inl e) items = refl
-unserved_service old new (inr e) items = refl
-
 pub unserved_canon : (core : Core) (items : List Item) → without_service (canon core items) ≡ without_service items
 unserved_canon core [] = refl
 unserved_canon core (Byte s b ∷ items) = ap (λ l. Byte s b ∷ l) (unserved_canon core items)
 unserved_canon core (Starts s m ∷ items) = ap (λ l. Starts s m ∷ l) (unserved_canon core items)
-unserved_canon core (Completes s m ∷ items) = ap (λ l. Completes s m ∷ l) (unserved_service core (complete core m) (length-complete core m) _ ∙ unserved_canon (complete core m) items)
+unserved_canon core (Completes s m ∷ items) = ap (λ l. Completes s m ∷ l) ((grind arith) ∙ unserved_canon (complete core m) items)
 unserved_canon core (Serves e ∷ items) = unserved_canon core items
 
 -- marks that are allowed, whatever was served, are those of a run

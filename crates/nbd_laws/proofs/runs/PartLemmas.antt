@@ -1,6 +1,6 @@
 -- A run in two parts.
-use Rattle.nbd_laws.proofs.Common.{◌≡◌, ℕ, ◌+◌, List, [], ◌∷◌, ◌++◌, length, refl, sym, ◌∙◌, ap, subst, append_assoc, append-nil, arith, suc, zero-add, Side, Client, Server, Message, enc, Item, Byte, Starts, Completes, Serves, service_order, Obeys, after, ends_at, State, start_of, Both, get, put, CompletionsStandAfterBytes, PrefixesAreRuns, StartsStandBeforeBytes, started_messages}
-use Rattle.nbd_laws.proofs.reading.ReaderLemmas.{put_both, Open, Idle, Busy, Loose, IsNotBusy, Walk, ended, serving, opening, middle, final, loose}
+use Rattle.nbd_laws.proofs.Common.{◌≡◌, ℕ, ◌+◌, List, [], ◌∷◌, ◌++◌, length, refl, sym, ◌∙◌, ap, subst, append_assoc, append-nil, arith, Side, Client, Server, Message, enc, Item, Byte, Starts, Completes, Serves, service_order, Obeys, after, ends_at, State, start_of, Both, get, put, CompletionsStandAfterBytes, PrefixesAreRuns, StartsStandBeforeBytes, started_messages}
+use Rattle.nbd_laws.proofs.reading.ReaderLemmas.{get-put_same, put_both, Open, Idle, Busy, Loose, IsNotBusy, Walk, ended, serving, opening, middle, final, loose}
 use Rattle.nbd_laws.proofs.runs.BlockLemmas.{Idles}
 use Rattle.nbd_laws.proofs.runs.RunLemmas.{run_of, walk_of}
 use Rattle.nbd_laws.specs.Prefixes as prefixes
@@ -34,45 +34,13 @@ even_none : {P : Type 0} (o : Both Open) → IsEven o [] → Walk P o []
 even_none o h = ended (idle o.client (h Client)) (idle o.server (h Server))
   where
     idle : (x : Open) → opened x + 0 ≡ 0 → IsNotBusy x
-    idle Idle e = tt
-    idle (Busy m left) e = absurd (omega arith)
-    idle Loose e = tt
-
--- what a mark adds to the count of its side and of the other
-started_same : (s : Side) (m : Message) (items : List Item) → length (started_messages s (Starts s m ∷ items)) ≡ suc (length (started_messages s items))
-started_same Client m items = refl
-started_same Server m items = refl
-
-started_other : (s t : Side) (m : Message) (items : List Item) → (t ≡ s → ⊥) → length (started_messages s (Starts t m ∷ items)) ≡ length (started_messages s items)
-started_other Client Client m items ne = absurd (ne refl)
-started_other Client Server m items ne = refl
-started_other Server Client m items ne = refl
-started_other Server Server m items ne = absurd (ne refl)
-
-ended_same : (s : Side) (m : Message) (items : List Item) → length (prefixes.ended_messages s (Completes s m ∷ items)) ≡ suc (length (prefixes.ended_messages s items))
-ended_same Client m items = refl
-ended_same Server m items = refl
-
-ended_other : (s t : Side) (m : Message) (items : List Item) → (t ≡ s → ⊥) → length (prefixes.ended_messages s (Completes t m ∷ items)) ≡ length (prefixes.ended_messages s items)
-ended_other Client Client m items ne = absurd (ne refl)
-ended_other Client Server m items ne = refl
-ended_other Server Client m items ne = refl
-ended_other Server Server m items ne = absurd (ne refl)
-
-even_with : (o : Both Open) (s : Side) (x : Open) (items items' : List Item) → IsEven o items →
-    (opened (get o s) + length (started_messages s items) ≡ length (prefixes.ended_messages s items) → opened x + length (started_messages s items') ≡ length (prefixes.ended_messages s items')) →
-    ((u : Side) → (s ≡ u → ⊥) → (length (started_messages u items') ≡ length (started_messages u items)) × (length (prefixes.ended_messages u items') ≡ length (prefixes.ended_messages u items))) →
-    IsEven (put o s x) items'
-even_with o s x items items' h here other u = grind (arith, put_both)
-
-even_opening : (o : Both Open) (s : Side) (m : Message) (b : ℕ) (left : List ℕ) (prefix : List Item) → get o s ≡ Idle → IsEven o (Starts s m ∷ Byte s b ∷ prefix) → IsEven (put o s (Busy m left)) prefix
-even_opening o s m b left prefix i h = grind (arith, even_with, started_same, started_other)
+    idle x e = grind arith
 
 even_middle : (o : Both Open) (s : Side) (m : Message) (b : ℕ) (left : List ℕ) (prefix : List Item) → get o s ≡ Busy m (b ∷ left) → IsEven o (Byte s b ∷ prefix) → IsEven (put o s (Busy m left)) prefix
-even_middle o s m b left prefix i h = grind (arith, even_with)
+even_middle o s m b left prefix i h = grind (arith, put_both)
 
 even_final : (o : Both Open) (s : Side) (m : Message) (b : ℕ) (prefix : List Item) → get o s ≡ Busy m (b ∷ []) → IsEven o (Byte s b ∷ Completes s m ∷ prefix) → IsEven (put o s Idle) prefix
-even_final o s m b prefix i h = grind (arith, even_with, ended_same, ended_other)
+even_final o s m b prefix i h = grind (arith, put_both)
 
 -- a walk, up to a moment at which no message is open
 cut_walk : {o : Both Open} {items : List Item} → Walk ⊥ o items → (prefix back : List Item) → items ≡ prefix ++ back → IsEven o prefix → Walk ⊥ o prefix
@@ -82,14 +50,14 @@ cut_walk {o} (serving k {items = items} w) (x ∷ prefix) back e h =
     let q : Serves k ≡ x = cc in
     let r : items ≡ prefix ++ back = cc in
     subst (λ y. Walk ⊥ o (y ∷ prefix)) q (serving k (cut_walk w prefix back r (subst (λ y. IsEven o (y ∷ prefix)) (sym q) h)))
-cut_walk {o} (opening s m b left i f g w) (x ∷ []) back e h = grind (arith, started_same s m [])
+cut_walk {o} (opening s m b left i f g w) (x ∷ []) back e h = grind (arith)
 cut_walk {o} (opening s m b left {items = items} i f g w) (x ∷ y ∷ prefix) back e h =
     let q : Starts s m ≡ x = cc in
     let p : Byte s b ≡ y = cc in
     let r : items ≡ prefix ++ back = cc in
     let h' : IsEven o (Starts s m ∷ Byte s b ∷ prefix) = subst (λ z. IsEven o (z ∷ Byte s b ∷ prefix)) (sym q) (subst (λ z. IsEven o (x ∷ z ∷ prefix)) (sym p) h) in
     subst (λ z. Walk ⊥ o (x ∷ z ∷ prefix)) p (subst (λ z. Walk ⊥ o (z ∷ Byte s b ∷ prefix)) q
-    (opening s m b left i f g (cut_walk w prefix back r (even_opening o s m b left prefix i h'))))
+    (opening s m b left i f g (cut_walk w prefix back r ((grind (arith, put_both))))))
 cut_walk {o} (middle s m b left {items = items} i f w) (x ∷ prefix) back e h =
     let q : Byte s b ≡ x = cc in
     let r : items ≡ prefix ++ back = cc in
@@ -109,20 +77,37 @@ prefixes_are_runs profile prefix back run none =
     run_of (λ p. p) (cut_walk (walk_of run) prefix back refl even) (obeys_prefix (start_of profile) prefix back run.obeys)
   where
     even : IsEven Idles prefix
-    even Client = zero-add (length (started_messages Client prefix)) ∙ ap length (none Client)
-    even Server = zero-add (length (started_messages Server prefix)) ∙ ap length (none Server)
+    even h = grind arith
 
--- what stands after the start of a message
-start_at : {o : Both Open} {items : List Item} → Walk ⊥ o items → (prefix back : List Item) (s : Side) (m : Message) → items ≡ prefix ++ Starts s m ∷ back →
-    (b : ℕ) × (left : List ℕ) × (rest : List Item) × (back ≡ Byte s b ∷ rest) × (enc m ≡ b ∷ left)
+-- what stands after the start of a message, and the walk that goes on there
+pub record StandsAt (back : List Item) (s : Side) (m : Message) : Type 0 where
+  pub first : ℕ
+  pub left : List ℕ
+  pub rest : List Item
+  pub behind_start : back ≡ Byte s first ∷ rest
+  pub encodes : enc m ≡ first ∷ left
+  pub open_ : Both Open
+  pub walk : Walk ⊥ open_ rest
+  pub busy : get open_ s ≡ Busy m left
+
+pub start_at : {o : Both Open} {items : List Item} → Walk ⊥ o items → (prefix back : List Item) (s : Side) (m : Message) → items ≡ prefix ++ Starts s m ∷ back → StandsAt back s m
 start_at (ended c d) [] back s m e = absurd (cc)
 start_at (serving k w) [] back s m e = absurd (cc)
 start_at (serving k w) (x ∷ prefix) back s m e = start_at w prefix back s m (cc)
-start_at (opening t n b left {items = items} i f g w) [] back s m e =
+start_at {o} (opening t n b left {items = items} i f g w) [] back s m e =
     let q : t ≡ s = cc in
     let p : n ≡ m = cc in
     let r : Byte t b ∷ items ≡ back = cc in
-    (b, left, items, sym r ∙ ap (λ u. Byte u b ∷ items) q, ap enc (sym p) ∙ f)
+    record {
+      first = b;
+      left = left;
+      rest = items;
+      behind_start = sym r ∙ ap (λ u. Byte u b ∷ items) q;
+      encodes = ap enc (sym p) ∙ f;
+      open_ = put o t (Busy n left);
+      walk = w;
+      busy = subst (λ u. get (put o t (Busy n left)) u ≡ Busy n left) q (get-put_same o t (Busy n left)) ∙ ap (λ z. Busy z left) p;
+    }
 start_at (opening t n b left i f g w) (x ∷ []) back s m e = absurd (cc)
 start_at (opening t n b left i f g w) (x ∷ y ∷ prefix) back s m e = start_at w prefix back s m (cc)
 start_at (middle t n b left i f w) [] back s m e = absurd (cc)
@@ -133,7 +118,7 @@ start_at (loose t b p i w) prefix back s m e = absurd p
 start_at x prefix back s m e = absurd (cc)
 
 pub starts_stand_before_bytes : StartsStandBeforeBytes
-starts_stand_before_bytes profile prefix back s m run = start_at (walk_of run) prefix back s m refl
+starts_stand_before_bytes profile prefix back s m run = (let a = start_at (walk_of run) prefix back s m refl in (a.first, a.left, a.rest, a.behind_start, a.encodes))
 
 -- what stands before the completion of a message
 abbrev EndsWithByte : Side → List Item → Type 0

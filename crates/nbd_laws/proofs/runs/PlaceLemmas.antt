@@ -1,5 +1,5 @@
 -- Reading is a function, and takes what a run begins with: so bytes have one place at most, and no run begins with it.
-use Rattle.nbd_laws.proofs.Common.{◌≡◌, List, [], ◌∷◌, ◌++◌, length, refl, sym, ◌∙◌, ap, subst, Ok, Err, append_assoc, WireFault, Message, Profile, Pair, by_tests, Reader, fresh_of, on_ok, reads, IsPlaceOf, IsUnderWayOf, within, BeginningsAreUnderWay, HaveOnePlace, PlacesBeginNoRun, PrefixesHaveNoPlace, UnderWayAgree}
+use Rattle.nbd_laws.proofs.Common.{arith, ◌≡◌, List, [], ◌∷◌, ◌++◌, length, refl, sym, ◌∙◌, ap, Ok, Err, append_assoc, WireFault, Message, Profile, Pair, by_tests, Reader, fresh_of, reads, IsPlaceOf, within, BeginningsAreUnderWay, HaveOnePlace, PlacesBeginNoRun, PrefixesHaveNoPlace, UnderWayAgree}
 use Rattle.nbd_laws.proofs.judge.BlockLemmas.{reads-append}
 use Rattle.nbd_laws.proofs.judge.ExactLemmas.{exact, none_refused}
 use Rattle.nbd_laws.proofs.reading.MarkLemmas.{IsRead}
@@ -10,41 +10,27 @@ but_last [] [] p q e = (refl, (cc))
 but_last [] (x ∷ []) p q e = absurd (cc)
 but_last (x ∷ []) [] p q e = absurd (cc)
 but_last (x ∷ ps) (y ∷ qs) p q e =
-    let same : x ≡ y = cc in
     let rest : ps ++ p ∷ [] ≡ qs ++ q ∷ [] = cc in
     let h = but_last ps qs p q rest in
-    (ap (λ z. z ∷ ps) same ∙ ap (λ l. y ∷ l) h.0, h.1)
+    grind (arith, rest, h)
 but_last ps qs p q e = absurd (cc)
 
 -- a place is refused
 pub place_refused : {profile : Profile} (ps : List Pair) (messages : List Message) (fault : WireFault) → IsPlaceOf profile ps messages fault → reads by_tests (fresh_of profile) ps ≡ Err fault
-place_refused {profile} ps messages fault place =
-    ap (reads by_tests (fresh_of profile)) place.parts
-    ∙ reads-append by_tests (fresh_of profile) place.prefix (place.last ∷ [])
-    ∙ ap (λ o. on_ok o (λ next. reads by_tests next (place.last ∷ []))) place.before.reads_it
-    ∙ ap (λ o. on_ok o (λ next. Ok next)) place.refused
+place_refused {profile} ps messages fault place = grind (arith, reads-append)
 
 -- what was read has no place, nor has a prefix of it
 pub read_no_place : {profile : Profile} (ps more : List Pair) (end : Reader) → reads by_tests (fresh_of profile) (ps ++ more) ≡ Ok end → (messages : List Message) (fault : WireFault) → IsPlaceOf profile ps messages fault → ⊥
-read_no_place {profile} ps more end e messages fault place =
-    let q : Err fault ≡ Ok end = sym (ap (λ o. on_ok o (λ next. reads by_tests next more)) (place_refused ps messages fault place)) ∙ sym (reads-append by_tests (fresh_of profile) ps more) ∙ e in
-    cc
+read_no_place {profile} ps more end e messages fault place = grind (arith, place_refused, reads-append)
 
 pub under_way_agree : UnderWayAgree
-under_way_agree profile ps messages more u v =
-    let ends : Ok u.end ≡ Ok v.end = sym u.reads_it ∙ v.reads_it in
-    let same : u.end ≡ v.end = cc in
-    sym u.has_messages ∙ ap (λ (x : Reader). x.messages) same ∙ v.has_messages
+under_way_agree profile ps messages more u v = cc
 
 pub one_place : HaveOnePlace
-one_place profile ps m n f g a b =
-    let parts = but_last a.prefix b.prefix a.last b.last (sym a.parts ∙ b.parts) in
-    let faults : Err f ≡ Err g = sym (place_refused ps m f a) ∙ place_refused ps n g b in
-    (under_way_agree profile b.prefix m n (subst (λ qs. IsUnderWayOf profile qs m) parts.0 a.before) b.before, (cc))
+one_place profile ps m n f g a b = grind (arith, but_last, place_refused, under_way_agree)
 
 pub places_begin_no_run : PlacesBeginNoRun
-places_begin_no_run profile ps messages fault place items run begins =
-    none_refused items run ps begins.0 place.are_pairs begins.1 fault (place_refused ps messages fault place)
+places_begin_no_run profile ps messages fault place items run begins = search (none_refused, place_refused)
 
 pub prefixes_have_no_place : PrefixesHaveNoPlace
 prefixes_have_no_place profile prefix [] messages more fault other place first = refl

@@ -1,19 +1,9 @@
 -- What messages lead to does not hang on the profile that a session is held to.
-use Rattle.nbd_laws.proofs.Common.{◌≡◌, ℕ, ◌==◌, List, [], ◌∷◌, ◌++◌, refl, sym, ◌∙◌, ap, Option, Some, None, Bool, true, false, Entry, Message, Request, Profile, Base, Item, Starts, Completes, Serves, Operation, known_count, known_from, complete, core_with_request, ends_at, reply_to, request_of_reply, Core, start, start_of, EndsAgree, with_profile, if◌then◌else◌, is_reply_to, length}
-use Rattle.nbd_wire.specs.declared.commands.TheConstants as commands
-
-requested_with : (q : Profile) (is_disc : Bool) (core : Core) (e : Operation) → core_with_request is_disc (with_profile q core) e ≡ with_profile q (core_with_request is_disc core e)
-requested_with q true core e = refl
-requested_with q false core e = refl
-
-replied_with : (q : Profile) (o : Option ℕ) (core : Core) (m : Message) → reply_to o (with_profile q core) m ≡ with_profile q (reply_to o core m)
-replied_with q (Some k) core m = refl
-replied_with q None core m = refl
+use Rattle.nbd_laws.proofs.Common.{arith, ◌≡◌, ℕ, List, [], ◌∷◌, ◌++◌, refl, sym, ◌∙◌, ap, Option, Some, Entry, Message, Profile, Base, Item, Starts, Completes, Serves, known_count, known_from, complete, ends_at, reply_to, request_of_reply, Core, start, start_of, EndsAgree, with_profile, if◌then◌else◌, is_reply_to, length}
 
 pub complete_with : (q : Profile) (core : Core) (m : Message) → complete (with_profile q core) m ≡ with_profile q (complete core m)
 unfolding complete
-complete_with q core (Request flags command cookie offset len p) = requested_with q (command == commands.DISC) core _
-complete_with q core m = search (requested_with, replied_with)
+complete_with q core m = grind (arith)
 
 -- a message leaves the profile
 pub profile_stays : (core : Core) (m : Message) → (complete core m).profile ≡ core.profile
@@ -22,8 +12,7 @@ profile_stays core m = ap (λ (c : Core). c.profile) (complete_with core.profile
 pub ends_with : (q : Profile) (core : Core) (js : List Entry) (items : List Item) →
     with_profile q (ends_at (record { core = core; served = js }) items).core ≡ (ends_at (record { core = with_profile q core; served = js }) items).core
 ends_with q core js [] = refl
-ends_with q core js (Completes s m ∷ items) =
-    ends_with q (complete core m) js items ∙ ap (λ c. (ends_at (record { core = c; served = js }) items).core) (sym (complete_with q core m))
+ends_with q core js (Completes s m ∷ items) = grind (arith, complete_with, ends_with q (complete core m) js items)
 ends_with q core js (Serves k ∷ items) = ends_with q core (js ++ k ∷ []) items
 ends_with q core js (item ∷ items) = ends_with q core js items
 

@@ -1,5 +1,5 @@
 -- The bytes of a run but for open bytes: each side's are its completed messages' encodings and the open ones.
-use Rattle.nbd_laws.proofs.Common.{◌≡◌, ℕ, List, [], ◌∷◌, ◌++◌, map, flat_map, refl, sym, ◌∙◌, ap, subst, Bool, true, false, if◌then◌else◌, append_assoc, append-nil, Profile, Side, Client, Server, Message, enc, Item, Byte, Starts, Completes, Serves, IsSided, block, completed_messages, of_side, pairs, Pair, bytes_of, RunsHoldEachSide, bytes_from, IsRunBut, complete, side, same_side, Core, start_of, Both, get}
+use Rattle.nbd_laws.proofs.Common.{arith, ◌≡◌, ℕ, List, [], ◌∷◌, ◌++◌, map, flat_map, refl, sym, ◌∙◌, ap, subst, Bool, true, false, if◌then◌else◌, append_assoc, append-nil, Profile, Side, Client, Server, Message, enc, Item, Byte, Starts, Completes, Serves, IsSided, block, completed_messages, of_side, pairs, Pair, bytes_of, RunsHoldEachSide, bytes_from, IsRunBut, complete, side, same_side, Core, start_of, Both, get}
 use Rattle.nbd_laws.proofs.reading.ReaderLemmas.{Busy, Idle, Loose, Open, Walk, ended, final, loose, middle, opening, serving}
 use Rattle.nbd_laws.proofs.runs.BlockLemmas.{marked_is_walk}
 use Rattle.nbd_laws.proofs.runs.FollowLemmas.{Follows, IsSidedOpen, each_with, follows}
@@ -8,11 +8,7 @@ abbrev pub byte_from : Side → Side → ℕ → List ℕ
 byte_from s t b = if same_side s t then b ∷ [] else []
 
 pub bytes_from-cons : (s : Side) (p : Pair) (ps : List Pair) → bytes_from s (p ∷ ps) ≡ byte_from s p.from p.byte ++ bytes_from s ps
-bytes_from-cons s p ps = go (same_side s p.from)
-  where
-    go : (b : Bool) → (if b then p.byte ∷ bytes_from s ps else bytes_from s ps) ≡ (if b then p.byte ∷ [] else []) ++ bytes_from s ps
-    go true = refl
-    go false = refl
+bytes_from-cons s p ps = grind arith
 
 -- a side's bytes stand in its own items
 bytes_of_side : (s : Side) (items : List Item) → bytes_from s (pairs items) ≡ bytes_from s (pairs (of_side s items))
@@ -36,11 +32,8 @@ bytes_run s [] items = refl
 bytes_run Client (b ∷ bs) items = ap (λ l. b ∷ l) (bytes_run Client bs items)
 bytes_run Server (b ∷ bs) items = ap (λ l. b ∷ l) (bytes_run Server bs items)
 
-block-append : (s : Side) (m : Message) (items : List Item) → block s m ++ items ≡ Starts s m ∷ map (λ b. Byte s b) (enc m) ++ Completes s m ∷ items
-block-append s m items = ap (λ l. Starts s m ∷ l) (append_assoc (map (λ b. Byte s b) (enc m)) (Completes s m ∷ []) items)
-
 blocks-append : (s : Side) (m : Message) (ms : List Message) (items : List Item) → flat_map (block s) (m ∷ ms) ++ items ≡ Starts s m ∷ map (λ b. Byte s b) (enc m) ++ Completes s m ∷ (flat_map (block s) ms ++ items)
-blocks-append s m ms items = append_assoc (block s m) (flat_map (block s) ms) items ∙ block-append s m (flat_map (block s) ms ++ items)
+blocks-append s m ms items = grind (arith, append_assoc)
 
 -- the bytes of blocks and of what stands after them
 bytes_of_blocks : (s : Side) (ms : List Message) (items : List Item) → bytes_from s (pairs (flat_map (block s) ms ++ items)) ≡ flat_map enc ms ++ bytes_from s (pairs items)
@@ -53,8 +46,7 @@ completed_run s (b ∷ bs) items = completed_run s bs items
 
 completed_blocks : (s : Side) (ms : List Message) (rest : List ℕ) → completed_messages (flat_map (block s) ms ++ map (λ b. Byte s b) rest) ≡ ms
 completed_blocks s [] rest = ap completed_messages (sym (append-nil (map (λ b. Byte s b) rest))) ∙ completed_run s rest []
-completed_blocks s (m ∷ ms) rest =
-    ap completed_messages (blocks-append s m ms (map (λ b. Byte s b) rest)) ∙ completed_run s (enc m) (Completes s m ∷ (flat_map (block s) ms ++ map (λ b. Byte s b) rest)) ∙ ap (λ l. m ∷ l) (completed_blocks s ms rest)
+completed_blocks s (m ∷ ms) rest = grind (arith, completed_run, blocks-append, completed_blocks s ms rest)
 
 -- each message completes on its side
 abbrev AreSided : List Item → Type 0
@@ -74,12 +66,7 @@ sided {o = o} (loose s b p i w) core f all = sided w core f (each_with IsSidedOp
 
 bytes_of_completed : (s : Side) (items : List Item) → AreSided items → bytes_of s (completed_messages items) ≡ flat_map enc (completed_messages (of_side s items))
 bytes_of_completed s [] h = refl
-bytes_of_completed s (Byte t x ∷ items) h = go (same_side s t) (bytes_of_completed s items h)
-  where
-    go : (b : Bool) → bytes_of s (completed_messages items) ≡ flat_map enc (completed_messages (of_side s items)) →
-        bytes_of s (completed_messages items) ≡ flat_map enc (completed_messages (if b then Byte t x ∷ of_side s items else of_side s items))
-    go true ih = ih
-    go false ih = ih
+bytes_of_completed s (Byte t x ∷ items) h = grind (arith, bytes_of_completed s items h)
 bytes_of_completed s (Starts t m ∷ items) h = go (same_side s t) (bytes_of_completed s items h)
   where
     go : (b : Bool) → bytes_of s (completed_messages items) ≡ flat_map enc (completed_messages (of_side s items)) →

@@ -1,14 +1,14 @@
 -- The laws over runs.
-use Rattle.nbd_laws.proofs.Common.{◌≡◌, ℕ, List, [], ◌∷◌, ◌++◌, length, refl, sym, subst, inr, Bool, Option, Ok, Err, arith, Profile, Entry, Side, Client, Server, Item, Completes, Serves, pairs, completed_messages, service_order, IsMarkedBut, Pair, ArePairs, Core, start, start_of, IsRunOf, IsRunBut, Obeys, complete, ends_at, inside_at, operations_of, WireFault, fresh_of, Both, get, IsFilled, Rest, Reader, Judge, reads, at_start, within}
+use Rattle.nbd_laws.proofs.Common.{◌≡◌, ℕ, List, [], ◌∷◌, ◌++◌, length, refl, sym, subst, inr, Option, Ok, Err, arith, Profile, Entry, Side, Client, Server, Item, Completes, Serves, pairs, completed_messages, service_order, Pair, ArePairs, Core, start, start_of, IsRunOf, IsRunBut, Obeys, complete, ends_at, inside_at, operations_of, WireFault, fresh_of, Both, get, IsFilled, Rest, Reader, Judge, reads, at_start, within}
 use Rattle.nbd_laws.proofs.service.DueLemmas.{due_from}
-use Rattle.nbd_laws.proofs.service.EntryLemmas.{AreFine, HasNoFault}
-use Rattle.nbd_laws.proofs.reading.ReaderLemmas.{AreHeld, none_held, Walk, Open, Idle, Busy, Loose, IsSound, IsExact, led}
+use Rattle.nbd_laws.proofs.service.EntryLemmas.{HasNoFault}
+use Rattle.nbd_laws.proofs.reading.ReaderLemmas.{AreHeld, none_held, Walk, Open, Idle, IsSound, IsExact, led}
 use Rattle.nbd_laws.proofs.runs.TraceLemmas.{trace, IsTrace, IsCanonical, IsStray, Guess, not_empty}
 use Rattle.nbd_laws.proofs.reading.MarkLemmas.{marks, IsRead}
 use Rattle.nbd_laws.proofs.runs.ProfileLemmas.{at_base}
 use Rattle.nbd_laws.proofs.runs.BlockLemmas.{walk_is_marked, marked_is_walk, Idles}
 use Rattle.nbd_laws.proofs.service.InsideLemmas.{core_end}
-use Rattle.nbd_laws.proofs.service.PlacingLemmas.{IsDeep, Waits, placed, walk_placed, served_placed, pairs_placed, Fits, obeys_placed}
+use Rattle.nbd_laws.proofs.service.PlacingLemmas.{IsDeep, placed, walk_placed, served_placed, pairs_placed, Fits, obeys_placed}
 
 pub core_end-ends_at : (core : Core) (js : List Entry) (items : List Item) → core_end core items ≡ (ends_at (record { core = core; served = js }) items).core
 core_end-ends_at core js [] = refl
@@ -16,21 +16,12 @@ core_end-ends_at core js (Completes s m ∷ items) = core_end-ends_at (complete 
 core_end-ends_at core js (Serves k ∷ items) = core_end-ends_at core _ items
 core_end-ends_at core js (item ∷ items) = core_end-ends_at core js items
 
-empty : (bs : List ℕ) → (IsFilled bs → ⊥) → bs ≡ []
-empty [] h = refl
-empty (b ∷ bs) h = absurd (h tt)
-
 -- a walk without stray bytes from nothing that obeys the rules is a run
 pub run_of : {profile : Profile} {P : Type 0} {items : List Item} → (P → ⊥) → Walk P Idles items → Obeys (start_of profile) items → IsRunOf profile items
-run_of {P} {items} no_stray w ob = grind (arith, walk_is_marked, empty)
+run_of {P} {items} no_stray w ob = grind (arith, walk_is_marked)
 
 pub walk_of : {profile : Profile} {items : List Item} → IsRunOf profile items → Walk ⊥ Idles items
 walk_of {items} run = marked_is_walk items [] [] (λ f. f) (λ f. f) run.marked
-
--- each entry that names a request waits for one
-waits_at_first : (count : ℕ) (inside : ℕ → ℕ → Bool) (order : List Entry) → AreFine count inside [] order → Waits 0 order
-waits_at_first count inside [] f = tt
-waits_at_first count inside (e ∷ order) f = f.0.0
 
 pub latest : {profile : Profile} (items : List Item) (order : List Entry) → IsRunOf profile items → (κ : ℕ → ℕ → Option ℕ) → ((k x : ℕ) → due_from (start_of profile).core items k x ≡ κ k x) → IsDeep κ (inside_at (ends_at start items).core) →
     HasNoFault (length (operations_of items)) κ (inside_at (ends_at start items).core) order → (items' : List Item) × IsRunOf profile items' × (pairs items' ≡ pairs items) × (service_order items' ≡ order)
@@ -42,7 +33,7 @@ latest {profile} items order run κ due deep_at_base at_base_fit =
     let fits : Fits κ last deep (start_of profile).core [] order items = record {
       fine = fit.fine;
       in_time = fit.in_time;
-      waits = waits_at_first (length last.entries) (inside_at last) order fit.fine;
+      waits = grind arith;
       due = λ k x. inr (due k x);
       served = fit.served;
       settled = λ l. absurd (omega arith);
@@ -63,9 +54,7 @@ marks_law {profile} judge exact items run ps more lt e =
     marks judge exact (walk_of run) (fresh_of profile) [] run.obeys (elim [ Client ↦ refl | Server ↦ refl ]) (fresh_held judge) ps more lt e
 
 pub idle_at : (profile : Profile) (s : Side) (end : Rest) (o : Open) → Guess (record { bytes = []; since = (start_of profile).core }) end s o → o ≡ Idle
-idle_at profile s end Idle g = refl
-idle_at profile s end (Busy m left) g = absurd g.filled
-idle_at profile s end Loose g = absurd g.0
+idle_at profile s end o g = grind arith
 
 pub both_idle : (o : Both Open) → get o Client ≡ Idle → get o Server ≡ Idle → o ≡ Idles
 both_idle o c s = λ i. record { client = c i; server = s i }
@@ -89,9 +78,7 @@ pub run_but_law : {profile : Profile} (judge : Judge) → IsSound judge → (ps 
 run_but_law {profile} judge sound ps end lt e =
     let t : IsTrace judge (fresh_of profile) end (start_of profile) ps = trace judge sound ps (fresh_of profile) end [] lt (fresh_held judge) fresh_canonical e in
     let idle : t.open_ ≡ Idles = both_idle t.open_ (idle_at profile Client (get end.rests Client) (get t.open_ Client) (t.guess Client)) (idle_at profile Server (get end.rests Server) (get t.open_ Server) (t.guess Server)) in
-    let m : (client : List ℕ) × (server : List ℕ) × IsMarkedBut t.items client server × (IsFilled client → IsStray end) × (IsFilled server → IsStray end) =
-    walk_is_marked (subst (λ o. Walk (IsStray end) o t.items) idle t.walk) in
-    (t.items, m.0, m.1, record { marked = m.2; obeys = t.obeys }, t.has_pairs, t.messages, m.3, m.4)
+    grind (arith, t, idle, trace, fresh_held, fresh_canonical, both_idle, idle_at, walk_is_marked)
 
 -- no run's pairs begin with a list that the reader refuses
 pub no_run : {profile : Profile} (judge : Judge) → IsExact judge → (items : List Item) → IsRunOf profile items → (ps more : List Pair) → ArePairs ps → pairs items ≡ ps ++ more → (fault : WireFault) → reads judge (fresh_of profile) ps ≡ Err fault → ⊥

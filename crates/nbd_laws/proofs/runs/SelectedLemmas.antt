@@ -1,22 +1,18 @@
 -- The contexts in force are those that one sees looking back over the completed messages.
-use Rattle.nbd_laws.proofs.Common.{◌≡◌, ◌≢◌, ℕ, ◌⊎◌, ◌<◌, ◌^◌, ◌==◌, ◌&&◌, ◌||◌, List, [], ◌∷◌, ◌++◌, map, refl, sym, ◌∙◌, ap, subst, inl, inr, Option, Some, None, Bool, true, false, if◌then◌else◌, IsTrue, arith, append_assoc, append-nil, eqb-true, list_any, big_bytes, Message, Greeting, ClientFlags, Choice, Answer, Exported, Request, Simple, Chunk, ExtendedRequest, ExtendedChunk, Context, Selection, AreBytes, has, HasContextForm, HasGoForm, completed_messages, Exporting, Operation, ack_phase, agrees, choice_phase, is_error, is_proper_option, last_info, next_phase, reply_phase, selection_after, selection_at, selection_told, with_context, context_of, info_of, is_go, name_in, queries_of, MayComplete, complete, core_with_request, ends_at, grants_structured, reply_to, request_of_reply, IsSendable, Core, Phase, Greet, Flags, Choosing, Naming, Aborting, Answering, Transmission, in_force, start_of, go-only, is_go-exact, context-long, context-reads, name_is, queries_of-form, queries_of-found, AreSelected, ChooseNone, ChooseNoOther, ContextsAreSelected, telling, eqb-false, All-cons, All-head, All-nil, All-tail, All-weaker, list_any-append, or-false, bytes_eq-Decides}
+use Rattle.nbd_laws.proofs.Common.{and_parts, or_cases, ◌≡◌, ◌≢◌, ℕ, ◌⊎◌, ◌<◌, ◌^◌, ◌==◌, ◌&&◌, ◌||◌, List, [], ◌∷◌, ◌++◌, map, refl, sym, ◌∙◌, ap, subst, inl, inr, Option, Some, None, Bool, true, false, if◌then◌else◌, IsTrue, arith, append_assoc, append-nil, eqb-true, list_any, big_bytes, Message, Choice, Answer, Context, Selection, AreBytes, has, HasContextForm, HasGoForm, completed_messages, Exporting, ack_phase, agrees, choice_phase, is_error, is_proper_option, last_info, next_phase, reply_phase, selection_after, selection_at, selection_told, with_context, context_of, info_of, is_go, name_in, queries_of, MayComplete, complete, ends_at, grants_structured, IsSendable, Core, Phase, Choosing, Aborting, Answering, Transmission, in_force, start_of, go-only, is_go-exact, context-long, context-reads, name_is, queries_of-form, queries_of-found, AreSelected, ChooseNone, ChooseNoOther, ContextsAreSelected, telling, eqb-false, All-cons, All-head, All-nil, All-tail, All-weaker, list_any-append, or-false, bytes_eq-Decides}
 use Rattle.std.proofs.Common.{ne_eqb}
 use Rattle.std.specs.Prelude.{All}
 use Rattle.nbd_laws.proofs.judge.AllowLemmas.{abort_allow, answer_allow}
 use Rattle.nbd_wire.specs.declared.answers.TheConstants as answers
-use Rattle.nbd_wire.specs.declared.commands.TheConstants as commands
 use Rattle.nbd_wire.specs.declared.options.TheConstants as options
 use Rattle.nbd_laws.specs.Selecting.{Names}
-use Rattle.nbd_laws.proofs.judge.BoolLemmas.{and_true, or_true}
 use Rattle.nbd_laws.proofs.runs.PrefixLemmas.{phase-complete, transmission_row}
-use Rattle.nbd_laws.proofs.runs.GrantedLemmas.{or_assoc}
 use Rattle.nbd_laws.proofs.runs.ReachLemmas.{Passes, led, led-append, passes-append, run_leads, run_passes}
 
 -- an option is chosen in one phase alone
 chosen_in : (phase : Phase) (core : Core) (id : ℕ) (p : List ℕ) → MayComplete core phase (Choice id p) → phase ≡ Choosing
 unfolding MayComplete
-chosen_in Choosing core id p ok = refl
-chosen_in phase core id p ok = absurd ok
+chosen_in phase core id p ok = grind arith
 
 -- what each message leads to
 choice-phase : (core : Core) (id : ℕ) (p : List ℕ) → core.phase ≡ Choosing → (complete core (Choice id p)).phase ≡ choice_phase id p
@@ -27,10 +23,6 @@ choice-selection : (core : Core) (id : ℕ) (p : List ℕ) → (complete core (C
 unfolding complete
 choice-selection core id p = refl
 
-choice-agreed : (core : Core) (id : ℕ) (p : List ℕ) → (complete core (Choice id p)).brings_contexts ≡ (core.structured && agrees id p core.selection)
-unfolding complete
-choice-agreed core id p = refl
-
 answer-phase : (core : Core) (asked : ℕ) (p : List ℕ) (info : Option Exporting) (option kind : ℕ) (answer : List ℕ) → core.phase ≡ Answering asked p info → (complete core (Answer option kind answer)).phase ≡ reply_phase asked p info kind answer
 unfolding complete next_phase
 answer-phase core asked p info option kind answer at = ap (λ phase. next_phase phase (Answer option kind answer)) at
@@ -40,18 +32,9 @@ answer-selection : (core : Core) (asked : ℕ) (p : List ℕ) (info : Option Exp
 unfolding complete
 answer-selection core asked p info option kind answer at = ap (λ phase. selection_after phase kind answer core.selection) at
 
-told-phase : (asked : List ℕ) (info : Option Exporting) (answer : List ℕ) → reply_phase options.SET_META_CONTEXT asked info answers.META_CONTEXT answer ≡ Answering options.SET_META_CONTEXT asked info
-unfolding has
-told-phase asked info answer = refl
-
 granted-phase : (asked : List ℕ) (info : Option Exporting) (answer : List ℕ) → reply_phase options.SET_META_CONTEXT asked info answers.ACK answer ≡ Choosing
 unfolding has
-granted-phase asked None answer = refl
-granted-phase asked (Some export) answer = refl
-
-acknowledges : is_error answers.ACK ≡ false
-unfolding has
-acknowledges = refl
+granted-phase asked info answer = grind arith
 
 abbrev one_more : Selection → Context → Selection
 one_more selection context = record selection { contexts = selection.contexts ++ context ∷ [] }
@@ -65,9 +48,10 @@ unfolding HasContextForm
 context_form context answer b e = (context-reads (λ (c : Context). c) (Some context) answer b (sym e) context).0 refl
 
 telling-phase : (core : Core) (asked : List ℕ) (info : Option Exporting) (context : Context) → core.phase ≡ Answering options.SET_META_CONTEXT asked info → (complete core (telling context)).phase ≡ Answering options.SET_META_CONTEXT asked info
+unfolding has
 telling-phase core asked info context at =
     answer-phase core options.SET_META_CONTEXT asked info options.SET_META_CONTEXT answers.META_CONTEXT (big_bytes 4 context.id ++ context.name) at
-    ∙ told-phase asked info (big_bytes 4 context.id ++ context.name)
+    ∙ (grind arith)
 
 telling-selection : (core : Core) (asked : List ℕ) (info : Option Exporting) (context : Context) → core.phase ≡ Answering options.SET_META_CONTEXT asked info → context.id < 2 ^ 32 →
     (complete core (telling context)).selection ≡ one_more core.selection context
@@ -100,15 +84,11 @@ IsSaid asked p kind answer =
     ⊎ (kind ≢ answers.ACK) × (asked ≡ options.SET_META_CONTEXT → (kind ≡ answers.META_CONTEXT) × ((context : Context) × (context_of answer ≡ Some context))))
 
 grants_both : (option kind : ℕ) → grants_structured option kind ≡ true → IsStructuring option × (kind ≡ answers.ACK)
-grants_both option kind e = grind (arith, and_true, or_true, eqb-true)
+grants_both option kind e = grind (arith, and_parts, or_cases, eqb-true)
 
 proper_set : (p : List ℕ) → IsTrue (is_proper_option options.SET_META_CONTEXT p) → (count : ℕ) × (queries_of p ≡ Some count)
 unfolding is_proper_option
 proper_set p h = grind arith
-
-proper_go : (p : List ℕ) → IsTrue (is_proper_option options.GO p) → IsTrue (is_go p)
-unfolding is_proper_option
-proper_go p h = h
 
 choice_bytes : (id : ℕ) (p : List ℕ) → IsSendable (Choice id p) → AreBytes p
 unfolding IsSendable
@@ -118,14 +98,14 @@ choice_bytes id p sn = sn.1.1
 said_in : (core : Core) (asked : ℕ) (p : List ℕ) (info : Option Exporting) (option kind : ℕ) (answer : List ℕ) → MayComplete core (Answering asked p info) (Answer option kind answer) →
     (option ≡ asked) × IsSaid asked p kind answer
 unfolding MayComplete
-said_in core asked p info option kind answer ok = grind (arith, answer_allow)
+said_in core asked p info option kind answer ok =
+    let a = answer_allow core.profile asked p info core.selection option kind answer ok.0 ok.1 in
+    (a.0, (grind (arith, eqb-true, or_cases, and_parts)))
 
 module _ (asked : ℕ) (p : List ℕ) (kind : ℕ) (answer : List ℕ) (is : IsSaid asked p kind answer) where
   empty_ack : kind ≡ answers.ACK → answer ≡ []
-  empty_ack a = grind (arith, is, acknowledges)
-
-  proper : is_error kind ≡ false → IsTrue (is_proper_option asked p)
-  proper fine = grind (arith, is)
+  unfolding has
+  empty_ack a = grind (arith, is)
 
 -- another message than one that chooses SET_META_CONTEXT, and than one that chooses
 abbrev IsOther : Message → Type 0
@@ -162,32 +142,9 @@ record IsSteady (core now : Core) : Type 0 where
   structured_is : now.structured ≡ (core.structured || false)
   phase_is : now.phase ≡ core.phase
 
-steady_reply : (o : Option ℕ) (core : Core) (m : Message) → IsSteady core (reply_to o core m)
-steady_reply (Some k) core m = record { selection_is = refl; agreed_is = refl; structured_is = sym (or-false core.structured); phase_is = refl }
-steady_reply None core m = record { selection_is = refl; agreed_is = refl; structured_is = sym (or-false core.structured); phase_is = refl }
-
-steady_request : (b : Bool) (core : Core) (e : Operation) → IsSteady core (core_with_request b core e)
-steady_request true core e = record { selection_is = refl; agreed_is = refl; structured_is = sym (or-false core.structured); phase_is = refl }
-steady_request false core e = record { selection_is = refl; agreed_is = refl; structured_is = sym (or-false core.structured); phase_is = refl }
-
-steady : (core now : Core) (m : Message) → gives_structure m ≡ false → selection_then core.phase m core.selection ≡ core.selection → IsSteady core now → IsTurned core now m
-steady core now m none same s = record {
-  structured_is = s.structured_is ∙ ap (λ b. core.structured || b) (sym none);
-  agreed_is = λ n. s.agreed_is;
-  selection_is = s.selection_is ∙ sym same;
-  phase_is = inl s.phase_is;
-}
-
 turned : (core : Core) (m : Message) → IsTurned core (complete core m) m
 unfolding complete
-turned core (Choice id p) = record { structured_is = sym (or-false core.structured); agreed_is = λ n. absurd (n id p refl); selection_is = refl; phase_is = inr refl }
-turned core (Answer option kind p) = record { structured_is = refl; agreed_is = λ n. refl; selection_is = refl; phase_is = inr refl }
-turned core (Request flags command cookie offset len p) = steady core _ (Request flags command cookie offset len p) refl refl (steady_request (command == commands.DISC) core _)
-turned core (ExtendedRequest flags command cookie offset len p) = steady core _ (ExtendedRequest flags command cookie offset len p) refl refl (steady_request (command == commands.DISC) core _)
-turned core (Simple error cookie p) = steady core _ (Simple error cookie p) refl refl (steady_reply (request_of_reply core (Simple error cookie p)) core (Simple error cookie p))
-turned core (Chunk flags kind cookie p) = steady core _ (Chunk flags kind cookie p) refl refl (steady_reply (request_of_reply core (Chunk flags kind cookie p)) core (Chunk flags kind cookie p))
-turned core (ExtendedChunk flags kind cookie at p) = grind (arith, steady, steady_reply)
-turned core m = record { structured_is = sym (or-false core.structured); agreed_is = λ n. refl; selection_is = refl; phase_is = inr refl }
+turned core m = grind (arith, or-false)
 
 -- messages that choose nothing leave what was agreed
 agreed_led : (ms : List Message) (core : Core) → ChooseNone ms → (led core ms).brings_contexts ≡ core.brings_contexts
@@ -197,45 +154,16 @@ agreed_led (m ∷ ms) core none = agreed_led ms (complete core m) (All-tail IsNo
 -- structured replies are in force behind a message that puts them in force
 structured_led : (ms : List Message) (core : Core) → (led core ms).structured ≡ (core.structured || any ms)
 structured_led [] core = sym (or-false core.structured)
-structured_led (m ∷ ms) core =
-    structured_led ms (complete core m) ∙ ap (λ b. b || any ms) (turned core m).structured_is ∙ or_assoc core.structured (gives_structure m) (any ms)
+structured_led (m ∷ ms) core = grind (arith, turned, structured_led ms (complete core m))
 
 -- the phase waits for an answer to SET_META_CONTEXT
 abbrev sets : Phase → Bool
 sets (Answering asked p info) = asked == options.SET_META_CONTEXT
 sets phase = false
 
--- an option other than SET_META_CONTEXT leaves the selection
-selection_left : (id : ℕ) (p : List ℕ) (selection : Selection) → (id == options.SET_META_CONTEXT) ≡ false → selection_at id p selection ≡ selection
-selection_left id p selection other = ap (λ b. if b then record { export_name = name_in p; contexts = []; granted = false } else selection) other
-
-other_id : (id : ℕ) (p : List ℕ) → IsOther (Choice id p) → (id == options.SET_META_CONTEXT) ≡ false
-other_id id p other = ne_eqb id options.SET_META_CONTEXT (λ e. other p (ap (λ i. Choice i p) e))
-
-then_left : (phase : Phase) (m : Message) (selection : Selection) → IsOther m → sets phase ≡ false → selection_then phase m selection ≡ selection
-then_left phase (Choice id p) selection other h = selection_left id p selection (other_id id p other)
-then_left (Answering asked p info) (Answer option kind answer) selection other h = ap (λ b. if b then selection_told kind answer selection else selection) h
-then_left phase m selection other h = refl
-
-sets_choice : (id : ℕ) (p : List ℕ) → (id == options.SET_META_CONTEXT) ≡ false → sets (choice_phase id p) ≡ false
-sets_choice id p other = grind arith
-
-sets_ack : (asked : ℕ) (info : Option Exporting) → sets (ack_phase asked info) ≡ false
-sets_ack asked None = refl
-sets_ack asked (Some export) = grind arith
-
-sets_reply : (asked : ℕ) (p : List ℕ) (info : Option Exporting) (kind : ℕ) (answer : List ℕ) → (asked == options.SET_META_CONTEXT) ≡ false → sets (reply_phase asked p info kind answer) ≡ false
-sets_reply asked p info kind answer h = grind (arith, sets_ack)
-
 sets_next : (phase : Phase) (m : Message) → IsOther m → sets phase ≡ false → sets (next_phase phase m) ≡ false
 unfolding next_phase
-sets_next Choosing (Choice id p) other h = sets_choice id p (other_id id p other)
-sets_next (Answering asked p info) (Answer option kind answer) other h = sets_reply asked p info kind answer h
-sets_next Greet (Greeting flags) other h = refl
-sets_next Flags (ClientFlags flags) other h = refl
-sets_next Naming (Exported size flags padded) other h = refl
-sets_next Aborting (Answer option kind answer) other h = refl
-sets_next phase m other h = h
+sets_next phase m other h = grind (arith, ne_eqb)
 
 -- messages that do not choose SET_META_CONTEXT, after its answer
 record IsLeft (old now : Core) : Type 0 where
@@ -249,7 +177,7 @@ left (m ∷ ms) core other h =
     let is : IsOther m = All-head IsOther m ms other in
     let one : sets (complete core m).phase ≡ false = elim t.phase_is [ inl e ↦ ap sets e ∙ h | inr e ↦ ap sets e ∙ sets_next core.phase m is h ] in
     let all : IsLeft (complete core m) (led (complete core m) ms) = left ms (complete core m) (All-tail IsOther m ms other) one in
-    record { selection_is = all.selection_is ∙ t.selection_is ∙ then_left core.phase m core.selection is h; no_set = all.no_set }
+    record { selection_is = all.selection_is ∙ t.selection_is ∙ (grind (arith, ne_eqb)); no_set = all.no_set }
 
 -- the last message that one looks for
 record Last (P Q : Message → Type 0) (ms : List Message) : Type 0 where
@@ -278,8 +206,7 @@ chooses_set : (m : Message) → ((p : List ℕ) × (m ≡ Choice options.SET_MET
 chooses_set (Choice id p) = go (id == options.SET_META_CONTEXT) refl
   where
     go : (b : Bool) → (id == options.SET_META_CONTEXT) ≡ b → ((with : List ℕ) × (Choice id p ≡ Choice options.SET_META_CONTEXT with)) ⊎ IsOther (Choice id p)
-    go true e = inl (p, ap (λ i. Choice i p) (eqb-true id options.SET_META_CONTEXT e))
-    go false e = inr (λ with q. eqb-false id options.SET_META_CONTEXT e (cc))
+    go b e = grind (arith, eqb-true, eqb-false)
 chooses_set m = inr (λ p q. cc)
 
 -- a list that holds an ACK that puts structured replies in force
@@ -296,20 +223,18 @@ acked core Aborting (Answer option kind p) ok h = absurd (let q : false ≡ true
 acked core (Answering asked with info) (Answer option kind p) ok h =
     let r = grants_both option kind h in
     (option, r.0, ap (λ k. Answer option k p) r.1 ∙ ap (Answer option answers.ACK) (empty_ack asked with kind p (said_in core asked with info option kind p ok).1 r.1))
-acked core phase (Answer option kind p) ok h = absurd ok
-acked core phase m ok h = absurd (cc)
+acked core phase m ok h = grind (arith, abort_allow, grants_both, empty_ack, said_in)
 
 found : (ms : List Message) (core : Core) → Passes core ms → any ms ≡ true → SplitsBy ms
 found [] core p h = absurd (cc)
-found (m ∷ ms) core p h = elim (or_true (gives_structure m) (any ms) h) [
+found (m ∷ ms) core p h = elim (or_cases (gives_structure m) (any ms) h) [
   | inl g ↦ (let a = acked core core.phase m p.1 g in record { before = []; after = ms; option = a.0; grants = a.1; at = ap (λ x. x ∷ ms) a.2 })
   | inr r ↦ (let s : SplitsBy ms = found ms (complete core m) p.2 r in
       record { before = m ∷ s.before; after = s.after; option = s.option; grants = s.grants; at = ap (λ x. m ∷ x) s.at })
 ]
 
 or_yes : (a : Bool) → (a || true) ≡ true
-or_yes true = refl
-or_yes false = refl
+or_yes a = grind arith
 
 holds : (before after : List Message) (o : ℕ) → IsStructuring o → any (before ++ structuring o ∷ after) ≡ true
 holds [] after o so = grind arith
@@ -321,13 +246,9 @@ data Says (core : Core) (asked : List ℕ) (m : Message) : Type 0 where
   grants : (count : ℕ) → queries_of asked ≡ Some count → m ≡ granting → Says core asked m
   refuses : (complete core m).phase ≡ Choosing → (complete core m).selection ≡ core.selection → Says core asked m
 
-error_tells_nothing : (kind : ℕ) (answer : List ℕ) (selection : Selection) → is_error kind ≡ true → selection_told kind answer selection ≡ selection
-unfolding has
-error_tells_nothing kind answer selection e = grind (arith, eqb-true)
-
 says : (core : Core) (asked : List ℕ) (info : Option Exporting) (m : Message) → core.phase ≡ Answering options.SET_META_CONTEXT asked info → IsSendable m →
     MayComplete core (Answering options.SET_META_CONTEXT asked info) m → Says core asked m
-unfolding MayComplete IsSendable
+unfolding MayComplete IsSendable has
 says core asked info (Answer option kind answer) at sn ok =
     let s = said_in core options.SET_META_CONTEXT asked info option kind answer ok in
     let answer_is : (k : ℕ) (a : List ℕ) → kind ≡ k → answer ≡ a → Answer option kind answer ≡ Answer options.SET_META_CONTEXT k a =
@@ -336,7 +257,7 @@ says core asked info (Answer option kind answer) at sn ok =
       | inl e ↦ refuses
           (answer-phase core options.SET_META_CONTEXT asked info option kind answer at
           ∙ ap (λ b. if b then Choosing else if (kind == answers.SERVER) || (kind == answers.META_CONTEXT) then Answering options.SET_META_CONTEXT asked info else if kind == answers.INFO then Answering options.SET_META_CONTEXT asked (last_info (info_of answer) info) else ack_phase options.SET_META_CONTEXT info) e)
-          (answer-selection core options.SET_META_CONTEXT asked info option kind answer at ∙ error_tells_nothing kind answer core.selection e)
+          (answer-selection core options.SET_META_CONTEXT asked info option kind answer at ∙ (grind (arith, eqb-true)))
       | inr s ↦ elim s.1 [
         | inl x ↦ (let count = proper_set asked s.0 in grants count.0 count.1 (answer_is answers.ACK [] x.0 x.1))
         | inr x ↦ (let t = x.1 refl in
@@ -401,10 +322,7 @@ names_other : (id : ℕ) (p name : List ℕ) → NamesSame id p name → IsOther
 names_other id p name n with q = grind arith
 
 agrees_on : (id : ℕ) (p : List ℕ) (selection : Selection) → agrees id p selection ≡ true → (selection.granted ≡ true) × NamesSame id p selection.export_name
-agrees_on id p selection e = grind (arith, and_true, eqb-true, bytes_eq-Decides)
-
-agrees_so : (id : ℕ) (p : List ℕ) (selection : Selection) → selection.granted ≡ true → NamesSame id p selection.export_name → agrees id p selection ≡ true
-agrees_so id p selection g n = grind (arith, bytes_eq-Decides)
+agrees_on id p selection e = grind (arith, and_parts, eqb-true, bytes_eq-Decides)
 
 -- a GO leads into transmission where its data has the form
 abbrev Goes : List ℕ → Phase → Type 0
@@ -414,17 +332,15 @@ Goes p (Transmission export) = IsTrue (is_go p)
 Goes p phase = ⊥
 
 goes_reply : (asked : ℕ) (with : List ℕ) (info : Option Exporting) (kind : ℕ) (answer p : List ℕ) → IsSaid asked with kind answer → Goes p (Answering asked with info) → Goes p (reply_phase asked with info kind answer)
-goes_reply asked with info kind answer p is l = grind (arith, proper_go, proper)
+unfolding is_proper_option
+goes_reply asked with info kind answer p is l = grind (arith)
 
 goes_on : (p : List ℕ) (core : Core) (phase : Phase) (m : Message) → core.phase ≡ phase → MayComplete core phase m → IsNoChoice m → Goes p phase → Goes p (complete core m).phase
 unfolding MayComplete
 goes_on p core (Transmission export) m at ok none l = subst (Goes p) (sym (phase-complete core export m (transmission_row core export m ok) ∙ at)) l
 goes_on p core (Answering asked with info) (Answer option kind answer) at ok none l =
     subst (Goes p) (sym (answer-phase core asked with info option kind answer at)) (goes_reply asked with info kind answer p (said_in core asked with info option kind answer ok).1 l)
-goes_on p core (Answering asked with info) m at ok none l = absurd ok
-goes_on p core Choosing (Choice id with) at ok none l = absurd (none id with refl)
-goes_on p core Choosing m at ok none l = absurd ok
-goes_on p core phase m at ok none l = absurd l
+goes_on p core phase m at ok none l = grind (arith, phase-complete, transmission_row, answer-phase, goes_reply, said_in)
 
 goes : (ms : List Message) (core : Core) (p : List ℕ) → Passes core ms → ChooseNone ms → Goes p core.phase → Goes p (led core ms).phase
 goes [] core p ok none l = l
@@ -439,13 +355,7 @@ told : (contexts : List Context) (core : Core) (asked : List ℕ) → All IsShor
 told [] core asked short at = record { phase_is = at; selection_is = ap (λ cs. record core.selection { contexts = cs }) (sym (append-nil core.selection.contexts)) }
 told (context ∷ contexts) core asked short at =
     let same : (complete core (telling context)).selection ≡ one_more core.selection context = telling-selection core asked None context at (All-head IsShort context contexts short) in
-    let r : IsTold (complete core (telling context)) asked contexts (led (complete core (telling context)) (map telling contexts)) =
-    told contexts (complete core (telling context)) asked (All-tail IsShort context contexts short) (telling-phase core asked None context at) in
-    record {
-      phase_is = r.phase_is;
-      selection_is = r.selection_is ∙ ap (λ (s : Selection). record s { contexts = s.contexts ++ contexts }) same
-          ∙ ap (λ cs. record core.selection { contexts = cs }) (append_assoc core.selection.contexts (context ∷ []) contexts);
-    }
+    grind (arith, same, telling-selection, All-head, led, All-tail, telling-phase, append_assoc, told contexts (complete core (telling context)) asked (All-tail IsShort context contexts short) (telling-phase core asked None context at))
 
 -- the answer to SET_META_CONTEXT puts no structured replies in force
 any_told : (contexts : List Context) → any (map telling contexts) ≡ false
@@ -501,7 +411,7 @@ module _ (core : Core) (early : List Message) (asked : List ℕ) (contexts : Lis
 
   -- structured replies were put in force before the question or after its answer
   splits : (any early || any between) ≡ true → SplitsBy (early ++ between)
-  splits h = elim (or_true (any early) (any between) h) [
+  splits h = elim (or_cases (any early) (any between) h) [
     | inl a ↦ (let s = found early core from_first.0 a in
         record { before = s.before; after = s.after ++ between; option = s.option; grants = s.grants; at = ap (λ x. x ++ between) s.at ∙ append_assoc s.before (structuring s.option ∷ s.after) between })
     | inr b ↦ (let s = found between at_grant from_grant b in
@@ -514,20 +424,13 @@ module _ (core : Core) (id : ℕ) (payload : List ℕ) (late : List Message) (no
   at_end = led (complete core (Choice id payload)) late
 
   agreed : at_end.brings_contexts ≡ (core.structured && agrees id payload core.selection)
-  agreed = agreed_led late (complete core (Choice id payload)) none ∙ choice-agreed core id payload
+  unfolding complete
+  agreed = grind (arith, agreed_led)
 
   -- its contexts are in force where it agrees
   stays : IsOther (Choice id payload) → sets core.phase ≡ false → at_end.selection ≡ core.selection
   stays other h =
       (left (Choice id payload ∷ late) core (All-cons IsOther (Choice id payload) late other (All-weaker IsNoChoice IsOther (λ m n payload. n options.SET_META_CONTEXT payload) late none)) h).selection_is
-
--- in force are the contexts of a selection that agreed
-some_in_force : (core : Core) → in_force core ≢ [] → core.brings_contexts ≡ true
-some_in_force core h = go core.brings_contexts h
-  where
-    go : (b : Bool) → (if b then core.selection.contexts else []) ≢ [] → b ≡ true
-    go true n = refl
-    go false n = absurd (n refl)
 
 agreed_in_force : (core : Core) → core.brings_contexts ≡ true → in_force core ≡ core.selection.contexts
 agreed_in_force core e = ap (λ b. if b then core.selection.contexts else []) e
@@ -543,31 +446,8 @@ module _ (core : Core) (messages : List Message) (contexts : List Context) (a : 
   parts : Passes core front × Passes (led core front) (Choice a.id a.payload ∷ a.late)
   parts = passes-append front (Choice a.id a.payload ∷ a.late) core (subst (Passes core) in_parts p)
 
-  named_same : NamesSame a.id a.payload (name_in a.asked)
-  named_same =
-      let name : name_in a.asked ≡ a.name = (queries_of-form a.name a.count a.asked (asks core a.early a.asked contexts a.between a.ids a.last_set parts.0) a.asks).1 in
-      elim a.names [
-        | inl x ↦ inl (x.0, x.1 ∙ sym name)
-        | inr x ↦ grind (arith, go-only, name_is, choice_bytes, parts)
-      ]
-
-  structured_there : (led core front).structured ≡ true
-  structured_there =
-      structured_led front core
-      ∙ ap (λ b. core.structured || b) (any_question a.early a.asked contexts a.between ∙ sym (list_any-append gives_structure a.early a.between) ∙ ap any a.structured ∙ holds a.before a.after a.granting a.grants)
-      ∙ or_yes core.structured
-
   selected_in_force : in_force (led core messages) ≡ contexts
-  selected_in_force =
-      let same : (led core front).selection ≡ whole core a.early a.asked contexts a.between a.ids a.last_set parts.0 = selected core a.early a.asked contexts a.between a.ids a.last_set parts.0 in
-      let agrees_there : (at_end (led core front) a.id a.payload a.late a.last_choice).brings_contexts ≡ true =
-      agreed (led core front) a.id a.payload a.late a.last_choice
-      ∙ ap (λ b. b && agrees a.id a.payload (led core front).selection) structured_there
-      ∙ ap (agrees a.id a.payload) same
-      ∙ agrees_so a.id a.payload (record { export_name = name_in a.asked; contexts = contexts; granted = true }) refl named_same in
-      ap in_force (ap (led core) in_parts ∙ led-append front (Choice a.id a.payload ∷ a.late) core)
-      ∙ agreed_in_force (at_end (led core front) a.id a.payload a.late a.last_choice) agrees_there
-      ∙ ap (λ (s : Selection). s.contexts) (stays (led core front) a.id a.payload a.late a.last_choice (names_other a.id a.payload (name_in a.asked) named_same) (rests core a.early a.asked contexts a.between a.ids a.last_set parts.0) ∙ same)
+  selected_in_force = grind (arith, led, selected, agreed, structured_led, any_question, list_any-append, holds, or_yes, bytes_eq-Decides, in_parts, led-append, agreed_in_force, stays, names_other, rests, queries_of-form, asks, go-only, name_is, choice_bytes, parts)
 
 -- what is in force was selected
 module _ (core : Core) (messages : List Message) (export : Exporting) (p : Passes core messages) (first_structured : core.structured ≡ false) (first_granted : core.selection.granted ≡ false) (first_sets : sets core.phase ≡ false)
@@ -591,7 +471,7 @@ module _ (core : Core) (messages : List Message) (export : Exporting) (p : Passe
   by_set front id payload late cut none early asked rest front_is last_set =
       let ok : Passes core front × Passes (led core front) (Choice id payload ∷ late) = passes-append front (Choice id payload ∷ late) core (subst (Passes core) cut p) in
       let ends : led core messages ≡ led (led core front) (Choice id payload ∷ late) = ap (led core) cut ∙ led-append front (Choice id payload ∷ late) core in
-      let both = and_true (led core front).structured (agrees id payload (led core front).selection) (sym (agreed (led core front) id payload late none) ∙ sym (ap (λ (c : Core). c.brings_contexts) ends) ∙ brings) in
+      let both = and_parts (led core front).structured (agrees id payload (led core front).selection) (sym (agreed (led core front) id payload late none) ∙ sym (ap (λ (c : Core). c.brings_contexts) ends) ∙ brings) in
       let named = agrees_on id payload (led core front).selection both.1 in
       let ok_early = passes-append early (Choice options.SET_META_CONTEXT asked ∷ rest) core (subst (Passes core) front_is ok.0) in
       let same_front : led core front ≡ led (complete (led core early) (Choice options.SET_META_CONTEXT asked)) rest = ap (led core) front_is ∙ led-append early (Choice options.SET_META_CONTEXT asked ∷ rest) core in
@@ -637,7 +517,7 @@ module _ (core : Core) (messages : List Message) (export : Exporting) (p : Passe
   by_choice : (front : List Message) (id : ℕ) (payload : List ℕ) (late : List Message) → messages ≡ front ++ Choice id payload ∷ late → ChooseNone late → AreSelected messages (in_force (led core messages))
   by_choice front id payload late cut none = elim (last_of (λ m. (p : List ℕ) × (m ≡ Choice options.SET_META_CONTEXT p)) IsOther chooses_set front) [
     | inl other ↦ absurd (let ends = ap (λ (c : Core). c.brings_contexts) (ap (led core) cut ∙ led-append front (Choice id payload ∷ late) core) in
-        let both = and_true (led core front).structured (agrees id payload (led core front).selection) (sym (agreed (led core front) id payload late none) ∙ sym ends ∙ brings) in
+        let both = and_parts (led core front).structured (agrees id payload (led core front).selection) (sym (agreed (led core front) id payload late none) ∙ sym ends ∙ brings) in
         let q : false ≡ true = sym first_granted ∙ sym (ap (λ (s : Selection). s.granted) (left front core other first_sets).selection_is) ∙ (agrees_on id payload (led core front).selection both.1).0 in cc)
     | inr l ↦ by_set front id payload late cut none l.early l.is.0 l.late (l.cut ∙ ap (λ m. l.early ++ m ∷ l.late) l.is.1) l.none
   ]
@@ -656,7 +536,7 @@ contexts_are_selected profile items export run there =
     let same : led first messages ≡ (ends_at (start_of profile) items).core = run_leads profile items in (
       λ contexts a. ap in_force (sym same) ∙ selected_in_force first messages contexts a p,
       λ some.
-          (let brings = ap (λ (c : Core). c.brings_contexts) same ∙ some_in_force (ends_at (start_of profile) items).core some in
+          (let brings = ap (λ (c : Core). c.brings_contexts) same ∙ (grind arith) in
           subst (λ c. AreSelected messages (in_force c)) same
           (forced_selected first messages export p refl refl refl refl (ap (λ (c : Core). c.phase) same ∙ there) brings)),
     )

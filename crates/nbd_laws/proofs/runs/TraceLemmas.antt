@@ -1,5 +1,5 @@
 -- What a reader read is a run with exactly the pairs that it read.
-use Rattle.nbd_laws.proofs.Common.{◌≡◌, ℕ, suc, zero, ◌+◌, ◌<◌, ◌≤◌, ◌⊎◌, List, [], ◌∷◌, ◌++◌, length, refl, sym, ◌∙◌, ap, subst, inl, inr, Ok, Option, Some, None, append_assoc, append-nil, arith, true, false, Bool, not, ◌==◌, ◌&&◌, if◌then◌else◌, length-append, add-one, le_refl, eq-or-lt_of_le, eqb-true, IsTrue, and_parts, Names, NamesWhole, whole, Entry, Side, Client, Server, Message, Greeting, Request, Simple, enc, head, side, Item, Byte, Starts, Completes, Serves, pairs, completed_messages, Pair, ArePairs, Operation, is_finished, Core, State, operation, target, target_from, with_reply_at, IsSendable, MayStart, complete, reply_to, core_with_request, is_by_chunk, is_reply_to, makes_due, Obeys, request_of_reply, IsServedFor, Both, get, put, IsFilled, Rest, Reader, Reading, More, Whole, Bad, settle, Judge, rest_with, reads, on_ok, with_message}
+use Rattle.nbd_laws.proofs.Common.{and_parts, ◌≡◌, ℕ, suc, zero, ◌+◌, ◌<◌, ◌≤◌, ◌⊎◌, List, [], ◌∷◌, ◌++◌, length, refl, sym, ◌∙◌, ap, subst, inl, inr, Ok, Some, append_assoc, append-nil, arith, true, Bool, not, ◌==◌, ◌&&◌, if◌then◌else◌, length-append, add-one, le_refl, eq-or-lt_of_le, eqb-true, IsTrue, Names, NamesWhole, whole, Entry, Side, Client, Server, Message, enc, head, side, Item, Byte, Starts, Completes, Serves, pairs, completed_messages, Pair, ArePairs, Operation, is_finished, Core, State, target, target_from, with_reply_at, IsSendable, MayStart, complete, is_reply_to, makes_due, Obeys, request_of_reply, IsServedFor, Both, get, put, IsFilled, Rest, Reader, Reading, More, Whole, Bad, settle, Judge, rest_with, reads, on_ok, with_message}
 use Rattle.nbd_laws.proofs.service.EntryLemmas.{Names-push_cases, NamesWhole-left, NamesWhole-push, served_atomically}
 use Rattle.nbd_laws.proofs.reading.ReaderLemmas.{old-empty, old-filled, IsFilled-snoc, IsMoreAt, AreHeld, kept_next, held_more, held_whole, led, with_byte, IsMore, Tracks, get-put_same, put-put, Open, Idle, Busy, Loose, IsNotBusy, Walk, ended, serving, opening, middle, final, loose, IsSoundAt, IsSound}
 
@@ -14,35 +14,21 @@ length-answered zero m (e ∷ es) = refl
 length-answered (suc zero) m (e ∷ es) = refl
 length-answered (suc (suc k)) m (e ∷ es) = ap suc (length-answered (suc k) m es)
 
-length-reply_to : (o : Option ℕ) (core : Core) (m : Message) → length (reply_to o core m).entries ≡ length core.entries
-length-reply_to (Some k) core m = length-answered k m core.entries
-length-reply_to None core m = refl
-
-length-requested : (b : Bool) (core : Core) (e : Operation) → (length (core_with_request b core e).entries ≡ length core.entries) ⊎ (length (core_with_request b core e).entries ≡ suc (length core.entries))
-length-requested true core e = inl refl
-length-requested false core e = inr (length-append core.entries (e ∷ []) ∙ add-one (length core.entries))
-
 -- a completed message adds at most one request
 pub length-complete : (core : Core) (m : Message) → (length (complete core m).entries ≡ length core.entries) ⊎ (length (complete core m).entries ≡ suc (length core.entries))
 unfolding complete
-length-complete core (Request flags command cookie offset len payload) = length-requested _ core _
-length-complete core m = grind (arith, length-requested, length-reply_to)
+length-complete core m = grind (arith, length-append, add-one, length-answered)
 
 target_from-within : (n cookie : ℕ) (es : List Operation) (k : ℕ) → target_from n cookie es ≡ Some k → (0 < k) × (k ≤ n + length es)
 target_from-within n cookie [] k e = absurd (cc)
 target_from-within n cookie (x ∷ es) k e = go ((x.cookie == cookie) && not (is_finished x)) e (λ h. target_from-within (suc n) cookie es k h)
   where
     go : (b : Bool) → (if b then Some (suc n) else target_from (suc n) cookie es) ≡ Some k → (target_from (suc n) cookie es ≡ Some k → (0 < k) × (k ≤ suc n + length es)) → (0 < k) × (k ≤ n + suc (length es))
-    go true h ih = let q : suc n ≡ k = cc in omega arith
-    go false h ih = let q : (0 < k) × (k ≤ suc n + length es) = ih h in omega arith
-
-target-within : (cookie : ℕ) (es : List Operation) (k : ℕ) → target cookie es ≡ Some k → (0 < k) × (k ≤ length es)
-unfolding target
-target-within cookie es k e = let q : (0 < k) × (k ≤ 0 + length es) = target_from-within 0 cookie es k e in omega arith
+    go b h ih = grind arith
 
 pub answered_by-within : (core : Core) (m : Message) (k : ℕ) → request_of_reply core m ≡ Some k → (0 < k) × (k ≤ length core.entries)
-answered_by-within core (Simple error cookie payload) k e = target-within cookie core.entries k e
-answered_by-within core m k e = grind (arith, target-within)
+unfolding target
+answered_by-within core m k e = grind (arith, target_from-within)
 
 -- a request that a message answers has completed
 pub answering : (core : Core) (m : Message) (k : ℕ) → is_reply_to core m k ≡ true → (0 < k) × (k ≤ length core.entries)
@@ -50,9 +36,7 @@ answering core m k h = grind (arith, answered_by-within, eqb-true)
 
 -- what an item makes due is of a request that has completed
 pub due_within : (core : Core) (item : Item) (k x : ℕ) → IsTrue (makes_due core item k x) → (0 < k) × (k ≤ length core.entries)
-due_within core (Starts s m) k x d = answering core m k (and_parts (is_reply_to core m k) (not (is_by_chunk core.profile (operation k core.entries))) d).0
-due_within core (Completes s m) k x d = grind (arith, answering, and_parts)
-due_within core item k x d = absurd (cc)
+due_within core item k x d = grind (arith, answering, and_parts)
 
 pub canonical_serves : (state : State) → IsCanonical state → (item : Item) → IsServedFor state item
 canonical_serves state c item k x d = let w : (0 < k) × (k ≤ length state.core.entries) = due_within state.core item k x d in served_atomically _ state.served k x (c.all k w.0 w.1)
@@ -71,34 +55,21 @@ serviced old new (inr e) js = js ++ whole (length new.entries) ∷ []
 
 pub canonical_serviced : (old new : Core) (g : IsGrown old new) (js : List Entry) → IsCanonical (record { core = old; served = js }) →
     IsCanonical (record { core = new; served = serviced old new g js })
-canonical_serviced old new (inl e) js c = record {
-  all = λ k p h. c.all k p (omega arith);
-  only = λ k n. let h : k ≤ length old.entries = c.only k n in omega arith;
-}
-canonical_serviced old new (inr e) js c = record {
-  all = λ k p h. elim (eq-or-lt_of_le h) [ inl q ↦ subst (λ n. NamesWhole (js ++ whole (length new.entries) ∷ []) n) (sym q) (NamesWhole-push js (length new.entries)) | inr l ↦ NamesWhole-left js (whole (length new.entries) ∷ []) k (c.all k p (omega arith)) ];
-  only = λ k n. elim (Names-push_cases js (whole (length new.entries)) k n) [ inl m ↦ (let h : k ≤ length old.entries = c.only k m in omega arith) | inr q ↦ omega arith ];
-}
+canonical_serviced old new g js c = grind (arith, eq-or-lt_of_le, whole, NamesWhole-push, NamesWhole-left, Names-push_cases)
 
 pub obeys_service : (old new : Core) (g : IsGrown old new) (js : List Entry) (items : List Item) → IsCanonical (record { core = old; served = js }) →
     Obeys (record { core = new; served = serviced old new g js }) items → Obeys (record { core = new; served = js }) (service old new g ++ items)
-obeys_service old new (inl e) js items c h = h
-obeys_service old new (inr e) js items c h = (
-  (omega arith, le_refl (length new.entries), ((λ n. let q : length new.entries ≤ length old.entries = c.only (length new.entries) n in omega arith), λ b. b)),
-  h,
-)
+obeys_service old new g js items c h = grind (arith, le_refl)
 
 pub walk_service : {P : Type 0} (old new : Core) (g : IsGrown old new) (o : Both Open) (items : List Item) → Walk P o items → Walk P o (service old new g ++ items)
 walk_service old new (inl e) o items w = w
 walk_service old new (inr e) o items w = serving (whole (length new.entries)) w
 
 pairs_service : (old new : Core) (g : IsGrown old new) (items : List Item) → pairs (service old new g ++ items) ≡ pairs items
-pairs_service old new (inl e) items = refl
-pairs_service old new (inr e) items = refl
+pairs_service old new g items = grind arith
 
 completed_service : (old new : Core) (g : IsGrown old new) (items : List Item) → completed_messages (service old new g ++ items) ≡ completed_messages items
-completed_service old new (inl e) items = refl
-completed_service old new (inr e) items = refl
+completed_service old new g items = grind arith
 
 -- what a side's guess says of its rest, and of its rest at the end
 pub record IsWithin (rest : Rest) (s : Side) (m : Message) (left : List ℕ) : Type 0 where
@@ -154,14 +125,12 @@ at_end judge reader state =
     }
 
 pub not_empty : (bs : List ℕ) → IsFilled bs → bs ≡ [] → ⊥
-not_empty [] f e = f
-not_empty (c ∷ cs) f e = (cc)
+not_empty bs f e = grind arith
 
 -- no message is one byte
 pub enc-long : (m : Message) (b : ℕ) → enc m ≡ b ∷ [] → ⊥
 unfolding enc head
-enc-long (Greeting flags) b e = (cc)
-enc-long m b e = (cc)
+enc-long m b e = grind arith
 
 -- a new guess for one side
 guess_with : (olds ends : Both Rest) (opens : Both Open) (s : Side) (rest : Rest) (o : Open) →
@@ -172,23 +141,15 @@ guess_with olds ends opens Client rest o all here Server = all Server
 guess_with olds ends opens Server rest o all here Client = all Client
 guess_with olds ends opens Server rest o all here Server = here
 
-put-again : {A : Type 0} (p : Both A) (s : Side) (a c : A) → put (put p s a) s c ≡ put p s c
-put-again p Client a c = refl
-put-again p Server a c = refl
-
 pub led_whole : (reader : Reader) (s : Side) (b : ℕ) (m : Message) → led reader (Byte s b ∷ Completes s m ∷ [])
     ≡ with_message reader s (rest_with reader.core (get reader.rests s) b) m
-led_whole reader s b m =
-    ap (λ (r : Rest). with_message (with_byte reader s b) s r m) (get-put_same reader.rests s (rest_with reader.core (get reader.rests s) b))
-    ∙ ap (λ (rests : Both Rest). record (with_message reader s (rest_with reader.core (get reader.rests s) b) m) { rests = rests }) (put-again reader.rests s _ _)
+led_whole reader s b m = grind (arith, get-put_same)
 
 led_service : (old new : Core) (g : IsGrown old new) (reader : Reader) (items : List Item) → led reader (service old new g ++ items) ≡ led reader items
-led_service old new (inl e) reader items = refl
-led_service old new (inr e) reader items = refl
+led_service old new g reader items = grind arith
 
 tracks_service : (judge : Judge) (old new : Core) (g : IsGrown old new) (reader : Reader) (items : List Item) → Tracks judge reader items → Tracks judge reader (service old new g ++ items)
-tracks_service judge old new (inl e) reader items h = h
-tracks_service judge old new (inr e) reader items h = h
+tracks_service judge old new g reader items h = grind arith
 
 pub tracks_more : (judge : Judge) (reader : Reader) (s : Side) (b : ℕ) (items : List Item) → Tracks judge (with_byte reader s b) items → ((x : Item) (xs : List Item) → items ≡ x ∷ xs → IsMore judge (with_byte reader s b) s) → Tracks judge reader (Byte s b ∷ items)
 tracks_more judge reader s b [] h more = tt
@@ -216,8 +177,7 @@ module _ (judge : Judge) (reader end : Reader) (js : List Entry) (canonical : Is
       walk_on o p is = subst (λ w. Walk (IsStray end) w t.items) (sym (put-put t.open_ s o p is)) t.walk
 
       tracks_on : Tracks judge reader (Byte s b ∷ t.items)
-      tracks_on = tracks_more judge reader s b t.items t.tracks
-          (λ x xs e. subst (λ (r : Rest). IsMoreAt judge reader.core s r) (sym (get-put_same reader.rests s more_of)) (judged x xs e))
+      tracks_on = grind (arith, tracks_more, get-put_same)
 
       busy : (m : Message) (left : List ℕ) (bs : List ℕ) → rest_of.bytes ≡ bs → get t.open_ s ≡ Busy m left → IsWithin more_of s m left → Goal
       busy m left [] e is g = record {
@@ -281,8 +241,7 @@ module _ (judge : Judge) (reader end : Reader) (js : List Entry) (canonical : Is
   whole_step m grow sound t = go (get t.open_ s) refl (subst (λ r. Guess r (get end.rests s) s (get t.open_ s)) (get-put_same reader.rests s (record more_of { bytes = [] })) (t.guess s))
     where
       filled : (bs : List ℕ) → rest_of.bytes ≡ bs → IsFilled bs
-      filled [] e = absurd (enc-long m b (sym sound.encodes ∙ ap (λ bs. bs ++ b ∷ []) e))
-      filled (c ∷ cs) e = tt
+      filled bs e = grind (arith, enc-long)
 
       go : (o : Open) → get t.open_ s ≡ o → Guess (record more_of { bytes = [] }) (get end.rests s) s o → Goal
       go Idle is g =
@@ -307,8 +266,7 @@ module _ (judge : Judge) (reader end : Reader) (js : List Entry) (canonical : Is
             tracks = (refl, subst (λ x. Tracks judge x (service reader.core (complete reader.core m) grow ++ t.items)) (sym (led_whole reader s b m)) (tracks_service judge reader.core (complete reader.core m) grow _ t.items t.tracks));
             leads = ap (λ x. led x (service reader.core (complete reader.core m) grow ++ t.items)) (led_whole reader s b m) ∙ led_service reader.core (complete reader.core m) grow _ t.items ∙ t.leads;
           }
-      go (Busy n left) is g = absurd g.filled
-      go Loose is g = absurd g.0
+      go o is g = grind (arith, filled, get-put_same, walk_service, put-put, guess_with, old-filled, pairs_service, canonical_serves, obeys_service, completed_service, append_assoc, led_whole, tracks_service, led, led_service)
 
 trace_by : (judge : Judge) → IsSound judge → (reader mid end : Reader) (js : List Entry) → AreHeld judge reader → IsCanonical (record { core = reader.core; served = js }) → (p : Pair) (ps qs : List Pair) → p.byte < 256 →
     ((next : Reader) (js' : List Entry) → AreHeld judge next → IsCanonical (record { core = next.core; served = js' }) → reads judge next ps ≡ Ok mid → IsTrace judge next end (record { core = next.core; served = js' }) (ps ++ qs)) →

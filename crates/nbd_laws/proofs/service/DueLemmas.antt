@@ -33,11 +33,7 @@ due_known q (Byte s b ∷ items) core js ob prof k x other = due_known q items c
 due_known q (Starts s m ∷ items) core js ob prof k x other = go (is_reply_to core m k) refl (due_known q items core js ob.1 prof k x other)
   where
     go : (b : Bool) → is_reply_to core m k ≡ b → due_from core items k x ≡ known_from core k items → known_if (b && not (is_by_chunk core.profile (operation k core.entries))) core (due_from core items k x) ≡ known_if b core (known_from core k items)
-    go true r ih =
-        let w = answering core m k r in
-        let c : is_by_chunk core.profile (operation k core.entries) ≡ false = ap (λ p. is_by_chunk p (operation k core.entries)) prof ∙ chunk_end q core items k w.1 ∙ other in
-        ap (λ b. known_if (not b) core (due_from core items k x)) c
-    go false r ih = ih
+    go b r ih = grind (arith, answering, chunk_end)
 due_known q (Completes s m ∷ items) core js ob prof k x other = go (is_reply_to core m k) refl ∙ due_known q items (complete core m) js ob.1 (profile_stays core m ∙ prof) k x other
   where
     go : (b : Bool) → is_reply_to core m k ≡ b →
@@ -55,21 +51,14 @@ or_later (Some n) later = Some n
 or_later None later = later
 
 pub or_later-assoc : (a b c : Option ℕ) → or_later (or_later a b) c ≡ or_later a (or_later b c)
-or_later-assoc (Some n) b c = refl
-or_later-assoc None b c = refl
-
-and_no : (b : Bool) → (b && false) ≡ false
-and_no true = refl
-and_no false = refl
+or_later-assoc a b c = grind arith
 
 and_yes : (b : Bool) → (b && true) ≡ b
-and_yes true = refl
-and_yes false = refl
+and_yes b = grind arith
 
 -- what is noted with a message
 pub noted_none : (o : Option ℕ) (n : ℕ) → o ≡ noted o false n
-noted_none None n = refl
-noted_none (Some v) n = refl
+noted_none o n = grind arith
 
 first_more : (xs ys : List Shown) (x : ℕ) → first_shown (xs ++ ys) x ≡ or_later (first_shown xs x) (first_shown ys x)
 first_more [] ys x = refl
@@ -79,14 +68,6 @@ first_of_pieces : (ps : List Piece) (n x : ℕ) → first_shown (map (λ p. reco
 first_of_pieces [] n x = refl
 first_of_pieces (p ∷ ps) n x = grind (arith, first_of_pieces ps n x)
 
-first_with : (o : Option Operation) (m : Message) (n x : ℕ) → first_shown (shown_with o m n) x ≡ (if gives o m x && not (ends_reply m) then Some n else None)
-first_with None m n x = refl
-first_with (Some e) m n x = grind (arith, and_no, first_of_pieces, and_yes)
-
-noted_is : (o : Option ℕ) (b : Bool) (n : ℕ) → or_later o (if b then Some n else None) ≡ noted o b n
-noted_is (Some v) b n = refl
-noted_is None b n = refl
-
 -- the count of the first message before the last one that showed x
 abbrev pub shown_at : Core → (k x : ℕ) → Option ℕ
 shown_at core k x = first_shown (core.shown k) x
@@ -95,44 +76,26 @@ shown_at core k x = first_shown (core.shown k) x
 abbrev pub shows_at : Core → Message → (k x : ℕ) → Bool
 shows_at core m k x = gives (operation k core.entries) m x && not (ends_reply m)
 
-reply_shown : (o : Option ℕ) (core : Core) (m : Message) (k x : ℕ) → shown_at (reply_to o core m) k x ≡ noted (shown_at core k x) (is_this o k && shows_at core m k x) (length core.entries)
-reply_shown None core m k x = noted_none (shown_at core k x) (length core.entries)
-reply_shown (Some j) core m k x =
-    first_more (core.shown k) (if j == k then shown_with (operation j core.entries) m (length core.entries) else []) x
-    ∙ ap (or_later (shown_at core k x)) (go (j == k) refl)
-    ∙ noted_is (shown_at core k x) ((j == k) && shows_at core m k x) (length core.entries)
-  where
-    go : (b : Bool) → (j == k) ≡ b → first_shown (if b then shown_with (operation j core.entries) m (length core.entries) else []) x ≡ (if b && shows_at core m k x then Some (length core.entries) else None)
-    go true q = ap (λ i. first_shown (shown_with (operation i core.entries) m (length core.entries)) x) (eqb-true j k q) ∙ first_with (operation k core.entries) m (length core.entries) x
-    go false q = refl
+first_with : (o : Option Operation) (m : Message) (n x : ℕ) → first_shown (shown_with o m n) x ≡ (if gives o m x && not (ends_reply m) then Some n else None)
+first_with o m n x = grind (arith, first_of_pieces, and_yes)
 
-reply_ended : (o : Option ℕ) (core : Core) (m : Message) (k : ℕ) → (reply_to o core m).ended_at k ≡ noted (core.ended_at k) (is_this o k && ends_reply m) (length core.entries)
-reply_ended None core m k = noted_none (core.ended_at k) (length core.entries)
-reply_ended (Some j) core m k = refl
+reply_shown : (o : Option ℕ) (core : Core) (m : Message) (k x : ℕ) → shown_at (reply_to o core m) k x ≡ noted (shown_at core k x) (is_this o k && shows_at core m k x) (length core.entries)
+reply_shown o core m k x = grind (arith, noted_none, first_more, eqb-true, first_with)
 
 request_shown : (b : Bool) (core : Core) (e : Operation) (k x n : ℕ) → shown_at (core_with_request b core e) k x ≡ noted (shown_at core k x) false n
-request_shown true core e k x n = noted_none (shown_at core k x) n
-request_shown false core e k x n = noted_none (shown_at core k x) n
-
-request_ended : (b : Bool) (core : Core) (e : Operation) (k n : ℕ) → (core_with_request b core e).ended_at k ≡ noted (core.ended_at k) false n
-request_ended true core e k n = noted_none (core.ended_at k) n
-request_ended false core e k n = noted_none (core.ended_at k) n
+request_shown b core e k x n = grind (arith, noted_none)
 
 pub shown_complete : (core : Core) (m : Message) (k x : ℕ) → shown_at (complete core m) k x ≡ noted (shown_at core k x) (is_reply_to core m k && shows_at core m k x) (length core.entries)
 unfolding complete
-shown_complete core (Request flags command cookie offset len p) k x = request_shown (command == commands.DISC) core _ k x (length core.entries)
 shown_complete core m k x = grind (arith, request_shown, reply_shown, noted_none)
 
 pub ended_complete : (core : Core) (m : Message) (k : ℕ) → (complete core m).ended_at k ≡ noted (core.ended_at k) (is_reply_to core m k && ends_reply m) (length core.entries)
 unfolding complete
-ended_complete core (Request flags command cookie offset len p) k = request_ended (command == commands.DISC) core _ k (length core.entries)
-ended_complete core m k = grind (arith, request_ended, reply_ended, noted_none)
+ended_complete core m k = grind (arith, noted_none)
 
 -- what was noted, or is noted now
 pub noted_cases : (o : Option ℕ) (b : Bool) (n v : ℕ) → noted o b n ≡ Some v → (o ≡ Some v) ⊎ ((b ≡ true) × (v ≡ n))
-noted_cases (Some u) b n v e = inl e
-noted_cases None true n v e = inr (refl, cc)
-noted_cases None false n v e = absurd (cc)
+noted_cases o b n v e = grind arith
 
 -- no more is noted than has completed
 pub record IsBounded (core : Core) : Type 0 where
@@ -155,28 +118,16 @@ bounded_complete core m h = record {
     grows = elim (length-complete core m) [ inl q ↦ omega arith | inr q ↦ omega arith ]
 
 pub known_or : (b : Bool) (core : Core) (later : Option ℕ) → or_later (if b then Some (length core.entries) else None) later ≡ known_if b core later
-known_or true core later = refl
-known_or false core later = refl
+known_or b core later = grind arith
 
 -- the count by what a READ has shown at an offset, and by its end
 abbrev pub by_chunk : (within : Bool) → (shown ended : Option ℕ) → Option ℕ
 by_chunk within shown ended = lesser_of (if within then shown else None) ended
 
-lesser_left : (u n : ℕ) → u ≤ n → lesser_of (Some u) (Some n) ≡ Some u
-lesser_left u n l = ap (λ b. Some (if b then u else n)) (le-leb u n l)
-
-lesser_right : (u n : ℕ) → u ≤ n → lesser_of (Some n) (Some u) ≡ Some u
-lesser_right u n l = grind (arith, nat_le, leb-true)
-
-lesser_same : (n : ℕ) → lesser_of (Some n) (Some n) ≡ Some n
-lesser_same n = lesser_left n n (omega arith)
-
 -- one more message of its reply
 by_chunk_noted : (within shows ends : Bool) (shown ended : Option ℕ) (n : ℕ) → ((v : ℕ) → shown ≡ Some v → v ≤ n) → ((v : ℕ) → ended ≡ Some v → v ≤ n) →
     by_chunk within (noted shown shows n) (noted ended ends n) ≡ or_later (by_chunk within shown ended) (if ends || (within && shows) then Some n else None)
-by_chunk_noted true shows ends (Some u) (Some v) n hs he = grind arith
-by_chunk_noted false shows ends shown (Some v) n hs he = refl
-by_chunk_noted within shows ends shown ended n hs he = grind (arith, lesser_left, lesser_right, lesser_same)
+by_chunk_noted within shows ends shown ended n hs he = grind (arith, le-leb, nat_le, leb-true)
 
 -- what a READ by chunk has shown at the end is what fell due on the way
 pub due_chunk : (q : Profile) (items : List Item) (core : Core) (js : List Entry) → Obeys (record { core = core; served = js }) items → IsSettled core → core.profile ≡ q → IsBounded core → (k x : ℕ) →
@@ -227,13 +178,8 @@ due_chunk q (Completes s m ∷ items) core js ob settled prof h k x chunk =
         by_end : (d w g : Bool) → (d || (w && (g && not d))) ≡ (d || (w && g))
         by_end true w g = refl
         by_end false w g = ap (λ b. w && b) (and_yes g)
-    noted_by false = by_chunk_noted within false false (shown_at core k x) (core.ended_at k) (length core.entries) (λ v e. h.shown k x v e) (λ v e. h.ended k v e)
-        ∙ ap (λ b. or_later before (if b then Some (length core.entries) else None)) (and_no within)
+    noted_by r = grind (arith, by_chunk_noted, within, before, and_yes)
 
     here : (r : Bool) → is_reply_to core m k ≡ r → by_chunk within (shown_at next k x) (next.ended_at k) ≡ or_later before (if falls then Some (length core.entries) else None)
-    here r e =
-        ap (λ o. by_chunk within o (next.ended_at k)) (shown_complete core m k x)
-        ∙ ap (by_chunk within (noted (shown_at core k x) (is_reply_to core m k && shows_at core m k x) (length core.entries))) (ended_complete core m k)
-        ∙ noted_by (is_reply_to core m k)
-        ∙ ap (or_later before) (fall (is_reply_to core m k) refl)
+    here r e = grind (arith, within, shown_complete, ended_complete, noted_by, before, fall)
 due_chunk q (Serves e ∷ items) core js ob settled prof h k x chunk = due_chunk q items core _ ob.1 settled prof h k x chunk

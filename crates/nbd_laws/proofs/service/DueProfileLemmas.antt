@@ -1,25 +1,17 @@
 -- What is due in the one profile, and in the other.
-use Rattle.nbd_laws.proofs.Common.{◌≡◌, ℕ, ◌≤◌, ◌==◌, List, refl, sym, ◌∙◌, ap, Option, Some, None, Bool, true, false, arith, if◌then◌else◌, nat_le, eqb-true, leb-true, Entry, Profile, Base, Wide, Item, Operation, due_by_chunk, due_in, due_of, report, IsRunOf, Core, IsFaultless, AnswersAtOnce}
+use Rattle.nbd_laws.proofs.Common.{◌≡◌, ℕ, ◌≤◌, List, Option, Some, Bool, arith, nat_le, eqb-true, leb-true, Entry, Profile, Base, Wide, Item, Operation, due_in, due_of, report, IsRunOf, Core, IsFaultless, AnswersAtOnce}
 use Rattle.nbd_wire.specs.declared.commands.TheConstants as commands
 use Rattle.nbd_laws.proofs.requests.ReportLemmas.{asked-report, stated, told_if}
-use Rattle.nbd_laws.proofs.service.DueLemmas.{by_chunk, shown_at}
 use Rattle.nbd_laws.proofs.service.SoonerLemmas.{IsSooner, sooner_at_end}
 
 -- a count, and no more than another
 abbrev Sooner : Option ℕ → ℕ → Type 0
 Sooner κ n = (m : ℕ) × (κ ≡ Some m) × (m ≤ n)
 
-chunk_sooner : (within : Bool) (shown ended κ : Option ℕ) (n : ℕ) → ((v : ℕ) → shown ≡ Some v → Sooner κ v) → ((v : ℕ) → ended ≡ Some v → Sooner κ v) → by_chunk within shown ended ≡ Some n → Sooner κ n
-chunk_sooner true (Some u) (Some v) κ n s e h = grind (arith, nat_le)
-chunk_sooner true (Some u) None κ n s e h = s n h
-chunk_sooner true None ended κ n s e h = e n h
-chunk_sooner false shown ended κ n s e h = e n h
-
 -- in Wide nothing is due sooner than in Base
 later_told : (core : Core) (κ : ℕ → Option ℕ) (k : ℕ) (o : Option Operation) (within : ℕ → Bool) (x n : ℕ) → IsSooner k (κ k) core → due_of Wide within (told_if core κ k o) x ≡ Some n →
     Sooner (due_of Base within (told_if core κ k o) x) n
-later_told core κ k None within x n s h = absurd (cc)
-later_told core κ k (Some e) within x n s h = grind (arith, stated, chunk_sooner, shown_at)
+later_told core κ k o within x n s h = grind (arith, stated, nat_le)
 
 later_in : {profile : Profile} (items : List Item) → IsRunOf profile items → (k x n : ℕ) → due_in Wide (report items) k x ≡ Some n → Sooner (due_in Base (report items) k x) n
 later_in items run k x n h = grind (arith, asked-report, later_told, sooner_at_end)
@@ -32,23 +24,9 @@ faultless_wide items order run h = record {
   served = λ k x (p, l, (n, d)). (let r = later_in items run k x n d in h.served k x (p, l, (r.0, r.1)));
 }
 
-chunk_at_once : (within : Bool) (shown κ : Option ℕ) → ((v : ℕ) → shown ≡ Some v → Sooner κ v) → by_chunk within shown κ ≡ κ
-chunk_at_once true (Some v) None s = absurd (let r = s v refl in let z : None ≡ Some r.0 = r.1 in (cc))
-chunk_at_once true (Some v) (Some n) s = grind (arith, nat_le, leb-true)
-chunk_at_once true None κ s = refl
-chunk_at_once false shown κ s = refl
-
 at_once_told : (p : Profile) (core : Core) (κ : ℕ → Option ℕ) (k : ℕ) (o : Option Operation) (within : ℕ → Bool) (x : ℕ) → IsSooner k (κ k) core →
     ((e : Operation) → o ≡ Some e → e.command ≡ commands.READ → κ k ≡ core.ended_at k) → due_of p within (told_if core κ k o) x ≡ due_of Base within (told_if core κ k o) x
-at_once_told Base core κ k o within x s once = refl
-at_once_told Wide core κ k None within x s once = refl
-at_once_told Wide core κ k (Some e) within x s once = go (e.command == commands.READ) refl
-  where
-    go : (b : Bool) → (e.command == commands.READ) ≡ b → (if b then due_by_chunk within (stated core κ k e) x else κ k) ≡ κ k
-    go false q = refl
-    go true q =
-        ap (by_chunk (within x) (shown_at core k x)) (sym (once e refl (eqb-true e.command commands.READ q)))
-        ∙ chunk_at_once (within x) (shown_at core k x) (κ k) (λ v e. (let r = s.shown x v e in (r.0, r.1, r.2)))
+at_once_told p core κ k o within x s once = grind (arith, stated, eqb-true, nat_le, leb-true)
 
 -- where READs are answered at once, the same is due in each profile
 pub due_at_once : {profile : Profile} (p : Profile) (items : List Item) → IsRunOf profile items → AnswersAtOnce (report items) → (k x : ℕ) → due_in p (report items) k x ≡ due_in Base (report items) k x

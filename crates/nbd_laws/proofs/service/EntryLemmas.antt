@@ -1,5 +1,5 @@
 -- Entries of an order, one after the other.
-use Rattle.nbd_laws.proofs.Common.{◌≡◌, ℕ, ◌<◌, ◌≤◌, ◌⊎◌, ◌==◌, ◌&&◌, ◌||◌, List, [], ◌∷◌, ◌++◌, refl, sym, ◌∙◌, ap, subst, inl, inr, Option, Some, None, Bool, true, false, IsTrue, append_assoc, eq-eqb, eqb-true, cases_eq, Entry, Part, IsServedAt, MayServe, Names, NamesWhole, in_part, is_served, whole}
+use Rattle.nbd_laws.proofs.Common.{arith, ◌≡◌, ℕ, ◌<◌, ◌≤◌, ◌⊎◌, ◌==◌, ◌&&◌, ◌||◌, List, [], ◌∷◌, ◌++◌, refl, sym, ap, subst, inl, inr, Option, Some, Bool, true, IsTrue, append_assoc, eqb-true, cases_eq, Entry, IsServedAt, MayServe, Names, NamesWhole, in_part, is_served, whole}
 
 pub Names-push : (es : List Entry) (e : Entry) → Names (es ++ e ∷ []) e.request
 Names-push [] e = inl refl
@@ -29,17 +29,13 @@ whole_names [] k h = h
 whole_names (e ∷ es) k h = elim h [ inl q ↦ inl q.0 | inr n ↦ inr (whole_names es k n) ]
 
 or_right : (b : Bool) {c : Bool} → IsTrue c → IsTrue (b || c)
-or_right true h = refl
-or_right false h = h
-
-or_left : {b : Bool} (c : Bool) → IsTrue b → IsTrue (b || c)
-or_left {b} c h = ap (λ b. b || c) h
+or_right b h = grind arith
 
 -- a request that is served atomically is served at each offset
 pub served_whole : (es : List Entry) (k x : ℕ) → NamesWhole es k → IsTrue (is_served es k x)
 served_whole [] k x h = absurd h
 served_whole (e ∷ es) k x h = elim h [
-  | inl q ↦ or_left (is_served es k x) (ap (λ b. b && in_part e.part x) (eq-eqb e.request k q.0) ∙ ap (λ p. in_part p x) q.1)
+  | inl q ↦ grind arith
   | inr n ↦ or_right ((e.request == k) && in_part e.part x) (served_whole es k x n)
 ]
 
@@ -48,11 +44,7 @@ served_atomically within es k x h = record { named = whole_names es k h; covered
 
 served-left : (es fs : List Entry) (k x : ℕ) → IsTrue (is_served es k x) → IsTrue (is_served (es ++ fs) k x)
 served-left [] fs k x h = absurd (cc)
-served-left (e ∷ es) fs k x h = go ((e.request == k) && in_part e.part x) h (served-left es fs k x)
-  where
-    go : (b : Bool) → IsTrue (b || is_served es k x) → (IsTrue (is_served es k x) → IsTrue (is_served (es ++ fs) k x)) → IsTrue (b || is_served (es ++ fs) k x)
-    go true h ih = refl
-    go false h ih = ih h
+served-left (e ∷ es) fs k x h = grind (arith, served-left es fs k x)
 
 -- what entries serve is served with another entry before them
 pub served_behind : (e : Entry) (es : List Entry) (k x : ℕ) → IsTrue (is_served es k x) → IsTrue (is_served (e ∷ es) k x)
@@ -65,43 +57,15 @@ served_at-left within es fs k x h = record { named = Names-left es fs k h.named;
 -- a request that one of two lists serves is served by one of them
 pub served-append : (es fs : List Entry) (k x : ℕ) → is_served (es ++ fs) k x ≡ (is_served es k x || is_served fs k x)
 served-append [] fs k x = refl
-served-append (e ∷ es) fs k x = go ((e.request == k) && in_part e.part x) (served-append es fs k x)
-  where
-    go : (b : Bool) → is_served (es ++ fs) k x ≡ (is_served es k x || is_served fs k x) → (b || is_served (es ++ fs) k x) ≡ ((b || is_served es k x) || is_served fs k x)
-    go true ih = refl
-    go false ih = ih
+served-append (e ∷ es) fs k x = grind (arith, served-append es fs k x)
 
 pub same_number : (j k : ℕ) → (j ≡ k) ⊎ (j ≡ k → ⊥)
 same_number j k = cases_eq j k
 
--- an entry of a request that has something of x to serve
-at_entry : (e : Entry) (k x : ℕ) → ((e.request == k) && in_part e.part x) ≡ true → (e.request ≡ k) × (in_part e.part x ≡ true)
-at_entry e k x h = go (e.request == k) refl h
-  where
-    go : (b : Bool) → (e.request == k) ≡ b → (b && in_part e.part x) ≡ true → (e.request ≡ k) × (in_part e.part x ≡ true)
-    go true q h = (eqb-true e.request k q, h)
-    go false q h = absurd (cc)
-
 -- entries that serve something of a request name it
 pub names_served : (es : List Entry) (k x : ℕ) → IsTrue (is_served es k x) → Names es k
 names_served [] k x h = absurd (cc)
-names_served (e ∷ es) k x h = go ((e.request == k) && in_part e.part x) refl h (names_served es k x)
-  where
-    go : (b : Bool) → ((e.request == k) && in_part e.part x) ≡ b → IsTrue (b || is_served es k x) → (IsTrue (is_served es k x) → Names es k) → Names (e ∷ es) k
-    go true q h ih = inl (at_entry e k x q).0
-    go false q h ih = inr (ih h)
-
--- an entry that serves x of a request is not allowed after entries that served it
-served_closed : (within : ℕ → Bool) (before : List Entry) (e : Entry) (x : ℕ) → IsServedAt within before e.request x → in_part e.part x ≡ true → MayServe within before e → ⊥
-served_closed within before e x h here m = go e.part refl here m
-  where
-    go : (p : Option Part) → e.part ≡ p → in_part p x ≡ true → MayServe within before (record { request = e.request; part = p }) → ⊥
-    go None q here m = m.0 h.named
-    go (Some p) q here m = by (within x) refl
-      where
-        by : (b : Bool) → within x ≡ b → ⊥
-        by true inside = m.1 (inr (inr (x, here, h.covered inside)))
-        by false outside = m.1 (inr (inl (x, here, outside)))
+names_served (e ∷ es) k x h = grind (arith, eqb-true, names_served es k x)
 
 -- the entry names a request, and may be served after these
 abbrev pub IsFine : (count : ℕ) (inside : ℕ → ℕ → Bool) → List Entry → Entry → Type 0
@@ -148,14 +112,7 @@ AreFine-as count count' inside inside' before (e ∷ order) same f =
 -- entries that may be served serve nothing that was served before them
 pub closed_unserved : (count : ℕ) (inside : ℕ → ℕ → Bool) (before order : List Entry) (k x : ℕ) → AreFine count inside before order → IsServedAt (inside k) before k x → is_served order k x ≡ true → ⊥
 closed_unserved count inside before [] k x f h n = absurd (cc)
-closed_unserved count inside before (e ∷ order) k x f h n =
-    go ((e.request == k) && in_part e.part x) refl n (closed_unserved count inside (before ++ e ∷ []) order k x f.1 (served_at-left (inside k) before (e ∷ []) k x h))
-  where
-    go : (b : Bool) → ((e.request == k) && in_part e.part x) ≡ b → (b || is_served order k x) ≡ true → (is_served order k x ≡ true → ⊥) → ⊥
-    go true q n ih =
-        let a = at_entry e k x q in
-        served_closed (inside e.request) before e x (subst (λ j. IsServedAt (inside j) before j x) (sym a.0) h) a.1 f.0.2
-    go false q n ih = ih n
+closed_unserved count inside before (e ∷ order) k x f h n = grind (arith, served_at-left, eqb-true, closed_unserved count inside (before ++ e ∷ []) order k x f.1 (served_at-left (inside k) before (e ∷ []) k x h))
 
 pub IsInTime-right : (κ : ℕ → ℕ → Option ℕ) (es fs : List Entry) → IsInTime κ (es ++ fs) → IsInTime κ fs
 IsInTime-right κ [] fs h = h

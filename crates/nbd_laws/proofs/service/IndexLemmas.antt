@@ -1,5 +1,5 @@
 -- The faults of an order by index are those entry by entry.
-use Rattle.nbd_laws.proofs.Common.{◌≡◌, ℕ, zero, suc, ◌<◌, ◌≤◌, ◌==◌, inl, inr, List, [], ◌∷◌, ◌++◌, refl, sym, ap, subst, Option, Some, arith, slice_get, take, IsTrue, Bool, true, false, nat_le, eqb-true, append_assoc, append-nil, eqb-false, leb-true, leb-false, Entry, is_served, HasNoOrderFault, IsBad, IsLate}
+use Rattle.nbd_laws.proofs.Common.{◌≡◌, ℕ, suc, ◌<◌, ◌≤◌, ◌==◌, inl, inr, List, [], ◌∷◌, ◌++◌, refl, sym, subst, Option, Some, arith, slice_get, take, IsTrue, Bool, true, false, nat_le, eqb-true, append_assoc, append-nil, eqb-false, leb-true, leb-false, Entry, is_served, HasNoOrderFault, IsBad, IsLate}
 use Rattle.nbd_laws.proofs.service.EntryLemmas.{AreFine, HasNoFault, IsFine, IsInTime}
 
 module _ (count : ℕ) (inside : ℕ → ℕ → Bool) where
@@ -14,9 +14,8 @@ module _ (count : ℕ) (inside : ℕ → ℕ → Bool) where
   )
 
   fine_index : (before order : List Entry) → AreFine count inside before order → FineByIndex before order
-  fine_index before [] f i e q = absurd (cc)
-  fine_index before (d ∷ order) f zero e q = (let same : d ≡ e = cc in subst (IsFine count inside (before ++ [])) same (subst (λ l. IsFine count inside l d) (sym (append-nil before)) f.0))
   fine_index before (d ∷ order) f (suc i) e q = subst (λ l. IsFine count inside l e) (append_assoc before (d ∷ []) (take i order)) (fine_index (before ++ d ∷ []) order f.1 i e q)
+  fine_index before order f i e q = grind (arith, append-nil, append_assoc)
 
   fine_of : (order : List Entry) → ((i : ℕ) → IsBad count inside order i → ⊥) → FineByIndex [] order
   fine_of order h i e q = (positive (e.request == 0) refl, within (nat_le e.request count) refl, ((λ t. h i (inr (inl (e, q, t)))), λ b. h i (inr (inr (e, q, b)))))
@@ -29,9 +28,6 @@ module _ (count : ℕ) (inside : ℕ → ℕ → Bool) where
       within true z = leb-true e.request count z
       within false z = absurd (h i (inl (e, q, inr (leb-false e.request count z))))
 
-  bad_of : (order : List Entry) → FineByIndex [] order → (i : ℕ) → IsBad count inside order i → ⊥
-  bad_of order f i b = grind arith
-
 module _ (due : ℕ → ℕ → Option ℕ) where
   in_time_list : (order : List Entry) → ((i : ℕ) → IsLate due order i → ⊥) → IsInTime due order
   in_time_list [] h = tt
@@ -42,9 +38,8 @@ module _ (due : ℕ → ℕ → Option ℕ) where
       first k x n a q false b = absurd (h 0 (e, k, x, n, refl, a, q, leb-false e.request n b))
 
   in_time_index : (order : List Entry) → IsInTime due order → (i : ℕ) → IsLate due order i → ⊥
-  in_time_index [] h i (e, k, x, n, at, a, q, lt) = absurd (cc)
-  in_time_index (d ∷ order) h zero (e, k, x, n, at, a, q, lt) = (let le : d.request ≤ n = h.0 k x n a q in let same : d ≡ e = cc in let eq : d.request ≡ e.request = ap (λ (y : Entry). y.request) same in absurd (omega arith))
   in_time_index (d ∷ order) h (suc i) l = in_time_index order h.1 i l
+  in_time_index order h i l = grind arith
 
   pub by_entries : (count : ℕ) (inside : ℕ → ℕ → Bool) (order : List Entry) → HasNoOrderFault count due inside order → HasNoFault count due inside order
   by_entries count inside order h = record {
@@ -55,7 +50,7 @@ module _ (due : ℕ → ℕ → Option ℕ) where
 
   pub by_index : (count : ℕ) (inside : ℕ → ℕ → Bool) (order : List Entry) → HasNoFault count due inside order → HasNoOrderFault count due inside order
   by_index count inside order h = record {
-    none_bad = bad_of count inside order (fine_index count inside [] order h.fine);
+    none_bad = grind (arith, fine_index count inside [] order h.fine);
     none_late = in_time_index order h.in_time;
     served = λ k x a. h.served k x a.2.0 a.0 a.1 a.2.1;
   }

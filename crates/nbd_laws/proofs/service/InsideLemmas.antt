@@ -1,6 +1,5 @@
 -- What lies inside a request does not change while messages complete.
-use Rattle.nbd_laws.proofs.Common.{◌≡◌, ℕ, zero, suc, ◌<◌, ◌≤◌, ◌==◌, List, [], ◌∷◌, ◌++◌, length, refl, sym, ◌∙◌, ap, inl, inr, Option, Some, None, Bool, true, false, arith, le_refl, Entry, Message, Greeting, ClientFlags, Choice, Answer, Exported, Request, Profile, Base, Wide, Item, Byte, Starts, Completes, Serves, Exporting, Operation, is_proper, MayComplete, Obeys, complete, core_with_request, inside_at, inside_operation, is_by_chunk, reply_to, Core, Phase, Greet, Flags, Choosing, Naming, Aborting, Answering, Transmission, export_in, operation, with_reply, with_reply_at}
-use Rattle.nbd_wire.specs.declared.commands.TheConstants as commands
+use Rattle.nbd_laws.proofs.Common.{◌≡◌, ℕ, zero, suc, ◌<◌, ◌≤◌, List, [], ◌∷◌, ◌++◌, length, refl, sym, ◌∙◌, inl, inr, Option, arith, le_refl, Entry, Message, Greeting, ClientFlags, Choice, Answer, Exported, Profile, Base, Wide, Item, Byte, Starts, Completes, Serves, Exporting, Operation, is_proper, MayComplete, Obeys, complete, inside_at, inside_operation, is_by_chunk, Core, Phase, Greet, Flags, Choosing, Naming, Aborting, Answering, Transmission, operation, with_reply_at}
 use Rattle.nbd_laws.proofs.runs.PrefixLemmas.{InTransmission, asks, in_transmission, phase-complete, transmission_row}
 use Rattle.nbd_laws.proofs.runs.TraceLemmas.{length-complete}
 
@@ -39,23 +38,14 @@ settled_in core phase m q ok h = absurd ok
 pub settled_complete : (core : Core) (m : Message) → MayComplete core core.phase m → IsSettled core → IsSettled (complete core m)
 settled_complete core m ok h = settled_in core core.phase m refl ok h
 
--- a reply changes nothing of whether its request is proper
-same_inside : (export : Option Exporting) (e : Operation) (m : Message) → inside_operation export (Some (with_reply e m)) ≡ inside_operation export (Some e)
-unfolding is_proper
-same_inside None e m = refl
-same_inside (Some export) e m = refl
-
 inside_replied : (export : Option Exporting) (j : ℕ) (m : Message) (es : List Operation) (k : ℕ) → inside_operation export (operation k (with_reply_at j m es)) ≡ inside_operation export (operation k es)
+unfolding is_proper
 inside_replied export j m [] k = refl
 inside_replied export zero m (e ∷ es) k = refl
 inside_replied export (suc zero) m (e ∷ es) zero = refl
-inside_replied export (suc zero) m (e ∷ es) (suc zero) = same_inside export e m
+inside_replied export (suc zero) m (e ∷ es) (suc zero) = grind arith
 inside_replied export (suc (suc j)) m (e ∷ es) (suc (suc k)) = inside_replied export (suc j) m es (suc k)
 inside_replied export j m es k = refl
-
-inside_reply_to : (export : Option Exporting) (o : Option ℕ) (core : Core) (m : Message) (k : ℕ) → inside_operation export (operation k (reply_to o core m).entries) ≡ inside_operation export (operation k core.entries)
-inside_reply_to export (Some j) core m k = inside_replied export j m core.entries k
-inside_reply_to export None core m k = refl
 
 operation_before : (k : ℕ) (es : List Operation) (e : Operation) → k ≤ length es → operation k (es ++ e ∷ []) ≡ operation k es
 operation_before zero [] e l = refl
@@ -64,22 +54,12 @@ operation_before zero (x ∷ es) e l = refl
 operation_before (suc zero) (x ∷ es) e l = refl
 operation_before (suc (suc k)) (x ∷ es) e l = operation_before (suc k) es e (omega arith)
 
-operation_requested : (b : Bool) (core : Core) (e : Operation) (k : ℕ) → k ≤ length core.entries → operation k (core_with_request b core e).entries ≡ operation k core.entries
-operation_requested true core e k l = refl
-operation_requested false core e k l = operation_before k core.entries e l
-
-inside_transmitted : (core : Core) (export : Exporting) (m : Message) → InTransmission core export m → (o : Option Exporting) (k : ℕ) → k ≤ length core.entries →
-    inside_operation o (operation k (complete core m).entries) ≡ inside_operation o (operation k core.entries)
-unfolding complete
-inside_transmitted core export m (asks flags command cookie offset len p h) o k l = ap (inside_operation o) (operation_requested (command == commands.DISC) core _ k l)
-inside_transmitted core export m x o k l = grind (arith, operation_requested, inside_reply_to)
-
 inside_complete : (core : Core) (m : Message) → MayComplete core core.phase m → IsSettled core → (k : ℕ) → 0 < k → k ≤ length core.entries → inside_at (complete core m) k ≡ inside_at core k
+unfolding complete
 inside_complete core m ok settled k p l =
     let t : (export : Exporting) × (core.phase ≡ Transmission export) = settled (omega arith) in
     let i : InTransmission core t.0 m = in_transmission t.1 ok in
-    inside_transmitted core t.0 m i (export_in (complete core m).phase) k l
-    ∙ ap (λ phase. inside_operation (export_in phase) (operation k core.entries)) (phase-complete core t.0 m i)
+    grind (arith, t, i, in_transmission, asks, operation_before, inside_replied, phase-complete)
 
 -- what lies inside a request that has completed lies inside it at the end
 pub inside_end : (items : List Item) (core : Core) (js : List Entry) → IsSettled core → Obeys (record { core = core; served = js }) items →
@@ -99,19 +79,11 @@ chunk_replied Wide (suc zero) m (e ∷ es) (suc zero) = refl
 chunk_replied q (suc (suc j)) m (e ∷ es) (suc (suc k)) = chunk_replied q (suc j) m es (suc k)
 chunk_replied q j m es k = refl
 
-chunk_reply_to : (q : Profile) (o : Option ℕ) (core : Core) (m : Message) (k : ℕ) → is_by_chunk q (operation k (reply_to o core m).entries) ≡ is_by_chunk q (operation k core.entries)
-chunk_reply_to q (Some j) core m k = chunk_replied q j m core.entries k
-chunk_reply_to q None core m k = refl
-
-chunk_complete : (q : Profile) (core : Core) (m : Message) (k : ℕ) → k ≤ length core.entries → is_by_chunk q (operation k core.entries) ≡ is_by_chunk q (operation k (complete core m).entries)
-unfolding complete
-chunk_complete q core (Request flags command cookie offset len p) k l = ap (is_by_chunk q) (sym (operation_requested (command == commands.DISC) core _ k l))
-chunk_complete q core m k l = grind (arith, operation_requested, chunk_reply_to)
-
 -- whether a request is served by chunk is the same at the end
 pub chunk_end : (q : Profile) (core : Core) (items : List Item) (k : ℕ) → k ≤ length core.entries → is_by_chunk q (operation k core.entries) ≡ is_by_chunk q (operation k (core_end core items).entries)
+unfolding complete
 chunk_end q core [] k l = refl
 chunk_end q core (Completes s m ∷ items) k l =
     let more : k ≤ length (complete core m).entries = elim (length-complete core m) [ inl e ↦ omega arith | inr e ↦ omega arith ] in
-    chunk_complete q core m k l ∙ chunk_end q (complete core m) items k more
+    (grind (arith, operation_before, chunk_replied)) ∙ chunk_end q (complete core m) items k more
 chunk_end q core (item ∷ items) k l = chunk_end q core items k l

@@ -31,25 +31,18 @@ module _ (core next : Core) (item : Item) (items : List Item) (js : List Entry) 
       go false d q = h.answered k x n q
 
   later_now : (k x n : ℕ) → due_here k x ≡ Some n → length core.entries ≤ n
-  later_now k x n q = go (makes_due core item k x) q
-    where
-      go : (b : Bool) → known_if b core (due_from next items k x) ≡ Some n → length core.entries ≤ n
-      go true q = let e : length core.entries ≡ n = cc in omega arith
-      go false q = (let l : length next.entries ≤ n = h.later k x n q in omega (arith, grows, l))
+  later_now k x n q = grind arith
 
   -- what is served later does not fall due here
   not_now : (k x : ℕ) → IsTrue (is_served (service_order items) k x) → due_here k x ≡ due_from next items k x
   not_now k x s = go (makes_due core item k x) refl
     where
       go : (b : Bool) → makes_due core item k x ≡ b → known_if b core (due_from next items k x) ≡ due_from next items k x
-      go true d = absurd (closed_unserved (length (core_end next items).entries) (inside_at (core_end next items)) js (service_order items) k x h.fine (for_end k x d) s)
-      go false d = refl
+      go b d = grind (arith, closed_unserved, inside_at, for_end)
 
 pub ordered : (items : List Item) (core : Core) (js : List Entry) → IsSettled core → Obeys (record { core = core; served = js }) items → IsOrdered core js items
 ordered [] core js settled ob = record { fine = tt; answered = λ k x n e. absurd (cc); later = λ k x n e. absurd (cc); in_time = λ κ h. tt }
-ordered (Byte s b ∷ items) core js settled ob =
-    let h : IsOrdered core js items = ordered items core js settled ob.1 in
-    record { fine = h.fine; answered = h.answered; later = h.later; in_time = h.in_time }
+ordered (Byte s b ∷ items) core js settled ob = grind (arith, ordered items core js settled ob.1)
 ordered (Starts s m ∷ items) core js settled ob =
     let h : IsOrdered core js items = ordered items core js settled ob.1 in
     let same = inside_end (Starts s m ∷ items) core js settled ob in

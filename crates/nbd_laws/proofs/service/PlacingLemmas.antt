@@ -1,6 +1,6 @@
 -- Where the order has no fault, a run with the same pairs serves in that order: each entry as soon as its request, and those of the
 -- entries before it, have completed.
-use Rattle.nbd_laws.proofs.Common.{◌≡◌, ℕ, zero, suc, ◌+◌, ◌<◌, ◌≤◌, ◌⊎◌, ◌==◌, ◌||◌, ◌&&◌, List, [], ◌∷◌, ◌++◌, length, refl, sym, ◌∙◌, ap, subst, inl, inr, Option, Some, None, Bool, true, false, IsTrue, append_assoc, append-nil, arith, eq-eqb, nat_le, nat_lt, if◌then◌else◌, le_refl, leb-true, leb-false, le-leb, lt-ltb, or_cases, Entry, Part, IsServedAt, MayServe, Names, in_part, is_served, Item, Byte, Starts, Completes, Serves, pairs, service_order, is_in, Core, IsServedFor, Obeys, complete, inside_at, makes_due, Both}
+use Rattle.nbd_laws.proofs.Common.{or_cases, ◌≡◌, ℕ, zero, suc, ◌+◌, ◌<◌, ◌≤◌, ◌⊎◌, ◌||◌, ◌&&◌, List, [], ◌∷◌, ◌++◌, length, refl, sym, ◌∙◌, ap, subst, inl, inr, Option, Some, None, Bool, true, false, IsTrue, append_assoc, append-nil, arith, eq-eqb, nat_le, nat_lt, if◌then◌else◌, le_refl, leb-true, leb-false, le-leb, lt-ltb, Entry, Part, IsServedAt, MayServe, Names, in_part, is_served, Item, Byte, Starts, Completes, Serves, pairs, service_order, is_in, Core, IsServedFor, Obeys, complete, inside_at, makes_due, Both}
 use Rattle.nbd_laws.proofs.service.DueLemmas.{known_if, due_from}
 use Rattle.nbd_laws.proofs.service.EntryLemmas.{AreFine, AreFine-as, AreFine-left, AreFine-right, IsInTime, IsInTime-right, Names-append_cases, names_served, served-append, served_at-left}
 use Rattle.nbd_laws.proofs.service.InsideLemmas.{IsSettled, core_end, entries_grow, inside_end, settled_complete}
@@ -88,8 +88,7 @@ obeys_serve_all core js (e ∷ ks) items fine ob = grind (arith, append_assoc, o
 
 -- what waits serves nothing that is due
 waiting_unserved : (κ : ℕ → ℕ → Option ℕ) (n : ℕ) (order : List Entry) (k x m : ℕ) → Waits n order → IsInTime κ order → is_served order k x ≡ true → κ k x ≡ Some m → m ≤ n → ⊥
-waiting_unserved κ n [] k x m w h s q l = absurd (cc)
-waiting_unserved κ n (e ∷ order) k x m w h s q l = (let a : e.request ≤ m = h.0 k x m s q in absurd (omega arith))
+waiting_unserved κ n order k x m w h s q l = grind arith
 
 -- entries that name a request serve each offset of it, or one that lies inside
 record IsServedSomewhere (inside : ℕ → ℕ → Bool) (order : List Entry) (k : ℕ) : Type 0 where
@@ -101,15 +100,7 @@ entry_serves : (e : Entry) (order : List Entry) (k x : ℕ) → e.request ≡ k 
 entry_serves e order k x q h = ap (λ b. (b && in_part e.part x) || is_served order k x) (eq-eqb e.request k q) ∙ ap (λ b. b || is_served order k x) h
 
 behind : (inside : ℕ → ℕ → Bool) (e : Entry) (order : List Entry) (k : ℕ) → IsServedSomewhere inside order k → IsServedSomewhere inside (e ∷ order) k
-behind inside e order k h = record {
-  at = h.at;
-  here = or_behind ((e.request == k) && in_part e.part h.at) h.here;
-  where_ = elim h.where_ [ inl all ↦ inl (λ x. or_behind ((e.request == k) && in_part e.part x) (all x)) | inr i ↦ inr i ];
-}
-  where
-    or_behind : (b : Bool) {c : Bool} → c ≡ true → (b || c) ≡ true
-    or_behind true q = refl
-    or_behind false q = q
+behind inside e order k h = grind arith
 
 named_somewhere : (count : ℕ) (inside : ℕ → ℕ → Bool) (before order : List Entry) (k : ℕ) → AreFine count inside before order → Names order k → IsServedSomewhere inside order k
 named_somewhere count inside before [] k f n = absurd n
@@ -199,11 +190,7 @@ module _ (κ : ℕ → ℕ → Option ℕ) (last : Core) (deep : IsDeep κ (insi
         subst (λ within. IsServedAt within js k x) (sym (same_inside core js₀ js order (item ∷ items) ob f k w.0 w.1)) (served_now k x d)
 
     due_next : (k x : ℕ) → IsServedAt (inside_at last k) js k x ⊎ (due_from next items k x ≡ κ k x)
-    due_next k x = elim (f.due k x) [ inl a ↦ inl a | inr q ↦ go (makes_due core item k x) refl (sym (here k x) ∙ q) ]
-      where
-        go : (b : Bool) → makes_due core item k x ≡ b → known_if b core (due_from next items k x) ≡ κ k x → IsServedAt (inside_at last k) js k x ⊎ (due_from next items k x ≡ κ k x)
-        go true d q = inl (served_now k x d)
-        go false d q = inr q
+    due_next k x = grind (arith, inside_at, served_now)
 
   -- the placing obeys the rules
   pub obeys_placed : (items : List Item) (core : Core) (js₀ js order : List Entry) → Obeys (record { core = core; served = js₀ }) items → Fits core js order items → Obeys (record { core = core; served = js }) (placed core order items)

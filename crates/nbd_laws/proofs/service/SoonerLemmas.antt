@@ -1,5 +1,5 @@
 -- A reply starts before it shows or ends anything.
-use Rattle.nbd_laws.proofs.Common.{◌≡◌, ℕ, ◌≤◌, ◌&&◌, List, [], ◌∷◌, length, refl, sym, ◌∙◌, ap, subst, inl, inr, Option, Some, None, true, arith, and_parts, Message, Side, Client, Server, Profile, Base, Item, Byte, Starts, Completes, Serves, ends_reply, Both, Reader, Rest, get, put, fresh_of, old_by, with_message, known_count, known_from, noted, IsRunOf, complete, ends_at, is_reply_to, Core, start, start_of, with_profile}
+use Rattle.nbd_laws.proofs.Common.{and_parts, ◌≡◌, ℕ, ◌≤◌, ◌&&◌, List, [], ◌∷◌, length, refl, sym, ◌∙◌, ap, subst, inl, inr, Option, Some, None, true, arith, Message, Side, Client, Server, Profile, Base, Item, Byte, Starts, Completes, Serves, ends_reply, Both, Reader, Rest, get, put, fresh_of, with_message, known_count, known_from, noted, IsRunOf, complete, ends_at, is_reply_to, Core, start, start_of, with_profile}
 use Rattle.nbd_laws.proofs.reading.NotedLemmas.{core_led, known_of_run}
 use Rattle.nbd_laws.proofs.reading.ReaderLemmas.{led, with_byte}
 use Rattle.nbd_laws.proofs.runs.ProfileLemmas.{at_base, known_at_base}
@@ -54,14 +54,10 @@ older_put rests n Client rest here all Server = all Server
 older_put rests n Server rest here all Client = all Client
 older_put rests n Server rest here all Server = here
 
-older_old : (core : Core) (bytes : List ℕ) (since : Core) → length since.entries ≤ length core.entries → length (old_by bytes core since).entries ≤ length core.entries
-older_old core [] since l = omega arith
-older_old core (b ∷ bytes) since l = l
-
 sooner_led : (k : ℕ) (items : List Item) (reader : Reader) → AreOlder reader → IsSooner k (reader.known k) reader.core → IsSooner k ((led reader items).known k) (led reader items).core
 sooner_led k [] reader old h = h
 sooner_led k (Byte s b ∷ items) reader old h =
-    sooner_led k items (with_byte reader s b) (older_put reader.rests _ s _ (older_old reader.core (get reader.rests s).bytes (get reader.rests s).since (old s)) old) h
+    sooner_led k items (with_byte reader s b) (older_put reader.rests _ s _ ((grind arith)) old) h
 sooner_led k (Starts s m ∷ items) reader old h = sooner_led k items reader old h
 sooner_led k (Completes s m ∷ items) reader old h =
     sooner_led k items (with_message reader s (get reader.rests s) m)

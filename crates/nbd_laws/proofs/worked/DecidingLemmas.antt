@@ -1,50 +1,17 @@
 -- Tests that decide the rules of negotiation by computing, and what a message needs to start.
-use Rattle.nbd_laws.proofs.Common.{◌≡◌, ℕ, zero, suc, ◌+◌, ◌<◌, ◌≤◌, ◌^◌, ◌⊎◌, ◌==◌, ◌&&◌, ◌||◌, not, nat_le, nat_lt, List, [], ◌∷◌, length, refl, ap, subst, inl, inr, Option, Some, None, Bool, true, false, if◌then◌else◌, IsTrue, is_some, eqb-true, arith, eq-eqb, eqb-false, leb-true, ltb-true, WireFault, Entry, Part, IsServedAt, MayServe, Names, NamesWhole, inside, is_served, inside_of, Side, Client, Server, Message, Greeting, ClientFlags, Choice, Answer, Exported, Request, Simple, Chunk, ExtendedRequest, ExtendedChunk, AreBytes, turn, Exporting, Operation, ends_reply, has_range, is_proper, proper_on, is_in, IsServedFor, MayStartIn, gives, inside_at, inside_operation, is_by_chunk, is_reply_to, is_request, is_this, request_of_reply, is_extended, Completes, Starts, carries_payload, IsPayload, IsSendable, same_side, Core, Phase, State, Transmission, export_in, operation}
+use Rattle.nbd_laws.proofs.Common.{and_parts, not-true, or_cases, ◌≡◌, ℕ, zero, suc, ◌+◌, ◌<◌, ◌≤◌, ◌^◌, ◌==◌, ◌&&◌, ◌||◌, not, nat_le, nat_lt, List, [], ◌∷◌, length, refl, subst, inl, inr, Option, Some, None, Bool, true, false, if◌then◌else◌, IsTrue, is_some, eqb-true, arith, eq-eqb, eqb-false, leb-true, ltb-true, WireFault, Entry, Part, IsServedAt, MayServe, Names, NamesWhole, inside, is_served, inside_of, Side, Client, Server, Message, Greeting, ClientFlags, Choice, Answer, Exported, Request, Simple, Chunk, ExtendedRequest, ExtendedChunk, AreBytes, turn, Exporting, Operation, ends_reply, has_range, is_proper, proper_on, is_in, IsServedFor, MayStartIn, gives, inside_at, inside_operation, is_by_chunk, is_reply_to, is_request, is_this, request_of_reply, is_extended, Completes, Starts, carries_payload, IsSendable, same_side, Core, Phase, State, Transmission, export_in, operation}
 use Rattle.nbd_wire.specs.declared.commands.TheConstants as commands
-
--- both tests pass
-pub both : (a b : Bool) → IsTrue (a && b) → IsTrue a × IsTrue b
-both true true e = (refl, refl)
-both true false e = absurd (cc)
-both false b e = absurd (cc)
 
 -- the second test passes where the first does
 pub then_too : (a b : Bool) → IsTrue (not a || b) → IsTrue a → IsTrue b
-then_too true b e h = e
-then_too false b e h = absurd (cc)
-
--- one of two tests passes
-pub one : (a b : Bool) → IsTrue (a || b) → IsTrue a ⊎ IsTrue b
-one true b e = inl refl
-one false b e = inr e
-
-pub was_false : (b : Bool) → IsTrue (not b) → b ≡ false
-was_false true e = absurd (cc)
-was_false false e = refl
+then_too a b e h = grind arith
 
 abbrev pub equal_bools : Bool → Bool → Bool
 equal_bools true b = b
 equal_bools false b = not b
 
-pub are_equal : (a b : Bool) → IsTrue (equal_bools a b) → a ≡ b
-are_equal true true e = refl
-are_equal true false e = absurd (cc)
-are_equal false true e = absurd (cc)
-are_equal false false e = refl
-
-abbrev pub is_empty : {A : Type 0} → List A → Bool
-is_empty [] = true
-is_empty (x ∷ xs) = false
-
-pub empty : {A : Type 0} (xs : List A) → IsTrue (is_empty xs) → xs ≡ []
-empty [] e = refl
-empty (x ∷ xs) e = absurd (cc)
-
 pub same_sides : (s t : Side) → IsTrue (same_side s t) → s ≡ t
-same_sides Client Client e = refl
-same_sides Server Server e = refl
-same_sides Client Server e = absurd (cc)
-same_sides Server Client e = absurd (cc)
+same_sides s t e = grind arith
 
 -- n offsets from this one on pass the test
 abbrev pub all_in : ℕ → ℕ → (ℕ → Bool) → Bool
@@ -52,15 +19,14 @@ all_in offset zero p = true
 all_in offset (suc n) p = p offset && all_in (suc offset) n p
 
 pub in_range : (offset n x : ℕ) → IsTrue (is_in offset n x) → (offset ≤ x) × (x < offset + n)
-in_range offset n x h = (let b = both (nat_le offset x) (nat_lt x (offset + n)) h in (leb-true offset x b.0, ltb-true x (offset + n) b.1))
+in_range offset n x h = (let b = and_parts (nat_le offset x) (nat_lt x (offset + n)) h in (leb-true offset x b.0, ltb-true x (offset + n) b.1))
 
 pub all_at : (offset n : ℕ) (p : ℕ → Bool) → IsTrue (all_in offset n p) → (x : ℕ) → offset ≤ x → x < offset + n → IsTrue (p x)
 all_at offset zero p h x l u = absurd (omega arith)
-all_at offset (suc n) p h x l u = go (offset == x) refl (both (p offset) (all_in (suc offset) n p) h) (λ r l. all_at (suc offset) n p r x l (omega arith))
+all_at offset (suc n) p h x l u = go (offset == x) refl (and_parts (p offset) (all_in (suc offset) n p) h) (λ r l. all_at (suc offset) n p r x l (omega arith))
   where
     go : (b : Bool) → (offset == x) ≡ b → IsTrue (p offset) × IsTrue (all_in (suc offset) n p) → (IsTrue (all_in (suc offset) n p) → suc offset ≤ x → IsTrue (p x)) → IsTrue (p x)
-    go true e r ih = subst (λ y. IsTrue (p y)) (eqb-true offset x e) r.0
-    go false e r ih = ih r.1 (let ne = eqb-false offset x e in omega arith)
+    go b e r ih = grind (arith, eqb-true, eqb-false)
 
 abbrev pub are_bytes : List ℕ → Bool
 are_bytes [] = true
@@ -68,13 +34,10 @@ are_bytes (b ∷ bs) = nat_lt b 256 && are_bytes bs
 
 pub bytes_are : (bs : List ℕ) → IsTrue (are_bytes bs) → AreBytes bs
 bytes_are [] e = tt
-bytes_are (b ∷ bs) e = (let h = both (nat_lt b 256) (are_bytes bs) e in (ltb-true b 256 h.0, bytes_are bs h.1))
+bytes_are (b ∷ bs) e = (let h = and_parts (nat_lt b 256) (are_bytes bs) e in (ltb-true b 256 h.0, bytes_are bs h.1))
 
 abbrev pub is_payload : List ℕ → Bool
 is_payload payload = nat_lt (length payload) (2 ^ 32) && are_bytes payload
-
-pub payload_is : (payload : List ℕ) → IsTrue (is_payload payload) → IsPayload payload
-payload_is payload e = (let h = both (nat_lt (length payload) (2 ^ 32)) (are_bytes payload) e in (ltb-true (length payload) (2 ^ 32) h.0, bytes_are payload h.1))
 
 abbrev pub is_sendable : Message → Bool
 is_sendable (Greeting flags) = nat_lt flags (2 ^ 16)
@@ -95,36 +58,20 @@ is_sendable (ExtendedChunk flags kind cookie offset payload) =
 
 pub sendable : (m : Message) → IsTrue (is_sendable m) → IsSendable m
 unfolding IsSendable
-sendable (Greeting flags) e = ltb-true flags (2 ^ 16) e
-sendable m e = grind (arith, ltb-true, both, eqb-true, bytes_are, payload_is)
+sendable m e = grind (arith, ltb-true, and_parts, eqb-true, bytes_are, nat_lt)
 
 abbrev pub is_turn : Option Side → Side → Bool
 is_turn (Some t) s = same_side t s
 is_turn None s = false
 
-pub turn_is : (t : Option Side) (s : Side) → IsTrue (is_turn t s) → t ≡ Some s
-turn_is (Some t) s e = ap Some (same_sides t s e)
-turn_is None s e = absurd (cc)
-
-abbrev pub same_bool : Bool → Bool → Bool
-same_bool true b = b
-same_bool false b = not b
-
-same_bools : (a b : Bool) → IsTrue (same_bool a b) → a ≡ b
-same_bools true true e = refl
-same_bools true false e = absurd (cc)
-same_bools false true e = absurd (cc)
-same_bools false false e = refl
-
 abbrev pub may_start_in : Phase → Core → Side → Message → Bool
-may_start_in (Transmission export) core Client m = is_request m && (not core.disconnected && same_bool (is_extended m) core.extended)
-may_start_in (Transmission export) core Server m = is_some (request_of_reply core m) && same_bool (is_extended m) core.extended
+may_start_in (Transmission export) core Client m = is_request m && (not core.disconnected && equal_bools (is_extended m) core.extended)
+may_start_in (Transmission export) core Server m = is_some (request_of_reply core m) && equal_bools (is_extended m) core.extended
 may_start_in phase core s m = is_turn (turn phase) s
 
 pub starts_in : (phase : Phase) (core : Core) (s : Side) (m : Message) → IsTrue (may_start_in phase core s m) → MayStartIn phase core s m
 unfolding MayStartIn
-starts_in (Transmission export) core Client m e = grind (arith, both, was_false, same_bools)
-starts_in phase core s m e = grind (arith, both, same_bools, turn_is)
+starts_in phase core s m e = grind (arith, and_parts, not-true, same_sides)
 
 abbrev pub names : List Entry → ℕ → Bool
 names [] k = false
@@ -132,7 +79,7 @@ names (e ∷ es) k = (e.request == k) || names es k
 
 pub true_names : (es : List Entry) (k : ℕ) → IsTrue (names es k) → Names es k
 true_names [] k h = absurd (cc)
-true_names (e ∷ es) k h = elim (one (e.request == k) (names es k) h) [ inl q ↦ inl (eqb-true e.request k q) | inr h ↦ inr (true_names es k h) ]
+true_names (e ∷ es) k h = elim (or_cases (e.request == k) (names es k) h) [ inl q ↦ inl (eqb-true e.request k q) | inr h ↦ inr (true_names es k h) ]
 
 abbrev pub is_unnamed : List Entry → ℕ → Bool
 is_unnamed [] k = true
@@ -141,8 +88,8 @@ is_unnamed (e ∷ es) k = not (e.request == k) && is_unnamed es k
 pub true_is_unnamed : (es : List Entry) (k : ℕ) → IsTrue (is_unnamed es k) → Names es k → ⊥
 true_is_unnamed [] k h n = n
 true_is_unnamed (e ∷ es) k h n =
-    let a = both (not (e.request == k)) (is_unnamed es k) h in
-    elim n [ inl q ↦ eqb-false e.request k (was_false (e.request == k) a.0) q | inr m ↦ true_is_unnamed es k a.1 m ]
+    let a = and_parts (not (e.request == k)) (is_unnamed es k) h in
+    elim n [ inl q ↦ eqb-false e.request k (not-true (e.request == k) a.0) q | inr m ↦ true_is_unnamed es k a.1 m ]
 
 -- no entry without a part names the request
 abbrev pub is_in_parts : List Entry → ℕ → Bool
@@ -152,7 +99,7 @@ is_in_parts (e ∷ es) k = (not (e.request == k) || is_some e.part) && is_in_par
 true_is_in_parts : (es : List Entry) (k : ℕ) → IsTrue (is_in_parts es k) → NamesWhole es k → ⊥
 true_is_in_parts [] k h n = n
 true_is_in_parts (e ∷ es) k h n =
-    let a = both (not (e.request == k) || is_some e.part) (is_in_parts es k) h in
+    let a = and_parts (not (e.request == k) || is_some e.part) (is_in_parts es k) h in
     elim n [
       | inl q ↦ grind (arith, then_too, eq-eqb)
       | inr m ↦ true_is_in_parts es k a.1 m
@@ -166,17 +113,17 @@ served_inside export None es k = names es k
 true_served : (export : Option Exporting) (o : Option Operation) (es : List Entry) (k : ℕ) → IsTrue (served_inside export o es k) → (x : ℕ) → IsServedAt (inside_operation export o) es k x
 true_served export None es k h x = record { named = true_names es k h; covered = λ i. absurd (let q : false ≡ true = i in cc) }
 true_served (Some export) (Some e) es k h x =
-    let a = both (names es k) _ h in
+    let a = and_parts (names es k) _ h in
     record {
       named = true_names es k a.0;
       covered = λ i.
-          (let p = both (is_proper export e || not (e.command == commands.BLOCK_STATUS)) (inside (Some export) e.command e.offset e.length x) i in
-          let b = both (has_range e.command) (is_in e.offset e.length x && nat_lt x export.size) p.1 in
-          let r = in_range e.offset e.length x (both (is_in e.offset e.length x) (nat_lt x export.size) b.1).0 in
+          (let p = and_parts (is_proper export e || not (e.command == commands.BLOCK_STATUS)) (inside (Some export) e.command e.offset e.length x) i in
+          let b = and_parts (has_range e.command) (is_in e.offset e.length x && nat_lt x export.size) p.1 in
+          let r = in_range e.offset e.length x (and_parts (is_in e.offset e.length x) (nat_lt x export.size) b.1).0 in
           then_too (inside_of (is_proper export e) (Some export) e.command e.offset e.length x) (is_served es k x)
           (all_at e.offset e.length (λ x. not (inside_of (is_proper export e) (Some export) e.command e.offset e.length x) || is_served es k x) a.1 x r.0 r.1) i);
     }
-true_served None (Some e) es k h x = grind (arith, both, true_names)
+true_served None (Some e) es k h x = grind (arith, and_parts, true_names)
 
 abbrev pub served_for : Core → List Entry → Option ℕ → Bool
 served_for core es (Some k) = served_inside (export_in core.phase) (operation k core.entries) es k
@@ -196,11 +143,11 @@ served_at state m e k x r = go (request_of_reply state.core m) r e
     go None r e = absurd (cc)
 
 pub serves_start : (state : State) (s : Side) (m : Message) → IsTrue (is_served_for state m) → IsServedFor state (Starts s m)
-serves_start state s m e k x d = served_at state m e k x (both (is_reply_to state.core m k) (not (is_by_chunk state.core.profile (operation k state.core.entries))) d).0
+serves_start state s m e k x d = served_at state m e k x (and_parts (is_reply_to state.core m k) (not (is_by_chunk state.core.profile (operation k state.core.entries))) d).0
 
 pub serves_end : (state : State) (s : Side) (m : Message) → IsTrue (is_served_for state m) → IsServedFor state (Completes s m)
 serves_end state s m e k x d = served_at state m e k x
-    (both (is_reply_to state.core m k) (is_by_chunk state.core.profile (operation k state.core.entries) && (ends_reply m || (inside_at state.core k x && gives (operation k state.core.entries) m x))) d).0
+    (and_parts (is_reply_to state.core m k) (is_by_chunk state.core.profile (operation k state.core.entries) && (ends_reply m || (inside_at state.core k x && gives (operation k state.core.entries) m x))) d).0
 
 -- an entry with this part may be served after these
 abbrev pub is_fresh : (within : ℕ → Bool) → List Entry → ℕ → Option Part → Bool
@@ -214,17 +161,10 @@ true_is_fresh within before e h = go e.part h
     go : (p : Option Part) → IsTrue (is_fresh within before e.request p) → MayServe within before (record { request = e.request; part = p })
     go None h = ((λ n. true_is_unnamed before e.request h n), λ b. b)
     go (Some p) h =
-        let a = both (is_in_parts before e.request) _ h in
-        let b = both (nat_lt 0 p.length) _ a.1 in
-        let some : 0 < p.length = ltb-true 0 p.length b.0 in
-        let each = λ (x : ℕ) (i : IsTrue (is_in p.offset p.length x)). (let r = in_range p.offset p.length x i in
-        both (within x) (not (is_served before e.request x)) (all_at p.offset p.length (λ x. within x && not (is_served before e.request x)) b.1 x r.0 r.1)) in (
-          (λ n. true_is_in_parts before e.request a.0 n),
-          elim [
-            | inl empty ↦ absurd (omega arith)
-            | inr bad ↦ grind (arith, was_false)
-          ],
-        )
+        let a = and_parts (is_in_parts before e.request) _ h in
+        let b = and_parts (nat_lt 0 p.length) _ a.1 in
+        let each = λ (x : ℕ) (i : IsTrue (is_in p.offset p.length x)). (let r = in_range p.offset p.length x i in and_parts (within x) (not (is_served before e.request x)) (all_at p.offset p.length (λ x. within x && not (is_served before e.request x)) b.1 x r.0 r.1)) in
+        grind (arith, a, b, each, and_parts, nat_lt, ltb-true, in_range, all_at, true_is_in_parts, not-true)
 
 -- nothing is refused
 abbrev pub is_clean : Option WireFault → Bool
@@ -232,5 +172,4 @@ is_clean None = true
 is_clean (Some fault) = false
 
 pub clean_is : (o : Option WireFault) → IsTrue (is_clean o) → o ≡ None
-clean_is None h = refl
-clean_is (Some fault) h = absurd (cc)
+clean_is o h = grind arith

@@ -1,7 +1,7 @@
 -- Tests that decide by computing whether a byte is wrong.
-use Rattle.nbd_laws.proofs.Common.{◌≡◌, ℕ, ◌==◌, ◌&&◌, ◌||◌, not, List, [], ◌∷◌, refl, sym, ◌∙◌, ap, subst, Option, Some, None, Bool, true, false, IsTrue, eqb-true, eq-eqb, zero, suc, ◌++◌, take, slice_get, append_assoc, append-nil, ◌≢◌, inl, inr, is_some, eqb-false, Entry, Part, in_part, Differs, GivesByte, Effect, IsWrong, IsWrongIn, IsWrongOf, byte_before, byte_or_start, last_touch, serves, is_in}
+use Rattle.nbd_laws.proofs.Common.{arith, and_parts, ◌≡◌, ℕ, ◌==◌, ◌&&◌, ◌||◌, not, List, [], ◌∷◌, sym, ◌∙◌, ap, subst, Option, Some, None, Bool, true, false, IsTrue, eqb-true, eq-eqb, zero, suc, ◌++◌, take, slice_get, append_assoc, append-nil, inl, inr, eqb-false, Entry, Part, in_part, Differs, GivesByte, Effect, IsWrong, IsWrongIn, IsWrongOf, byte_before, byte_or_start, last_touch, serves, is_in}
 use Rattle.nbd_wire.specs.declared.commands.TheConstants as commands
-use Rattle.nbd_laws.proofs.worked.DecidingLemmas.{all_at, all_in, both, in_range, then_too, was_false}
+use Rattle.nbd_laws.proofs.worked.DecidingLemmas.{all_at, all_in, in_range, then_too}
 
 -- the read gives the known byte
 abbrev pub agrees : (byte read : Option ℕ) → Bool
@@ -10,20 +10,13 @@ agrees (Some b) (Some c) = c == b
 agrees (Some b) None = false
 
 pub true_agrees : (byte read : Option ℕ) (b : ℕ) → IsTrue (agrees byte read) → byte ≡ Some b → (read ≡ Some b → ⊥) → ⊥
-true_agrees None read b h e ne = absurd (cc)
-true_agrees (Some c) (Some d) b h e ne = ne (ap Some (eqb-true d c h) ∙ e)
-true_agrees (Some c) None b h e ne = absurd (cc)
+true_agrees byte read b h e ne = grind (arith, eqb-true)
 
 -- what is told is the known byte, if both are there
 abbrev pub tells_true : (byte told : Option ℕ) → Bool
 tells_true (Some b) (Some c) = c == b
 tells_true (Some b) None = true
 tells_true None told = true
-
-not_belied : (o p : Option ℕ) (b c : ℕ) → tells_true o p ≡ true → o ≡ Some b → p ≡ Some c → b ≢ c → ⊥
-not_belied (Some x) (Some y) b c h q r n = n (let s : x ≡ b = cc in let t : y ≡ c = cc in sym s ∙ sym (eqb-true y x h) ∙ t)
-not_belied (Some x) None b c h q r n = absurd (cc)
-not_belied None p b c h q r n = absurd (cc)
 
 abbrev pub reads_right : Option Part → (byte : ℕ → Option ℕ) → Option Effect → Bool
 reads_right p byte (Some e) =
@@ -43,35 +36,31 @@ all_right requests initial before (e ∷ order) =
 
 pub right : (p : Option Part) (byte : ℕ → Option ℕ) (o : Option Effect) (e : Effect) (x : ℕ) → IsTrue (reads_right p byte o) → o ≡ Some e → IsWrongIn p e byte x → ⊥
 right p byte None e x h q w = absurd (cc)
-right p byte (Some d) e x h q w = let s : d ≡ e = cc in let w' : IsWrongIn p d byte x = subst (λ y. IsWrongIn p y byte x) (sym s) w in go w'.0 w'.1 (both (is_in d.offset d.length x) (in_part p x) w'.2) w'.3
+right p byte (Some d) e x h q w = let s : d ≡ e = cc in let w' : IsWrongIn p d byte x = subst (λ y. IsWrongIn p y byte x) (sym s) w in go w'.0 w'.1 (and_parts (is_in d.offset d.length x) (in_part p x) w'.2) w'.3
   where
     go : GivesByte d x → d.succeeded ≡ true → IsTrue (is_in d.offset d.length x) × IsTrue (in_part p x) → Differs byte d.read x → ⊥
     go (inl c) well at w =
-        let all = then_too ((d.command == commands.READ) && d.succeeded) _ (both _ _ h).0 (ap (λ b. b && d.succeeded) (eq-eqb d.command commands.READ c) ∙ well) in
+        let all = then_too ((d.command == commands.READ) && d.succeeded) _ (and_parts _ _ h).0 (ap (λ b. b && d.succeeded) (eq-eqb d.command commands.READ c) ∙ well) in
         let r = in_range d.offset d.length x at.0 in
         let here = then_too (in_part p x) (agrees (byte x) (d.read x)) (all_at d.offset d.length (λ x. not (in_part p x) || agrees (byte x) (d.read x)) all x r.0 r.1) at.1 in
         true_agrees (byte x) (d.read x) w.0 here w.1 w.2
     go (inr c) well at w =
-        let all = then_too ((d.command == commands.BLOCK_STATUS) && d.succeeded) _ (both _ _ h).1 (ap (λ b. b && d.succeeded) (eq-eqb d.command commands.BLOCK_STATUS c.0) ∙ well) in
+        let all = then_too ((d.command == commands.BLOCK_STATUS) && d.succeeded) _ (and_parts _ _ h).1 (ap (λ b. b && d.succeeded) (eq-eqb d.command commands.BLOCK_STATUS c.0) ∙ well) in
         let r = in_range d.offset d.length x at.0 in
         let here = then_too (in_part p x) (tells_true (byte x) (d.read x)) (all_at d.offset d.length (λ x. not (in_part p x) || tells_true (byte x) (d.read x)) all x r.0 r.1) at.1 in
-        told (d.read x) refl c.1 here
-      where
-        told : (o : Option ℕ) → d.read x ≡ o → IsTrue (is_some o) → IsTrue (tells_true (byte x) (d.read x)) → ⊥
-        told None e some here = absurd (let z : false ≡ true = some in (cc))
-        told (Some c) e some here = not_belied (byte x) (d.read x) w.0 c here w.1 e (λ s. w.2 (e ∙ ap Some (sym s)))
+        (grind (arith, eqb-true))
 
 none_wrong_after : (requests : ℕ → Option Effect) (initial : ℕ → Option ℕ) (before order : List Entry) → IsTrue (all_right requests initial before order) → (i x : ℕ) (entry : Entry) →
     slice_get order i ≡ Some entry → IsWrongOf requests entry (byte_after requests initial (before ++ take i order)) x → ⊥
 none_wrong_after requests initial before [] h i x entry at w = absurd (cc)
 none_wrong_after requests initial before (e ∷ order) h zero x entry at w =
-    let a = both (reads_right e.part (byte_after requests initial before) (requests e.request)) _ h in
+    let a = and_parts (reads_right e.part (byte_after requests initial before) (requests e.request)) _ h in
     let s : e ≡ entry = cc in
     let w' : IsWrongOf requests e (byte_after requests initial before) x =
     subst (λ l. IsWrongOf requests e (byte_after requests initial l) x) (append-nil before) (subst (λ y. IsWrongOf requests y (byte_after requests initial (before ++ [])) x) (sym s) w) in
     right e.part (byte_after requests initial before) (requests e.request) w'.0 x a.0 w'.1 w'.2
 none_wrong_after requests initial before (e ∷ order) h (suc i) x entry at w =
-    let a = both (reads_right e.part (byte_after requests initial before) (requests e.request)) _ h in
+    let a = and_parts (reads_right e.part (byte_after requests initial before) (requests e.request)) _ h in
     none_wrong_after requests initial (before ++ e ∷ []) order a.1 i x entry at
     (subst (λ l. IsWrongOf requests entry (byte_after requests initial l) x) (sym (append_assoc before (e ∷ []) (take i order))) w)
 
@@ -93,23 +82,6 @@ abbrev pub is_wrong_at : (requests : ℕ → Option Effect) (byte : ℕ → Opti
 is_wrong_at requests byte x (Some entry) = is_wrong_in entry.part byte x (requests entry.request)
 is_wrong_at requests byte x None = false
 
-pub differs : (byte read : ℕ → Option ℕ) (x : ℕ) (o p : Option ℕ) → byte x ≡ o → read x ≡ p → IsTrue (differ o p) → Differs byte read x
-differs byte read x None p e f h = absurd (cc)
-differs byte read x (Some b) (Some c) e f h = (b, e, λ q. eqb-false c b (was_false (c == b) h) (let r : Some c ≡ Some b = sym f ∙ q in cc))
-differs byte read x (Some b) None e f h = (b, e, λ q. (let r : None ≡ Some b = sym f ∙ q in absurd (cc)))
-
 -- a byte that passes this test is wrong
 pub wrong : (requests : ℕ → Option Effect) (order : List Entry) (initial : ℕ → Option ℕ) (i x : ℕ) → IsTrue (is_wrong_at requests (byte_before requests order initial i) x (slice_get order i)) → IsWrong requests order initial i x
-wrong requests order initial i x h = at (slice_get order i) refl h
-  where
-    go : (entry : Entry) (o : Option Effect) → requests entry.request ≡ o → IsTrue (is_wrong_in entry.part (byte_before requests order initial i) x o) → IsWrongOf requests entry (byte_before requests order initial i) x
-    go entry None q h = absurd (cc)
-    go entry (Some e) q h =
-        let a = both (e.command == commands.READ) _ h in
-        let b = both e.succeeded _ a.1 in
-        let c = both (serves entry.part e x) _ b.1 in
-        (e, q, (inl (eqb-true e.command commands.READ a.0), b.0, c.0, differs (byte_before requests order initial i) e.read x _ _ refl refl c.1))
-
-    at : (o : Option Entry) → slice_get order i ≡ o → IsTrue (is_wrong_at requests (byte_before requests order initial i) x o) → IsWrong requests order initial i x
-    at None q h = absurd (cc)
-    at (Some entry) q h = (entry, q, go entry (requests entry.request) refl h)
+wrong requests order initial i x h = grind (arith, and_parts, eqb-true, eqb-false)

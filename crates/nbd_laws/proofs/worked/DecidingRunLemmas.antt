@@ -1,8 +1,8 @@
 -- Tests that decide by computing whether items are a run.
-use Rattle.nbd_laws.proofs.Common.{◌≡◌, ◌&&◌, not, nat_le, nat_lt, List, [], ◌∷◌, ◌++◌, length, Bool, true, false, IsTrue, flat_map, leb-true, ltb-true, Side, Client, Server, Message, Greeting, ClientFlags, Choice, Answer, Exported, Request, Simple, Chunk, Item, Byte, Starts, Completes, Serves, IsTight, MayFollow, block, of_side, has, Allows, IsRunOf, MayComplete, Obeys, after, inside_at, same_side, side, Profile, Base, ended_messages, Core, Phase, State, Greet, Flags, Choosing, Naming, Aborting, Answering, Transmission, start, start_of, target, is_proper_option, takes_contexts, abort_fault, answer_fault, answer_head_fault, answer_last_fault, client_flags_fault, export_fault, greeting_fault, cookie_fault, request_fault}
+use Rattle.nbd_laws.proofs.Common.{arith, and_parts, ◌≡◌, ◌&&◌, not, nat_le, nat_lt, List, [], ◌∷◌, ◌++◌, length, Bool, true, false, IsTrue, flat_map, leb-true, ltb-true, Side, Client, Server, Message, Greeting, ClientFlags, Choice, Answer, Exported, Request, Simple, Chunk, Item, Byte, Starts, Completes, Serves, IsTight, block, of_side, has, Allows, IsRunOf, MayComplete, Obeys, after, inside_at, same_side, side, Profile, Base, ended_messages, Core, Phase, State, Greet, Flags, Choosing, Naming, Aborting, Answering, Transmission, start, start_of, target, is_proper_option, takes_contexts, abort_fault, answer_fault, answer_head_fault, answer_last_fault, client_flags_fault, export_fault, greeting_fault, cookie_fault, request_fault}
 use Rattle.nbd_wire.specs.declared.handshake.TheConstants as handshake
 use Rattle.nbd_wire.specs.declared.options.TheConstants as options
-use Rattle.nbd_laws.proofs.worked.DecidingLemmas.{was_false, are_equal, both, clean_is, equal_bools, is_clean, is_fresh, is_sendable, is_served_for, may_start_in, same_sides, sendable, serves_end, serves_start, starts_in, true_is_fresh}
+use Rattle.nbd_laws.proofs.worked.DecidingLemmas.{clean_is, equal_bools, is_clean, is_fresh, is_sendable, is_served_for, may_start_in, same_sides, sendable, serves_end, serves_start, starts_in, true_is_fresh}
 use Rattle.nbd_laws.proofs.worked.DecidingReplyLemmas.{answers_one, answers_target}
 
 abbrev pub may_complete : Core → Phase → Message → Bool
@@ -22,21 +22,7 @@ may_complete core phase m = false
 
 pub completes : (core : Core) (phase : Phase) (m : Message) → IsTrue (may_complete core phase m) → MayComplete core phase m
 unfolding MayComplete
-completes core Greet (Greeting flags) h = clean_is _ h
-completes core Flags (ClientFlags flags) h = clean_is _ h
-completes core Choosing (Choice id payload) h = tt
-completes core Naming (Exported size flags padded) h =
-    let b = both (equal_bools padded (not (has core.client_flags handshake.C_NO_ZEROES))) _ h in
-    (are_equal padded (not (has core.client_flags handshake.C_NO_ZEROES)) b.0, clean_is _ b.1)
-completes core Aborting (Answer option kind payload) h = clean_is _ h
-completes core (Answering asked given info) (Answer option kind payload) h = let a = both (is_clean (answer_head_fault core.profile asked _ _ info option kind (length payload))) _ h in (clean_is _ a.0, clean_is _ a.1)
-completes core (Transmission export) (Request flags command cookie offset len payload) h =
-    let a = both (is_clean (request_fault command offset len)) _ h in
-    let b = both (is_clean (cookie_fault command (target cookie core.entries))) (not core.extended) a.1 in
-    (clean_is _ a.0, clean_is _ b.0, was_false core.extended b.1)
-completes core (Transmission export) (Simple error cookie payload) h = answers_one core export cookie (Simple error cookie payload) h
-completes core (Transmission export) (Chunk flags kind cookie payload) h = answers_one core export cookie (Chunk flags kind cookie payload) h
-completes core phase m h = absurd (cc)
+completes core phase m h = grind (arith, clean_is, and_parts, answers_one)
 
 abbrev pub allows : State → Item → Bool
 allows state (Byte s b) = true
@@ -48,17 +34,14 @@ allows state (Serves e) =
 pub true_allows : (state : State) (item : Item) → IsTrue (allows state item) → Allows state item
 true_allows state (Byte s b) h = tt
 true_allows state (Starts s m) h =
-    let a = both (same_side (side m) s) _ h in
-    let b = both (is_sendable m) _ a.1 in
-    let c = both (may_start_in state.core.phase state.core s m) (is_served_for state m) b.1 in
+    let a = and_parts (same_side (side m) s) _ h in
+    let b = and_parts (is_sendable m) _ a.1 in
+    let c = and_parts (may_start_in state.core.phase state.core s m) (is_served_for state m) b.1 in
     (same_sides (side m) s a.0, sendable m b.0, starts_in state.core.phase state.core s m c.0, serves_start state s m c.1)
 true_allows state (Completes s m) h =
-    let a = both (may_complete state.core state.core.phase m) (is_served_for state m) h in
+    let a = and_parts (may_complete state.core state.core.phase m) (is_served_for state m) h in
     (completes state.core state.core.phase m a.0, serves_end state s m a.1)
-true_allows state (Serves e) h =
-    let a = both (nat_lt 0 e.request) _ h in
-    let b = both (nat_le e.request (length state.core.entries)) _ a.1 in
-    (ltb-true 0 e.request a.0, leb-true e.request (length state.core.entries) b.0, true_is_fresh (inside_at state.core e.request) state.served e b.1)
+true_allows state item h = grind (arith, and_parts, same_sides, sendable, starts_in, serves_start, completes, serves_end, nat_lt, nat_le, ltb-true, leb-true, true_is_fresh, inside_at)
 
 -- each item passes the test where it stands
 abbrev pub obeys : State → List Item → Bool
@@ -67,7 +50,7 @@ obeys state (item ∷ items) = allows state item && obeys (after state item) ite
 
 pub true_obeys : (items : List Item) (state : State) → IsTrue (obeys state items) → Obeys state items
 true_obeys [] state h = tt
-true_obeys (item ∷ items) state h = (let a = both (allows state item) (obeys (after state item) items) h in (true_allows state item a.0, true_obeys items (after state item) a.1))
+true_obeys (item ∷ items) state h = (let a = and_parts (allows state item) (obeys (after state item) items) h in (true_allows state item a.0, true_obeys items (after state item) a.1))
 
 abbrev pub is_byte_of : Side → Item → Bool
 is_byte_of s (Byte t b) = same_side s t
@@ -80,24 +63,13 @@ may_follow (Completes s m) (Completes t n) = false
 may_follow (Serves k) (Completes t m) = false
 may_follow item next = true
 
-pub follows_it : (item next : Item) → IsTrue (may_follow item next) → MayFollow item next
-follows_it (Starts s m) (Byte t b) h = same_sides s t h
-follows_it (Starts s m) (Starts t n) h = absurd (cc)
-follows_it (Byte s b) (Completes t m) h = same_sides s t h
-follows_it (Completes s m) (Completes t n) h = absurd (cc)
-follows_it (Serves k) (Completes t m) h = absurd (cc)
-follows_it (Byte s b) next h = tt
-follows_it (Completes s m) next h = tt
-follows_it (Serves k) next h = tt
-follows_it item next h = absurd (cc)
-
 abbrev pub is_tight : List Item → Bool
 is_tight [] = true
 is_tight (item ∷ []) = true
 is_tight (item ∷ next ∷ items) = may_follow item next && is_tight (next ∷ items)
 
 pub tight : (items : List Item) → IsTrue (is_tight items) → IsTight items
-tight (item ∷ next ∷ items) h = (let a = both (may_follow item next) (is_tight (next ∷ items)) h in (follows_it item next a.0, tight (next ∷ items) a.1))
+tight (item ∷ next ∷ items) h = (let a = and_parts (may_follow item next) (is_tight (next ∷ items)) h in ((grind (arith, same_sides)), tight (next ∷ items) a.1))
 tight items h = tt
 
 -- items that pass the tests are a run of the profile

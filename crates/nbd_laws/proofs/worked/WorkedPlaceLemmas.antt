@@ -1,8 +1,7 @@
 -- Captures whose bytes the reader reads up to the last one, which it refuses.
-use Rattle.nbd_laws.proofs.Common.{◌≡◌, ℕ, List, [], ◌∷◌, ◌++◌, take, refl, sym, ◌∙◌, ap, subst, Option, Some, None, Result, Ok, Err, Bool, true, ◌&&◌, nat_lt, ltb-true, WireFault, BadMagic, NotFixedNewstyle, BadClientFlags, OutOfTurn, OutOfProfile, UnknownCookie, BadDisconnect, IncompleteStatus, Message, Greeting, Client, Server, Profile, Base, Wide, ArePairs, Pair, flat, is_proper_option, next_phase, content_of, context_of, failure_of, queries_of, info_of, is_go, is_listed, status_of, ends_reply, is_failing, is_proper, has, has_only, piece_of, complete, IsPlace, IsPlaceOf, target, hasty_client, Reader, fresh_of, on_ok, reads, step, by_tests, context_messages, opening_messages, status_asked_messages}
+use Rattle.nbd_laws.proofs.Common.{arith, and_parts, ◌≡◌, ℕ, List, [], ◌∷◌, ◌++◌, take, refl, sym, ◌∙◌, ap, subst, Option, Some, None, Result, Ok, Err, Bool, true, ◌&&◌, nat_lt, ltb-true, WireFault, BadMagic, NotFixedNewstyle, BadClientFlags, OutOfTurn, OutOfProfile, UnknownCookie, BadDisconnect, IncompleteStatus, Message, Greeting, Client, Server, Profile, Base, Wide, ArePairs, Pair, flat, is_proper_option, next_phase, content_of, context_of, failure_of, queries_of, info_of, is_go, is_listed, status_of, ends_reply, is_failing, is_proper, has, has_only, piece_of, complete, IsPlace, IsPlaceOf, target, hasty_client, Reader, fresh_of, on_ok, reads, by_tests, context_messages, opening_messages, status_asked_messages}
 use Rattle.nbd_laws.specs.captures.Refused as refused
 use Rattle.nbd_laws.proofs.judge.BlockLemmas.{reads-append}
-use Rattle.nbd_laws.proofs.judge.BoolLemmas.{and_true}
 
 abbrev are_bytes : List Pair → Bool
 are_bytes [] = true
@@ -10,7 +9,7 @@ are_bytes (p ∷ ps) = nat_lt p.byte 256 && are_bytes ps
 
 are_pairs : (ps : List Pair) → are_bytes ps ≡ true → ArePairs ps
 are_pairs [] e = tt
-are_pairs (p ∷ ps) e = let h = and_true (nat_lt p.byte 256) (are_bytes ps) e in (ltb-true p.byte 256 h.0, are_pairs ps h.1)
+are_pairs (p ∷ ps) e = let h = and_parts (nat_lt p.byte 256) (are_bytes ps) e in (ltb-true p.byte 256 h.0, are_pairs ps h.1)
 
 -- the messages of what was read
 abbrev messages_in : Result Reader WireFault → Option (List Message)
@@ -21,10 +20,6 @@ worked : (profile : Profile) (prefix : List Pair) (p : Pair) (messages : List Me
     reads by_tests (fresh_of profile) (prefix ++ p ∷ []) ≡ Err fault → IsPlaceOf profile (prefix ++ p ∷ []) messages fault
 worked profile prefix p messages fault some bytes read refused = go (reads by_tests (fresh_of profile) prefix) refl read (sym (reads-append by_tests (fresh_of profile) prefix (p ∷ [])) ∙ refused)
   where
-    err : (r : Result Reader WireFault) → on_ok r (λ next. Ok next) ≡ Err fault → r ≡ Err fault
-    err (Ok next) e = absurd (cc)
-    err (Err f) e = e
-
     go : (o : Result Reader WireFault) → reads by_tests (fresh_of profile) prefix ≡ o → messages_in o ≡ Some messages → on_ok o (λ next. reads by_tests next (p ∷ [])) ≡ Err fault → IsPlaceOf profile (prefix ++ p ∷ []) messages fault
     go (Err f) e m r = absurd (cc)
     go (Ok mid) e m r = record {
@@ -33,7 +28,7 @@ worked profile prefix p messages fault some bytes read refused = go (reads by_te
       last = p;
       parts = refl;
       before = record { are_pairs = are_pairs prefix some; end = mid; reads_it = e; has_messages = (cc) };
-      refused = err (step by_tests mid p.from p.byte) r;
+      refused = grind arith;
     }
 
 at_of : (profile : Profile) (ps : List Pair) (n : ℕ) (p : Pair) (messages : List Message) (fault : WireFault) → take n ps ++ p ∷ [] ≡ ps → are_bytes (take n ps) ≡ true → are_bytes ps ≡ true → messages_in (reads by_tests (fresh_of profile) (take n ps)) ≡ Some messages →
