@@ -1,19 +1,16 @@
 -- The names that the proofs of this crate cite from elsewhere, passed on from one place. Declares nothing.
 pub use Rattle.nbd_laws.proofs.judge.AwaitedLemmas.{decision_of, held_short, in_head, in_payload, reads_below, reads_up_to}
 pub use Rattle.nbd_laws.proofs.judge.BlockLemmas.{GoesOn, extended, judged_at_once, reads-append, with_rest}
-pub use Rattle.nbd_laws.proofs.judge.BoolLemmas.{and_true, not_false, not_true}
 pub use Rattle.nbd_laws.proofs.judge.ExactLemmas.{exact, none_refused}
-pub use Rattle.nbd_laws.proofs.judge.KindLemmas.{kind_content, kind_error, kind_status, no_other, status_read}
-pub use Rattle.nbd_laws.proofs.judge.PhaseLemmas.{IsAppended, Later-appended, Later-disconnected, Later-extended, Later-transmission, Later-turn, target-append}
+pub use Rattle.nbd_laws.proofs.judge.KindLemmas.{failure_kind, kind_content, kind_error, kind_status, no_content, no_other, none_content, status_content, status_read}
+pub use Rattle.nbd_laws.proofs.judge.PhaseLemmas.{IsAppended, Later-appended, Later-disconnected, Later-extended, Later-transmission, Later-turn, find, target-append}
 pub use Rattle.nbd_laws.proofs.judge.SameLemmas.{same_message}
 pub use Rattle.nbd_laws.proofs.judge.SoundLemmas.{kept_later, sound, turn_of_reading}
 pub use Rattle.nbd_laws.proofs.judge.SteadyLemmas.{IsDeciding, IsExtendedOrNot, as_chunk, as_extended, as_neither, as_other, as_simple, begun_true, bytes_are_begun, deciding, entry-append, extended_or_not, is_chunk_reply, is_extended_reply, is_no_extended, is_no_reply, is_simple_reply, long_reply, no_chunk, short_reply}
-pub use Rattle.nbd_laws.proofs.judge.TidyLemmas.{failure_kind, no_content, none_content, status_content}
 pub use Rattle.nbd_laws.proofs.reading.MarkLemmas.{IsRead}
 pub use Rattle.nbd_laws.proofs.reading.ReaderLemmas.{AreHeld, IsFilled-snoc, IsNotBusy, IsSound, IsSoundAt, Kept, Later, Later-trans, Open, Walk, at_once, behind, ended, final, get-put_other, get-put_same, held_more, held_whole, kept, kept_next, loose, middle, none_held, old-empty, old-filled, opening, reached_of, reads_held, same_or_not, serving, some_held, with_byte}
 pub use Rattle.nbd_laws.proofs.requests.ContextLemmas.{asked_at}
 pub use Rattle.nbd_laws.proofs.requests.LaidLemmas.{pieces-snoc}
-pub use Rattle.nbd_laws.proofs.requests.OutstandingLemmas.{find}
 pub use Rattle.nbd_laws.proofs.requests.SoundnessLemmas.{open_target, reports_are_sound}
 pub use Rattle.nbd_laws.proofs.runs.BegunLemmas.{asks_only}
 pub use Rattle.nbd_laws.proofs.runs.BlockLemmas.{marked_is_walk, walk_is_marked}
@@ -112,7 +109,7 @@ pub use Rattle.nbd_wire.specs.protocol.Within.{CompletesExactlyOf, IsOfNoRunOf}
 pub use Rattle.std.proofs.Common.{Bool, Bor, Err, Fits, IfErr, IfOk, IsErrAnd, List, None, Ok, OnErr, OnOk, Option, Result, Some, [], add-one, add_assoc, ap, append-nil, append_assoc, arith, drop, eq-eqb, eqb-true, false, fold, get_or, if◌then◌else◌, inl, inr, is_some, leb-false, leb-true, length, length-append, length-drop, ltb-false, ltb-true, map, min, nat_le, nat_lt, not, refl, rules, slice_get, slice_index_or, slice_set, subst, suc, sym, take, true, w8, zero, zero-add, ℕ, ◌&&◌, ◌++◌, ◌+◌, ◌-◌, ◌<◌, ◌==◌, ◌||◌, ◌∙◌, ◌∷◌, ◌≡◌, ◌≤◌, ◌⊎◌}
 pub use Rattle.std.proofs.Math.ListN.{get_or-map}
 pub use Rattle.std.proofs.Math.Seq.{drop-append_seam, set-append_seam, take-add, take-length}
-pub use Rattle.std.proofs.lemmas.Bool.{and_from, and_parts, false≢true, le-leb, le-ltb, lt-leb, lt-ltb, ne_eqb}
+pub use Rattle.std.proofs.lemmas.Bool.{and_from, and_parts, false≢true, le-leb, le-ltb, lt-leb, lt-ltb, ne_eqb, not-false, not-true}
 pub use Rattle.std.proofs.lemmas.Iterator.{YieldsList-from_slice}
 pub use Rattle.std.proofs.lemmas.Iterator.Search.{all_from_yields_List}
 pub use Rattle.std.proofs.lemmas.List.{append_cancel_left, drop-append-le, length-map, length-take-le, map-append, map-set, take-append-drop, take-append-le}

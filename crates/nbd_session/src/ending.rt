@@ -46,11 +46,7 @@ fn success_fault(error: u32, exchange: &Exchange) -> Option<WireFault>
     ensures { (export : Exporting) (e : Operation) → IsShown export e exchange.now →
         result ≡ simple_last_fault export (Some e) error }
 {
-    if error == 0 && !exchange.asked.proper {
-        Some(WireFault::SuccessOfImproper)
-    } else {
-        None
-    }
+    (error == 0 && !exchange.asked.proper).then_some(WireFault::SuccessOfImproper)
 }
 
 fn are_zeroes(bytes: &[u8]) -> bool

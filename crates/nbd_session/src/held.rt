@@ -251,7 +251,7 @@ impl Held {
         completed
     }
 
-    // Empties what has come of a side, and returns the bytes after the head. After an `Err`, that memory ran out, all is as it was.
+    // Empties a side's bytes, and returns those after the head. After an `Err`, that memory ran out, all is as it was.
     fn take_payload(&mut self, alloc: Global, side: Side) -> Result<Bytes, AllocError>
         ensures payload { IfOk result (λ payload. payload ≡ (incoming_of self.old side).payload) }
         ensures empty { OnOk result (self.new ≡ with_incoming self.old side nothing_come) }

@@ -1,17 +1,16 @@
 -- The names that the proofs of this crate cite from elsewhere, passed on from one place. Declares nothing.
-pub use Rattle.nbd_laws.proofs.judge.AllowLemmas.{ask_allow, extended_ask_allow}
-pub use Rattle.nbd_laws.proofs.judge.BoolLemmas.{and_true, not_true}
+pub use Rattle.nbd_laws.proofs.judge.AllowLemmas.{MayAsk, ask_allow, extended_ask_allow}
 pub use Rattle.nbd_laws.proofs.requests.ContextLemmas.{asked_answered, asked_snoc}
-pub use Rattle.nbd_laws.proofs.requests.GoodLemmas.{status_content}
+pub use Rattle.nbd_laws.proofs.judge.PhaseLemmas.{IsFound, find}
+pub use Rattle.nbd_laws.proofs.judge.KindLemmas.{status_content}
 pub use Rattle.nbd_laws.proofs.requests.LaidLemmas.{pieces-snoc}
-pub use Rattle.nbd_laws.proofs.requests.OutstandingLemmas.{AreDistinct, Free, IsFound, both_true, distinct_complete, find, free_at, not_true_is_false}
+pub use Rattle.nbd_laws.proofs.requests.OutstandingLemmas.{AreDistinct, Free, distinct_complete, free_at}
 pub use Rattle.nbd_laws.proofs.requests.SoundnessLemmas.{InPhase, open_target, proper_range, sound}
 pub use Rattle.nbd_laws.proofs.requests.ZeroLemmas.{none_of_none, zero_part}
 pub use Rattle.nbd_laws.proofs.runs.ProfileLemmas.{complete_with}
 pub use Rattle.nbd_laws.proofs.runs.TraceLemmas.{answered_by-within, length-complete}
 pub use Rattle.nbd_laws.proofs.service.DueLemmas.{noted_none}
 pub use Rattle.nbd_laws.proofs.service.EntryLemmas.{same_number}
-pub use Rattle.nbd_laws.specs.Allowed.{MayAsk}
 pub use Rattle.nbd_laws.specs.Profiles.{with_profile}
 pub use Rattle.nbd_laws.specs.Reached.{IsReached, after_message, at_start}
 pub use Rattle.nbd_laws.specs.Selecting.{AreAskedWith}
@@ -69,7 +68,7 @@ pub use Rattle.nbd_wire.specs.protocol.Statuses.{are_settled, is_allocation, is_
 pub use Rattle.nbd_wire.specs.protocol.Transmission.{is_apart, is_apart_from, is_none_yet, status_kind}
 pub use Rattle.std.proofs.Common.{Bool, Equal, Err, Greater, IfOk, IsSome, IsTrue, Less, List, MatchBool, None, Ok, OnOk, Option, Result, Some, SomeIff, [], ap, append-nil, append_assoc, arith, drop, eq-eqb, eqb-true, false, get_or, if◌then◌else◌, inl, inr, is_lt, is_some, length, length-append, map, min, nat_le, nat_lt, ne_eqb, not, refl, rules, slice_get, slice_index_or, slice_set, subst, suc, sym, take, true, zero, ℕ, ◌&&◌, ◌++◌, ◌+◌, ◌-◌, ◌<◌, ◌==◌, ◌^◌, ◌||◌, ◌∙◌, ◌∷◌, ◌≡◌, ◌≤◌, ◌⊎◌}
 pub use Rattle.std.proofs.Math.Bool.{and-false, and-true}
-pub use Rattle.std.proofs.lemmas.Bool.{and_parts, cases_order, eqb-false, le-leb, leb-false, leb-true, lt-ltb, ltb-false, ltb-true}
+pub use Rattle.std.proofs.lemmas.Bool.{and_parts, cases_order, eqb-false, le-leb, leb-false, leb-true, lt-ltb, ltb-false, ltb-true, not-true}
 pub use Rattle.std.proofs.lemmas.Bool.Decides.{nat_tests}
 pub use Rattle.std.proofs.lemmas.Cmp.{nat_cmp_total}
 pub use Rattle.std.proofs.lemmas.Grind.{common_steps}

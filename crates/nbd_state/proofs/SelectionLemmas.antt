@@ -1,5 +1,5 @@
 -- Whether contexts were selected.
-use Rattle.nbd_state.proofs.Common.{◌≡◌, ℕ, ◌==◌, ◌&&◌, ◌||◌, List, [], ◌∷◌, length, refl, sym, ◌∙◌, ap, subst, Bool, true, false, not, IsTrue, arith, Option, All-set_contains, is_at, BTreeSet, btree_set_len, contains, list_all, list_any, TellsThese, is_this, nat_cmp, nat_cmp_total, and_true, Context, has_id, are_settled}
+use Rattle.nbd_state.proofs.Common.{and_parts, ◌≡◌, ℕ, ◌==◌, ◌&&◌, ◌||◌, List, [], ◌∷◌, length, refl, sym, ◌∙◌, ap, subst, Bool, true, false, not, IsTrue, arith, Option, All-set_contains, is_at, BTreeSet, btree_set_len, contains, list_all, list_any, TellsThese, is_this, nat_cmp, nat_cmp_total, Context, has_id, are_settled}
 use Rattle.std.proofs.lemmas.Bool.{eq-eqb, eqb-true, ne_eqb}
 use Rattle.nbd_state.proofs.RecordingLemmas.{at-same}
 
@@ -33,7 +33,7 @@ each_settled settled [] id a h = absurd (cc)
 each_settled settled (c ∷ contexts) id a h = go (c.id == id) refl (λ r. each_settled settled contexts id both.1 r)
   where
     both : (settled c.id ≡ true) × (are_settled settled contexts ≡ true)
-    both = and_true (settled c.id) (are_settled settled contexts) a
+    both = and_parts (settled c.id) (are_settled settled contexts) a
 
     go : (b : Bool) → (c.id == id) ≡ b → (has_id contexts id ≡ true → settled id ≡ true) → settled id ≡ true
     go true q later = subst (λ i. settled i ≡ true) (eqb-true c.id id q) both.0
@@ -59,7 +59,7 @@ all_keys test [] i a h = absurd (cc)
 all_keys test (k ∷ keys) i a h = go (i == k) refl (λ r. all_keys test keys i both.1 r)
   where
     both : (test k ≡ true) × (list_all test keys ≡ true)
-    both = and_true (test k) (list_all test keys) a
+    both = and_parts (test k) (list_all test keys) a
 
     go : (b : Bool) → (i == k) ≡ b → (list_any (is_at (nat_cmp i)) keys ≡ true → test i ≡ true) → test i ≡ true
     go true q later = subst (λ j. test j ≡ true) (sym (eqb-true i k q)) both.0

@@ -1,5 +1,5 @@
 -- What a cookie finds once a request or a reply has completed.
-use Rattle.nbd_state.proofs.Common.{◌≡◌, ℕ, zero, suc, ◌+◌, ◌==◌, ◌&&◌, ◌||◌, not, List, [], ◌∷◌, ◌++◌, length, refl, sym, ◌∙◌, ap, subst, Some, None, Bool, true, false, if◌then◌else◌, arith, eqb-true, Message, Operation, ends_reply, is_finished, Core, with_reply_at, operation, is_awaiting, target, target_from, with_reply, IsReached, at_start, after_message, AreDistinct, Free, IsFound, both_true, distinct_complete, find, free_at, not_true_is_false}
+use Rattle.nbd_state.proofs.Common.{and_parts, not-true, ◌≡◌, ℕ, zero, suc, ◌+◌, ◌==◌, ◌&&◌, ◌||◌, not, List, [], ◌∷◌, ◌++◌, length, refl, sym, ◌∙◌, ap, subst, Some, None, Bool, true, false, if◌then◌else◌, arith, eqb-true, Message, Operation, ends_reply, is_finished, Core, with_reply_at, operation, is_awaiting, target, target_from, with_reply, IsReached, at_start, after_message, AreDistinct, Free, IsFound, distinct_complete, find, free_at}
 use Rattle.nbd_state.proofs.ReplyLemmas.{any-snoc}
 
 pub distinct_reached : {core : Core} → IsReached core → AreDistinct core.entries
@@ -85,9 +85,9 @@ ended n cookie (suc (suc k)) m (x ∷ es) e d i c u h = go (is_awaiting cookie x
   where
     go : (b : Bool) → is_awaiting cookie x ≡ b → target_from (suc n) cookie (with_reply_at (suc k) m es) ≡ None → (if b then Some (suc n) else target_from (suc n) cookie (with_reply_at (suc k) m es)) ≡ None
     go true w ih =
-        let p = both_true (x.cookie == cookie) (not (is_finished x)) w in
+        let p = and_parts (x.cookie == cookie) (not (is_finished x)) w in
         let same : x.cookie ≡ cookie = eqb-true x.cookie cookie p.0 in
-        absurd (free_at cookie (suc k) es e (subst (λ j. Free j es) same (d.0 (not_true_is_false (is_finished x) p.1))) i c u)
+        absurd (free_at cookie (suc k) es e (subst (λ j. Free j es) same (d.0 (not-true (is_finished x) p.1))) i c u)
     go false w ih = ih
 
 -- after a reply to the request with this cookie
@@ -99,12 +99,12 @@ target_replied q cookie k m es d t = go (ends_reply m) refl (cookie == q) refl
     f = find cookie es k t
 
     w : ((f.found.cookie == cookie) ≡ true) × (not (is_finished f.found) ≡ true)
-    w = both_true (f.found.cookie == cookie) (not (is_finished f.found)) f.waits
+    w = and_parts (f.found.cookie == cookie) (not (is_finished f.found)) f.waits
 
     same : f.found.cookie ≡ cookie
     same = eqb-true f.found.cookie cookie w.0
 
     go : (b : Bool) → ends_reply m ≡ b → (c : Bool) → (cookie == q) ≡ c → target_from 0 q (with_reply_at k m es) ≡ (if b && c then None else target_from 0 q es)
     go false h c g = going 0 q k m es h
-    go true h true g = subst (λ j. target_from 0 j (with_reply_at k m es) ≡ None) (eqb-true cookie q g) (ended 0 cookie k m es f.found d f.numbered same (not_true_is_false (is_finished f.found) w.1) h)
+    go true h true g = subst (λ j. target_from 0 j (with_reply_at k m es) ≡ None) (eqb-true cookie q g) (ended 0 cookie k m es f.found d f.numbered same (not-true (is_finished f.found) w.1) h)
     go true h false g = elsewhere 0 q k m es f.found f.numbered (ap (λ j. j == q) same ∙ g)

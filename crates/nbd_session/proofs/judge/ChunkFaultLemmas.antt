@@ -1,5 +1,5 @@
 -- What a chunk and the end of its reply are refused for, by the sizes of pieces.
-use Rattle.nbd_session.proofs.Common.{◌≡◌, ◌⊎◌, ℕ, ◌+◌, ◌≤◌, ◌==◌, if◌then◌else◌, eqb-true, List, [], ◌∷◌, ◌++◌, length, min, refl, sym, ◌∙◌, ap, arith, Bool, true, false, not, ◌&&◌, ◌||◌, nat_le, Option, Some, None, fold, subst, inl, inr, add_assoc, zero-add, is_some, Message, Failure, Piece, content_of, failure_of, status_of, number_at, Operation, Exporting, has_failed, is_error_chunk, is_failing, is_proper, pieces, has, piece_size, chunk_piece, with_reply, WireFault, BadChunk, BadContent, option_to_list, Context, Status, chunk_with, chunk_fails, chunk_gives, is_settled, status_in, done_by, elsewhere_fault, finish_by, is_status, lacks_by, chunk_fault_by, fault_if, chunk_fault, content_fault, done_fault, finish_fault, fits_failure, fits_read, fits_status, read_as, status_if, status_kind, total, any-snoc, or-false, proper-same, and_true, kind_content, kind_error, kind_status, no_other, Profile, pieces-snoc, failure_kind, no_content, none_content, status_content}
+use Rattle.nbd_session.proofs.Common.{and_parts, ◌≡◌, ◌⊎◌, ℕ, ◌+◌, ◌≤◌, ◌==◌, if◌then◌else◌, eqb-true, List, [], ◌∷◌, ◌++◌, length, min, refl, sym, ◌∙◌, ap, arith, Bool, true, false, not, ◌&&◌, ◌||◌, nat_le, Option, Some, None, fold, subst, inl, inr, add_assoc, zero-add, is_some, Message, Failure, Piece, content_of, failure_of, status_of, number_at, Operation, Exporting, has_failed, is_error_chunk, is_failing, is_proper, pieces, has, piece_size, chunk_piece, with_reply, WireFault, BadChunk, BadContent, option_to_list, Context, Status, chunk_with, chunk_fails, chunk_gives, is_settled, status_in, done_by, elsewhere_fault, finish_by, is_status, lacks_by, chunk_fault_by, fault_if, chunk_fault, content_fault, done_fault, finish_fault, fits_failure, fits_read, fits_status, read_as, status_if, status_kind, total, any-snoc, or-false, proper-same, kind_content, kind_error, kind_status, no_other, Profile, pieces-snoc, failure_kind, no_content, none_content, status_content}
 use Rattle.std.proofs.Common.{ne_eqb}
 use Rattle.nbd_wire.specs.declared.chunks.TheConstants as chunks
 
@@ -60,7 +60,7 @@ none-chunk at profile export e flags kind cookie payload k =
 content_kind : (kind : ℕ) (payload : List ℕ) (piece : Piece) → content_of kind payload ≡ Some piece → (kind ≡ chunks.OFFSET_DATA) ⊎ (kind ≡ chunks.OFFSET_HOLE)
 unfolding content_of
 content_kind kind payload piece e = pick (kind == 1) (nat_le 9 (length payload)) ((kind == 2) && ((length payload == 12) && not (number_at 8 4 payload == 0))) _ _
-    (λ h. eqb-true kind 1 h) (λ h. eqb-true kind 2 (and_true _ _ h).0) e
+    (λ h. eqb-true kind 1 h) (λ h. eqb-true kind 2 (and_parts _ _ h).0) e
   where
     pick : (a c b : Bool) (x y : Piece) → (a ≡ true → kind ≡ 1) → (b ≡ true → kind ≡ 2) → (if a then (if c then Some x else None) else if b then Some y else None) ≡ Some piece → (kind ≡ 1) ⊎ (kind ≡ 2)
     pick true c b x y l r e = inl (l refl)

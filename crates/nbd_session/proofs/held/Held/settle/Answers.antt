@@ -1,4 +1,4 @@
-use Rattle.nbd_session.proofs.Common.{◌∙◌, ap, sym, subst, None, Some, Held, Wire, with_expected, IsExpecting, IsSame, IsShut, Knows, Stands}
+use Rattle.nbd_session.proofs.Common.{sym, subst, None, Some, IsExpecting, IsSame, Knows, Stands}
 use Rattle.nbd_session.proofs.steps.ConcludeLemmas.{head_missing, head_shut, is_expecting, same_expected}
 use Rattle.nbd_session.proofs.steps.HoldingLemmas.{same_if_expected}
 use Rattle.nbd_session.proofs.steps.SettleLemmas.{same_held}

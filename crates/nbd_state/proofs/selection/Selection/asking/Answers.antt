@@ -1,4 +1,4 @@
-use Rattle.nbd_state.proofs.Common.{ℕ, ◌≡◌, ◌==◌, ◌∙◌, [], Some, ap, false, if◌then◌else◌, length, not, sym, true, ids_of, not_true, Asks, filter_of_head, HasSelection}
+use Rattle.nbd_state.proofs.Common.{not-true, ℕ, ◌≡◌, ◌==◌, ◌∙◌, [], Some, ap, false, if◌then◌else◌, length, not, sym, true, ids_of, Asks, filter_of_head, HasSelection}
 use Rattle.nbd_wire.specs.protocol.Contexts as contexts
 use Rattle.nbd_state.proofs.FilterLemmas.{asks_same, needs_contexts}
 use Rattle.nbd_state.proofs.RecordingLemmas.{weaken}
@@ -15,7 +15,7 @@ returns-in-Some c = weaken c.asking_with.result (λ asking (f : (selection : con
           let cs = selection.contexts in
           let there : cs ≡ (if c.args.in_force then cs else []) = ap (λ b. if b then cs else []) (sym w.if-in_force.true) in
           let some : not (length cs == 0) ≡ has_contexts = sym (w.has_contexts-is ∙ ap not (w.is_empty.ensures selection s)) in
-          let full : (length cs == 0) ≡ false = not_true (length cs == 0) (some ∙ needed) in
+          let full : (length cs == 0) ≡ false = not-true (length cs == 0) (some ∙ needed) in
           asks_same c.args.flags cs _ _ _ c.args.head.now.length asking there (sym is ∙ ap (λ b. filter_of_head b c.args.head.now c.args.payload.now) (sym some ∙ ap (λ l. not (length l == 0)) there)) (f selection c.args.head.now.length s full))
       | else-in_force w ↦ absurd (let q : false ≡ true = sym w.if-in_force.false ∙ sym w.has_contexts-is ∙ needed in cc)
     ])
