@@ -87,7 +87,7 @@ pub use Rattle.std.proofs.Common.{Bool, Bor, Err, IfErr, IfOk, IsErrAnd, IsTrue,
 pub use Rattle.std.proofs.Math.Bool.{and-false, and-true, and_assoc, or-true}
 pub use Rattle.std.proofs.Math.Nat.{mod-lt}
 pub use Rattle.std.proofs.Math.Seq.{take-length}
-pub use Rattle.std.proofs.lemmas.Bool.{and_from, and_parts, cases_eq, cases_lt, le-leb, leb-false, leb-true, lt-ltb, ltb-false, ltb-true, or_cases}
+pub use Rattle.std.proofs.lemmas.Bool.{and_from, and_parts, cases_Bool, cases_eq, cases_lt, le-leb, leb-false, leb-true, lt-ltb, ltb-false, ltb-true, or_cases}
 pub use Rattle.std.proofs.lemmas.Bool.Decides.{nat_tests}
 pub use Rattle.std.proofs.lemmas.Fn.{filter_same}
 pub use Rattle.std.proofs.lemmas.List.{get_or-replicate, length-drop, length-map, length-replicate, length-take-le, take-append-drop, take_all, take_more}

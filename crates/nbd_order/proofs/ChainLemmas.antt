@@ -1,5 +1,5 @@
 -- Starts that know less, and sessions one after another.
-use Rattle.nbd_order.proofs.Common.{arith, take_all, ◌≡◌, ℕ, ◌&&◌, ◌||◌, List, [], ◌∷◌, refl, sym, ap, ◌∙◌, Bool, true, false, Option, Some, None, take, if◌then◌else◌, Entry, Part, start_byte, Effect, byte_before, byte_or_start, effect_byte, effects, last_touch, later, touch_of, touches, Asked, Report, report, is_in, IsFaultless, Passes, ExplainedPasses, PassingIsExplained}
+use Rattle.nbd_order.proofs.Common.{arith, take_all, ◌≡◌, ◌&&◌, ◌||◌, ℕ, List, [], ◌∷◌, refl, sym, ap, ◌∙◌, Bool, true, false, Option, Some, None, take, if◌then◌else◌, Entry, Part, is_in, start_byte, Effect, byte_before, byte_or_start, effects, last_touch, later, touch_of, Asked, Report, report, IsFaultless, Passes, ExplainedPasses, PassingIsExplained}
 use Rattle.std.specs.Prelude.{◌++◌, length}
 use Rattle.nbd_wire.specs.protocol.ExportBytes.{IsWrongOf}
 use Rattle.nbd_wire.specs.protocol.Explains.{IsExplainedOf}
@@ -8,7 +8,8 @@ use Rattle.nbd_laws.specs.Soundness.{ReportsAreSound}
 use Rattle.nbd_judge.proofs.contents.CompareLemmas.{wrong_there}
 use Rattle.nbd_judge.proofs.contents.StartLemmas.{left_same, wrong_more}
 use Rattle.nbd_order.specs.Chains.{ChainsAreOneHistory, ExplainedFromLess, HasNoneWrongInChain, LeavesLess, Link, byte_in_chain, last_served, left_by_chain, served_by_chain, served_of, trim_of, trims}
-use Rattle.nbd_order.specs.Leaving.{are_open_at, is_open, left}
+use Rattle.nbd_order.specs.Leaving.{are_open_at, is_open, is_open_at, left}
+use Rattle.nbd_order.proofs.TouchLemmas.{later_later, later_none}
 
 pub explained_from_less : ReportsAreSound → PassingIsExplained → ExplainedPasses → ExplainedFromLess
 explained_from_less sound passing only profile items order less more is_run fits knows explained =
@@ -19,42 +20,26 @@ explained_from_less sound passing only profile items order less more is_run fits
       reads = λ i x w. p.reads i x (wrong_more (report items) (sound profile items is_run) order (start_byte less) (start_byte more) (λ y b inside e. knows y b inside e) i x w);
     }
 
--- what a change left is known as before, and what stood there at first as far as it was known
-less_touched : (l : Option Effect) (f g : ℕ → Option ℕ) (x b : ℕ) → (f x ≡ Some b → g x ≡ Some b) → byte_or_start l f x ≡ Some b → byte_or_start l g x ≡ Some b
-less_touched None f g x b more e = more e
-less_touched (Some l) f g x b more e = e
-
-less_if : (p : Bool) (u v : Option ℕ) (b : ℕ) → (u ≡ Some b → v ≡ Some b) → (if p then None else u) ≡ Some b → (if p then None else v) ≡ Some b
-less_if true u v b more e = e
-less_if false u v b more e = more e
+-- what was known at first, where nothing made it unknown
+less_left : (p : Bool) (l : Option Effect) (f g : ℕ → Option ℕ) (x b : ℕ) → (f x ≡ Some b → g x ≡ Some b) → (if p then None else byte_or_start l f x) ≡ Some b → (if p then None else byte_or_start l g x) ≡ Some b
+less_left p l f g x b more e = grind arith
 
 pub leaves_less : LeavesLess
-leaves_less r order n less more knows x b inside =
-    let touch = last_touch (effects r) x (take (length order) order) in
-    less_if (are_open_at r.asked x) (byte_or_start touch less x) (byte_or_start touch more x) b (less_touched touch less more x b (knows x b inside))
-
-pub later_assoc : (a b c : Option Effect) → later (later a b) c ≡ later a (later b c)
-later_assoc (Some a) b c = refl
-later_assoc None b c = refl
+leaves_less r order n less more knows x b inside = less_left (are_open_at r.asked x) (last_touch (effects r) x (take (length order) order)) less more x b (knows x b inside)
 
 abbrev Served : Type 0
 Served = List (Option Part × Option Effect)
 
 -- of two lists the last is looked up in the second one first
 last_append : (x : ℕ) (served more : Served) → last_served x (served ++ more) ≡ later (last_served x more) (last_served x served)
-last_append x [] more = none_later (last_served x more)
-  where
-    none_later : (o : Option Effect) → o ≡ later o None
-    none_later None = refl
-    none_later (Some e) = refl
+last_append x [] more = later_none (last_served x more)
 last_append x (one ∷ served) more =
     ap (λ l. later l (touch_of one.0 one.1 x)) (last_append x served more)
-    ∙ later_assoc (last_served x more) (last_served x served) (touch_of one.0 one.1 x)
+    ∙ later_later (last_served x more) (last_served x served) (touch_of one.0 one.1 x)
 
 -- what was left by two lists, one after the other
 pub left_behind : (a b : Option Effect) (initial : ℕ → Option ℕ) (x : ℕ) → byte_or_start a (λ y. byte_or_start b initial y) x ≡ byte_or_start (later a b) initial x
-left_behind (Some a) b initial x = refl
-left_behind None b initial x = refl
+left_behind a b initial x = grind arith
 
 -- the entries of an order touch x as what it serves does
 last_of_order : (requests : ℕ → Option Effect) (x : ℕ) (order : List Entry) → last_touch requests x order ≡ last_served x (served_of requests order)
@@ -64,55 +49,28 @@ last_of_order requests x (entry ∷ order) = ap (λ l. later l (touch_of entry.p
 pub take_whole : (order : List Entry) → take (length order) order ≡ order
 take_whole order = take_all (length order) order (omega arith)
 
--- a touch that is there or not
-touched_if : (l : Option Effect) (p : Bool) (t : Effect) (f : ℕ → Option ℕ) (x : ℕ) → byte_or_start (later l (if p then Some t else None)) f x ≡ (if p then byte_or_start (later l (Some t)) f x else byte_or_start l f x)
-touched_if l true t f x = refl
-touched_if (Some e) false t f x = refl
-touched_if None false t f x = refl
-
--- behind changes that leave an unknown byte nothing is known
-unknown_behind : (l : Option Effect) (t : Effect) (f : ℕ → Option ℕ) (x : ℕ) → byte_or_start l (λ y. None) x ≡ None → effect_byte t x ≡ None → byte_or_start (later l (Some t)) f x ≡ None
-unknown_behind (Some e) t f x l_none t_none = l_none
-unknown_behind None t f x l_none t_none = t_none
-
--- a TRIM of a request touches its range
-trim_touches : (a : Asked) (x : ℕ) → touches None (trim_of a) x ≡ is_in a.offset a.length x
-trim_touches a x = and_true (is_in a.offset a.length x)
+-- one more TRIM, if there is one
+last_trim : (a : Asked) (asked : List Asked) (x : ℕ) (o : Bool) → last_served x (if o then (None, Some (trim_of a)) ∷ trims asked else trims asked) ≡ (if o && is_in a.offset a.length x then later (last_served x (trims asked)) (Some (trim_of a)) else last_served x (trims asked))
+last_trim a asked x false = refl
+last_trim a asked x true = touched (is_in a.offset a.length x) (last_served x (trims asked)) (trim_of a)
   where
-    and_true : (b : Bool) → (b && true) ≡ b
-    and_true true = refl
-    and_true false = refl
-
-one_trim : (a : Asked) (l : Option Effect) (f : ℕ → Option ℕ) (x : ℕ) →
-    byte_or_start (later l (touch_of None (Some (trim_of a)) x)) f x ≡ (if is_in a.offset a.length x then byte_or_start (later l (Some (trim_of a))) f x else byte_or_start l f x)
-one_trim a l f x = touched_if l (touches None (trim_of a) x) (trim_of a) f x
-    ∙ ap (λ p. if p then byte_or_start (later l (Some (trim_of a))) f x else byte_or_start l f x) (trim_touches a x)
-
--- where nothing was known at first, nothing is known behind TRIMs
-trims_leave_none : (asked : List Asked) (x : ℕ) → byte_or_start (last_served x (trims asked)) (λ y. None) x ≡ None
-trims_leave_none [] x = refl
-trims_leave_none (a ∷ asked) x = go (is_open a) (trims_leave_none asked x)
-  where
-    both : (p : Bool) → byte_or_start (last_served x (trims asked)) (λ y. None) x ≡ None → (if p then byte_or_start (later (last_served x (trims asked)) (Some (trim_of a))) (λ y. None) x else byte_or_start (last_served x (trims asked)) (λ y. None) x) ≡ None
-    both true ih = unknown_behind (last_served x (trims asked)) (trim_of a) (λ y. None) x ih refl
-    both false ih = ih
-
-    go : (o : Bool) → byte_or_start (last_served x (trims asked)) (λ y. None) x ≡ None → byte_or_start (last_served x (if o then (None, Some (trim_of a)) ∷ trims asked else trims asked)) (λ y. None) x ≡ None
-    go true ih = one_trim a (last_served x (trims asked)) (λ y. None) x ∙ both (is_in a.offset a.length x) ih
-    go false ih = ih
+    touched : (i : Bool) (l : Option Effect) (t : Effect) → later l (if i && true then Some t else None) ≡ (if i then later l (Some t) else l)
+    touched true l t = refl
+    touched false l t = sym (later_none l)
 
 -- TRIMs of what is open forget it
 trims_forget : (asked : List Asked) (f : ℕ → Option ℕ) (x : ℕ) → byte_or_start (last_served x (trims asked)) f x ≡ (if are_open_at asked x then None else f x)
 trims_forget [] f x = refl
-trims_forget (a ∷ asked) f x = go (is_open a) (trims_forget asked f x)
+trims_forget (a ∷ asked) f x =
+    ap (λ l. byte_or_start l f x) (last_trim a asked x (is_open a))
+    ∙ one_more (is_open_at x a) (last_served x (trims asked)) (are_open_at asked x) (trims_forget asked (λ y. None) x) (trims_forget asked f x)
   where
-    both : (p : Bool) → byte_or_start (last_served x (trims asked)) f x ≡ (if are_open_at asked x then None else f x) → (if p then byte_or_start (later (last_served x (trims asked)) (Some (trim_of a))) f x else byte_or_start (last_served x (trims asked)) f x) ≡ (if p || are_open_at asked x then None else f x)
-    both true ih = unknown_behind (last_served x (trims asked)) (trim_of a) f x (trims_leave_none asked x) refl
-    both false ih = ih
-
-    go : (o : Bool) → byte_or_start (last_served x (trims asked)) f x ≡ (if are_open_at asked x then None else f x) → byte_or_start (last_served x (if o then (None, Some (trim_of a)) ∷ trims asked else trims asked)) f x ≡ (if (o && is_in a.offset a.length x) || are_open_at asked x then None else f x)
-    go true ih = one_trim a (last_served x (trims asked)) f x ∙ both (is_in a.offset a.length x) ih
-    go false ih = ih
+    one_more : (b : Bool) (l : Option Effect) (c : Bool) → byte_or_start l (λ y. None) x ≡ (if c then None else None) → byte_or_start l f x ≡ (if c then None else f x)
+        → byte_or_start (if b then later l (Some (trim_of a)) else l) f x ≡ (if b || c then None else f x)
+    one_more true (Some e) true none same = none
+    one_more true (Some e) false none same = none
+    one_more true None c none same = refl
+    one_more false l c none same = same
 
 -- what a session leaves is what the last of all that it serves does, with its TRIMs
 left_served : (r : Report) (order : List Entry) (initial : ℕ → Option ℕ) (x : ℕ) → left r order initial x ≡ byte_or_start (last_served x (served_of (effects r) order ++ trims r.asked)) initial x

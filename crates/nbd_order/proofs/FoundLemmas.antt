@@ -1,18 +1,13 @@
 -- What is found of a report, and of the runs with that report.
-use Rattle.nbd_order.proofs.Common.{◌≡◌, ℕ, zero, suc, List, [], ◌∷◌, refl, sym, subst, Option, Some, None, All-append, All-cons, All-nil, Profile, Entry, whole, FitsImage, Held, Start, Unknown, Zeroes, Item, Exporting, Report, report, IsRunOf, Passes, answered_count, improper_count, request_count, ExplainedPasses, PassingIsExplained, IsOtherSize, OneVerdict, IsVerdict, Verdict, Yes, Found, GaveUp, NoneWhole, Order, Unexplained, Wanted, Any, Whole, AreWhole, FoundIsSo, IsFound, IsWantedOrder, Says, arrival, RefutedIsUnexplained}
+use Rattle.nbd_order.proofs.Common.{◌≡◌, ℕ, zero, suc, List, [], ◌∷◌, refl, sym, subst, None, All-append, All-cons, All-nil, Profile, Entry, whole, Start, Item, Report, report, IsRunOf, Passes, answered_count, improper_count, request_count, ExplainedPasses, PassingIsExplained, OneVerdict, IsVerdict, Verdict, Yes, Found, GaveUp, NoneWhole, Order, Unexplained, Wanted, Any, Whole, AreWhole, FoundIsSo, IsFound, IsWantedOrder, Says, arrival, RefutedIsUnexplained}
+use Rattle.nbd_judge.proofs.verdicts.SingleLemmas.{fits_not}
 use Rattle.nbd_order.specs.declared.finding.Found.TheVariants.{Image as FoundImage}
-
-other_size_fits : (export : Option Exporting) (initial : Start) (image size : ℕ) → IsOtherSize export initial image size → FitsImage export initial → ⊥
-other_size_fits (Some export) (Held bytes) image size o f = o.2 f
-other_size_fits (Some export) Unknown image size o f = o
-other_size_fits (Some export) Zeroes image size o f = o
-other_size_fits None initial image size o f = o
 
 pub found_is_so : PassingIsExplained → ExplainedPasses → RefutedIsUnexplained → FoundIsSo
 found_is_so passing only refuted profile items initial (Order order) is_run found = passing profile items order.items initial is_run found
 found_is_so passing only refuted profile items initial (Unexplained refutation) is_run found = refuted profile items initial refutation.offset refutation.reads.items is_run found
 found_is_so passing only refuted profile items initial (FoundImage image size) is_run found = λ order explained.
-    other_size_fits (report items).export initial image size found (only profile items order initial is_run explained).fits_image
+    fits_not (report items).export initial image size (only profile items order initial is_run explained).fits_image found
 found_is_so passing only refuted profile items initial NoneWhole is_run found = λ explained.
     found (only profile items (arrival (request_count (report items))) initial is_run explained)
 found_is_so passing only refuted profile items initial (GaveUp request offset reason) is_run found = λ explained.

@@ -1,63 +1,40 @@
 -- What earlier and later requests tell, joined.
-use Rattle.nbd_order.proofs.Common.{◌≡◌, ℕ, refl, sym, ◌∙◌, ap, Option, Some, None, Bool, true, false, ◌||◌, arith}
+use Rattle.nbd_order.proofs.Common.{◌≡◌, ℕ, Option, Bool, ◌||◌, arith}
 use Rattle.std.specs.Prelude.{max, min}
 use Rattle.std.specs.Option.{option_or}
-use Rattle.nbd_order.specs.declared.here.Got.{Got}
 use Rattle.nbd_order.specs.declared.here.Here.{Here}
 use Rattle.nbd_order.specs.internal.Here.{joined, nothing}
 
-made : Bool → Option ℕ → ℕ → ℕ → ℕ → Option Got → Here
-made any last latest second vague read = record { any_open = any; last = last; latest = latest; second = second; vague = vague; read = read }
-
-here_eq : (a b : Here) → a.any_open ≡ b.any_open → a.last ≡ b.last → a.latest ≡ b.latest → a.second ≡ b.second → a.vague ≡ b.vague → a.read ≡ b.read → a ≡ b
-unfolding made
-here_eq a b o l t s v r =
-    ap (λ y. made y a.last a.latest a.second a.vague a.read) o
-    ∙ ap (λ y. made b.any_open y a.latest a.second a.vague a.read) l
-    ∙ ap (λ y. made b.any_open b.last y a.second a.vague a.read) t
-    ∙ ap (λ y. made b.any_open b.last b.latest y a.vague a.read) s
-    ∙ ap (λ y. made b.any_open b.last b.latest b.second y a.read) v
-    ∙ ap (λ y. made b.any_open b.last b.latest b.second b.vague y) r
-
-or_none : (a : Bool) → (a || false) ≡ a
-or_none true = refl
-or_none false = refl
-
-or_assoc : (a b c : Bool) → ((a || b) || c) ≡ (a || (b || c))
-or_assoc true b c = refl
-or_assoc false b c = refl
-
-some_or : {A : Type 0} (a : Option A) → option_or a None ≡ a
-some_or (Some a) = refl
-some_or None = refl
-
-some_assoc : {A : Type 0} (a b c : Option A) → option_or c (option_or b a) ≡ option_or (option_or c b) a
-some_assoc a b (Some c) = refl
-some_assoc a b None = refl
-
 pub joined_nothing : (h : Here) → joined h nothing ≡ h
-joined_nothing h = here_eq (joined h nothing) h (or_none h.any_open) refl (omega arith) (omega arith) (omega arith) refl
+joined_nothing h = grind arith
 
 pub nothing_joined : (h : Here) → joined nothing h ≡ h
-nothing_joined h = here_eq (joined nothing h) h refl (some_or h.last) (omega arith) (omega arith) (omega arith) (some_or h.read)
+nothing_joined h = grind arith
+
+or_assoc : (a b c : Bool) → ((a || b) || c) ≡ (a || (b || c))
+or_assoc a b c = grind arith
+
+some_assoc : {A : Type 0} (a b c : Option A) → option_or c (option_or b a) ≡ option_or (option_or c b) a
+some_assoc a b c = grind arith
 
 -- the next to the greatest of the greatest ones
-between : (a b c : ℕ) → max (min a b) (min (max a b) c) ≡ max (min b c) (min a (max b c))
-between a b c = omega arith
+between : (p q r : ℕ) → max (min p q) (min (max p q) r) ≡ max (min q r) (min p (max q r))
+between p q r = omega arith
 
-max_assoc : (a b c : ℕ) → max (max a b) c ≡ max a (max b c)
-max_assoc a b c = omega arith
+sorted : (a b c m n : ℕ) → max (max (max (max a b) m) c) n ≡ max (max (max a b) c) (max m n)
+sorted a b c m n = omega arith
 
-max_swap : (a b c : ℕ) → max (max a b) c ≡ max (max a c) b
-max_swap a b c = omega arith
-
-regroup : (a b c m n p q : ℕ) → max m n ≡ max p q → max (max (max (max a b) m) c) n ≡ max (max a (max (max b c) p)) q
-regroup a b c m n p q e =
-    ap (λ y. max y n) (max_swap (max a b) m c) ∙ max_assoc (max (max a b) c) m n ∙ ap (max (max (max a b) c)) e ∙ sym (max_assoc (max (max a b) c) p q)
-    ∙ ap (λ y. max y q) (ap (λ y. max y p) (max_assoc a b c) ∙ max_assoc a (max b c) p)
+resorted : (a b c m n : ℕ) → max (max a (max (max b c) m)) n ≡ max (max (max a b) c) (max m n)
+resorted a b c m n = omega arith
 
 pub joined_assoc : (a b c : Here) → joined (joined a b) c ≡ joined a (joined b c)
 joined_assoc a b c =
-    here_eq (joined (joined a b) c) (joined a (joined b c)) (or_assoc a.any_open b.any_open c.any_open) (some_assoc a.last b.last c.last) (omega arith)
-    (regroup a.second b.second c.second (min a.latest b.latest) (min (max a.latest b.latest) c.latest) (min b.latest c.latest) (min a.latest (max b.latest c.latest)) (between a.latest b.latest c.latest))
-    (omega arith) (some_assoc a.read b.read c.read)
+    let any_open = or_assoc a.any_open b.any_open c.any_open in
+    let last = some_assoc a.last b.last c.last in
+    let latest : max (max a.latest b.latest) c.latest ≡ max a.latest (max b.latest c.latest) = omega arith in
+    let next = between a.latest b.latest c.latest in
+    let sorted_so = sorted a.second b.second c.second (min a.latest b.latest) (min (max a.latest b.latest) c.latest) in
+    let resorted_so = resorted a.second b.second c.second (min b.latest c.latest) (min a.latest (max b.latest c.latest)) in
+    let vague : max (max a.vague b.vague) c.vague ≡ max a.vague (max b.vague c.vague) = omega arith in
+    let read = some_assoc a.read b.read c.read in
+    cc

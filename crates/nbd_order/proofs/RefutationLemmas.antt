@@ -1,5 +1,5 @@
 -- Where there is a refutation, each order has a fault or a wrong byte of one of its READs.
-use Rattle.nbd_order.proofs.Common.{◌≡◌, ℕ, zero, suc, ◌<◌, ◌≤◌, inl, inr, List, [], ◌∷◌, length, refl, sym, ◌∙◌, ap, subst, Option, Some, None, Bool, true, false, ◌&&◌, ◌||◌, ◌==◌, if◌then◌else◌, arith, slice_get, take, IsTrue, take-length, and_from, and_parts, both_ways, cases_Bool, eqb-true, false_from_ne_true, or_cases, or_from, or_left, or_right, slice_get_cases, Entry, Part, Profile, in_part, is_served, Differs, Effect, IsWrong, IsWrongIn, byte_before, effect_byte, effects, serves, touch_of, touches, GivesByte, Exporting, is_change, is_in, Report, asked_at, due_in, IsFaultless, ExplainedPasses, State, AreRising, IsRefutedBy, RefutedIsUnexplained, has, Fits, IsChange, IsHeld, IsRefutation, Leads, is_kept}
+use Rattle.nbd_order.proofs.Common.{◌≡◌, ℕ, zero, suc, ◌<◌, ◌≤◌, inl, inr, List, length, refl, sym, ◌∙◌, ap, subst, Option, Some, None, Bool, true, false, ◌&&◌, ◌||◌, ◌==◌, arith, slice_get, take, IsTrue, take-length, and_from, and_parts, both_ways, cases_Bool, eqb-true, false_from_ne_true, or_cases, or_from, or_left, or_right, slice_get_cases, Entry, Part, Profile, in_part, is_served, Effect, IsWrong, byte_before, effect_byte, effects, touch_of, touches, GivesByte, Exporting, is_change, is_in, Report, asked_at, due_in, IsFaultless, ExplainedPasses, State, AreRising, IsRefutedBy, RefutedIsUnexplained, has, Fits, IsChange, IsHeld, IsRefutation, Leads, is_kept}
 use Rattle.nbd_order.proofs.ServiceLemmas.{in_range, is_inside, is_reached, not_served_before, served_before, served_once}
 use Rattle.nbd_order.proofs.TouchLemmas.{byte_more, served_more}
 
@@ -18,61 +18,23 @@ abbrev pub IsRight : Report → (ℕ → Option ℕ) → (x : ℕ) → List ℕ 
 IsRight r initial x reads order = (i : ℕ) (e : Entry) → slice_get order i ≡ Some e → has reads e.request ≡ true → IsWrong (effects r) order initial i x → ⊥
 
 or_none : (a b : Bool) → b ≡ false → a ≡ (a || b)
-or_none true b q = refl
-or_none false b q = sym q
+or_none a b q = grind arith
 
-and_all : (a b : Bool) → b ≡ true → a ≡ (a && b)
-and_all true b q = sym q
-and_all false b q = refl
+-- an entry that touches x serves it, and its request changes x; and the other way round
+touch_parts : (p : Option Part) (o : Option Effect) (x : ℕ) (e : Effect) → touch_of p o x ≡ Some e → (o ≡ Some e) × IsTrue (touches None e x) × (in_part p x ≡ true)
+touch_parts p None x e h = absurd (cc)
+touch_parts p (Some d) x e h = (grind arith, grind arith, grind arith)
 
-none_served : (es : List Entry) (k x : ℕ) → is_served (take zero es) k x ≡ false
-none_served [] k x = refl
-none_served (e ∷ es) k x = refl
-
-byte_at_first : (requests : ℕ → Option Effect) (es : List Entry) (initial : ℕ → Option ℕ) (x : ℕ) → initial x ≡ byte_before requests es initial zero x
-byte_at_first requests [] initial x = refl
-byte_at_first requests (e ∷ es) initial x = refl
-
--- a change that has x in its range is touched there by an entry that serves x
-touched : (p : Option Part) (e : Effect) (x : ℕ) → IsTrue (touches None e x) → in_part p x ≡ true → touches p e x ≡ true
-touched p e x t here =
-    let one = and_parts (is_change e.command) (is_in e.offset e.length x && true) t in
-    let two = and_parts (is_in e.offset e.length x) true one.1 in
-    and_from (is_change e.command) (serves p e x) one.0 (and_from (is_in e.offset e.length x) (in_part p x) two.0 here)
-
-touches_in : (p : Option Part) (e : Effect) (x : ℕ) → touches p e x ≡ true → IsTrue (touches None e x) × (in_part p x ≡ true)
-touches_in p e x t =
-    let one = and_parts (is_change e.command) (serves p e x) t in
-    let two = and_parts (is_in e.offset e.length x) (in_part p x) one.1 in
-    (and_from (is_change e.command) (is_in e.offset e.length x && true) one.0 (and_from (is_in e.offset e.length x) true two.0 refl), two.1)
-
-touch_is : (p : Option Part) (o : Option Effect) (x : ℕ) (e : Effect) → touch_of p o x ≡ Some e → (o ≡ Some e) × (touches p e x ≡ true)
-touch_is p None x e h = absurd (cc)
-touch_is p (Some d) x e h = go (touches p d x) refl h
-  where
-    go : (b : Bool) → touches p d x ≡ b → (if b then Some d else None) ≡ Some e → (Some d ≡ Some e) × (touches p e x ≡ true)
-    go true t q = (q, (let s : d ≡ e = cc in ap (λ f. touches p f x) (sym s) ∙ t))
-    go false t q = absurd (let s : None ≡ Some e = q in (cc))
-
-touch_some : (p : Option Part) (o : Option Effect) (x : ℕ) (e : Effect) → o ≡ Some e → touches p e x ≡ true → touch_of p o x ≡ Some e
-touch_some p o x e is t = ap (λ d. touch_of p d x) is ∙ ap (λ b. if b then Some e else None) t
-
-touch_none : (p : Option Part) (o : Option Effect) (x : ℕ) (e : Effect) → o ≡ Some e → is_change e.command ≡ false → touch_of p o x ≡ None
-touch_none p o x e is none =
-    ap (λ d. touch_of p d x) is ∙ ap (λ b. if b && serves p e x then Some e else None) none
+touch_some : (p : Option Part) (o : Option Effect) (x : ℕ) (e : Effect) → o ≡ Some e → IsTrue (touches None e x) → in_part p x ≡ true → touch_of p o x ≡ Some e
+touch_some p o x e is t here = grind arith
 
 -- what gives a byte changes none
 changes_nothing : (e : Effect) (x : ℕ) → GivesByte e x → is_change e.command ≡ false
 changes_nothing e x (inl q) = ap is_change q
 changes_nothing e x (inr q) = ap is_change q.0
 
--- and gives a wrong one where the known byte is another
-given_wrong : (p : Option Part) (e : Effect) (byte : ℕ → Option ℕ) (x : ℕ) → GivesByte e x → e.succeeded ≡ true → IsTrue (serves p e x) → Differs (λ y. byte x) e.read x
-    → IsWrongIn p e byte x
-given_wrong p e byte x gives well here d = (gives, well, here, d)
-
-same_effect : (o : Option Effect) (d e : Effect) → o ≡ Some d → o ≡ Some e → d ≡ e
-same_effect o d e p q = cc
+touch_none : (p : Option Part) (o : Option Effect) (x : ℕ) (e : Effect) → o ≡ Some e → GivesByte e x → touch_of p o x ≡ None
+touch_none p o x e is gives = (let none = changes_nothing e x gives in grind arith)
 
 module _ (profile : Profile) (r : Report) (initial : ℕ → Option ℕ) (x : ℕ) (reads changes : List ℕ) (states : List State) (s : IsRefutation profile r initial x reads changes states)
     (order : List Entry) (whole : IsFaultless profile r order) where
@@ -93,16 +55,13 @@ module _ (profile : Profile) (r : Report) (initial : ℕ → Option ℕ) (x : �
   ]
 
   -- no READ of the refutation changes the byte
-  read_is_no_change : (k : ℕ) → has reads k ≡ true → (e : Effect) → IsChange r k x e → ⊥
-  read_is_no_change k h e c =
-      let read = (s.are_reads k h).gave in
-      let same : read.read ≡ e = same_effect (effects r k) read.read e read.is_request c.0 in
-      let parts = and_parts (is_change e.command) (serves None e x) c.1 in
-      let none : is_change e.command ≡ false = ap (λ (f : Effect). is_change f.command) (sym same) ∙ changes_nothing read.read x read.is_read in
-      both_ways (is_change e.command) none parts.0
-
   not_both : (k : ℕ) → has reads k ≡ true → has changes k ≡ true → ⊥
-  not_both k h g = (let c = s.are_changes k g in read_is_no_change k h c.0 c.1)
+  not_both k h g =
+      let read = (s.are_reads k h).gave in
+      let c = s.are_changes k g in
+      let same : read.read ≡ c.0 = cc (read.is_request, c.1.0) in
+      let none = changes_nothing read.read x read.is_read in
+      grind (arith, c.1.1, ap (λ (f : Effect). is_change f.command) same)
 
   -- what of the refutation is served before entry i stands in the state
   in_state : (i p : ℕ) (h : Holds profile r initial x reads changes states order i) → is_kept reads changes p ≡ true → is_served (take i order) p x ≡ true → has h.state.served.items p ≡ true
@@ -129,8 +88,7 @@ module _ (profile : Profile) (r : Report) (initial : ℕ → Option ℕ) (x : �
     place = h.place;
     state = h.state;
     is_state = h.is_state;
-    changed = λ c q.
-        h.changed c q ∙ or_none (is_served (take i order) c x) ((d.request == c) && in_part d.part x) (none c q) ∙ sym (served_more order i d c x at);
+    changed = λ c q. h.changed c q ∙ or_none (is_served (take i order) c x) _ (none c q) ∙ sym (served_more order i d c x at);
     read = λ k q t. elim (or_cases (is_served (take i order) k x) ((d.request == k) && in_part d.part x) (sym (served_more order i d k x at) ∙ t)) [
       | inl u ↦ h.read k q u
       | inr u ↦ known k q u
@@ -146,17 +104,14 @@ module _ (profile : Profile) (r : Report) (initial : ℕ → Option ℕ) (x : �
     place = j;
     state = t;
     is_state = is;
-    changed = λ c q.
-        leads.0.0 c q ∙ ap (λ b. b || (d.request == c)) (h.changed c q)
-        ∙ ap (λ b. is_served (take i order) c x || b) (and_all (d.request == c) (in_part d.part x) here) ∙ sym (served_more order i d c x at);
+    changed = λ c q. grind (arith, leads.0.0 c q, h.changed c q, here, served_more order i d c x at);
     read = λ k q u. elim (or_cases (is_served (take i order) k x) ((d.request == k) && in_part d.part x) (sym (served_more order i d k x at) ∙ u)) [
       | inl v ↦ leads.0.1 k q (h.read k q v)
       | inr v ↦ absurd (not_both k q (subst (λ n. has changes n ≡ true) (eqb-true d.request k (and_parts (d.request == k) (in_part d.part x) v).0) kept))
     ];
     fits =
         let c = s.are_changes d.request kept in
-        let touch : touch_of d.part (effects r d.request) x ≡ Some c.0 =
-        touch_some d.part (effects r d.request) x c.0 c.1.0 (touched d.part c.0 x c.1.1 here) in
+        let touch = touch_some d.part (effects r d.request) x c.0 c.1.0 c.1.1 here in
         subst (λ b. Fits profile r x reads changes t.served.items b) (sym (byte_more (effects r) x order initial i d (Some c.0) at touch)) (leads.1 c.0 c.1.0);
   }
 
@@ -173,8 +128,7 @@ module _ (profile : Profile) (r : Report) (initial : ℕ → Option ℕ) (x : �
       → has h.state.served.items d.request ≡ true → Holds profile r initial x reads changes states order (suc i)
   known_read i d h at kept known =
       let k = (s.are_reads d.request kept).gave in
-      let touch : touch_of d.part (effects r d.request) x ≡ None =
-      touch_none d.part (effects r d.request) x k.read k.is_request (changes_nothing k.read x k.is_read) in
+      let touch = touch_none d.part (effects r d.request) x k.read k.is_request k.is_read in
       stays i d h at
       (λ c q. false_from_ne_true ((d.request == c) && in_part d.part x) λ v.
       not_both d.request kept (subst (λ n. has changes n ≡ true) (sym (eqb-true d.request c (and_parts (d.request == c) (in_part d.part x) v).0)) q))
@@ -195,8 +149,7 @@ module _ (profile : Profile) (r : Report) (initial : ℕ → Option ℕ) (x : �
           (
             k.read,
             k.is_request,
-            given_wrong d.part k.read (byte_before (effects r) order initial i) x k.is_read k.succeeded
-                (and_from (is_in k.read.offset k.read.length x) (in_part d.part x) lies here) (o k.read k.is_request),
+            (k.is_read, k.succeeded, and_from (is_in k.read.offset k.read.length x) (in_part d.part x) lies here, o k.read k.is_request),
           ),
         ))
   ]
@@ -238,12 +191,11 @@ module _ (profile : Profile) (r : Report) (initial : ℕ → Option ℕ) (x : �
           → Fits profile r x reads changes h.state.served.items (byte_before (effects r) order initial (suc i) x)
       go None touch = subst (λ b. Fits profile r x reads changes h.state.served.items b) (sym (byte_more (effects r) x order initial i d None at touch)) h.fits
       go (Some e) touch =
-          let t = touch_is d.part (effects r d.request) x e touch in
-          let parts = touches_in d.part e x t.1 in
+          let t = touch_parts d.part (effects r d.request) x e touch in
           let unkept : has changes d.request ≡ false =
-          false_from_ne_true (has changes d.request) (λ q. other (or_right (has reads d.request) (has changes d.request) q) parts.1) in
+          false_from_ne_true (has changes d.request) (λ q. other (or_right (has reads d.request) (has changes d.request) q) t.2) in
           subst (λ b. Fits profile r x reads changes h.state.served.items b) (sym (byte_more (effects r) x order initial i d (Some e) at touch))
-          (fits_other i d h at parts.1 e (t.0, parts.0) unkept)
+          (fits_other i d h at t.2 e (t.0, t.1) unkept)
 
   step : (i : ℕ) (d : Entry) → IsRight r initial x reads order → Holds profile r initial x reads changes states order i → slice_get order i ≡ Some d
       → Holds profile r initial x reads changes states order (suc i)
@@ -265,9 +217,9 @@ module _ (profile : Profile) (r : Report) (initial : ℕ → Option ℕ) (x : �
         place = b.0;
         state = b.1;
         is_state = b.2;
-        changed = λ c q. b.3.0 c q ∙ sym (none_served order c x);
-        read = λ k q t. absurd (both_ways (is_served (take zero order) k x) (none_served order k x) t);
-        fits = subst (λ o. Fits profile r x reads changes b.1.served.items o) (byte_at_first (effects r) order initial x) b.3.1;
+        changed = b.3.0;
+        read = λ k q t. absurd (cc);
+        fits = b.3.1;
       }
   at_each right (suc i) l = elim (slice_get_cases order i).1 [
     | inl e ↦ step i e.0 right (at_each right i (omega arith)) e.2

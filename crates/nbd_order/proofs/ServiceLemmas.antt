@@ -1,61 +1,35 @@
 -- What an order without a fault serves, and in which order.
-use Rattle.nbd_order.proofs.Common.{◌≡◌, ℕ, zero, suc, ◌<◌, ◌≤◌, inl, inr, List, length, refl, sym, ◌∙◌, ap, subst, Option, Some, None, Bool, true, false, not, ◌&&◌, ◌||◌, ◌==◌, nat_lt, arith, slice_get, take, IsTrue, and_from, and_parts, cases_lt, eqb-true, false_from_ne_true, lt-ltb, ltb-true, slice_get_within, Entry, Part, Profile, IsAgain, IsMisplaced, in_part, is_served, Effect, effect, effect_if, effects, touches, Exporting, has_range, is_change, is_in, Asked, Report, asked_at, inside_asked, due_in, inside_in, IsFaultless, IsBefore}
+use Rattle.nbd_order.proofs.Common.{◌≡◌, ℕ, zero, suc, ◌<◌, ◌≤◌, inl, inr, List, length, refl, sym, ◌∙◌, ap, subst, Option, Some, None, true, false, not, ◌==◌, nat_lt, arith, slice_get, take, IsTrue, cases_lt, eqb-true, false_from_ne_true, lt-ltb, size_of, slice_get_cases, Entry, Part, Profile, IsAgain, IsMisplaced, in_part, is_served, Effect, effect, effect_if, effects, touches, Exporting, has_range, is_change, is_in, Asked, Report, asked_at, inside_asked, due_in, inside_in, IsFaultless, IsBefore}
 use Rattle.nbd_wire.specs.declared.commands.TheConstants as commands
-use Rattle.nbd_order.proofs.OffsetLemmas.{open_to}
+use Rattle.nbd_order.proofs.OffsetLemmas.{lies_inside}
 use Rattle.nbd_order.proofs.TouchLemmas.{from_taken, is_served_by, is_served_from, names_by, served_at, taken}
 
--- a change has a range
-ranged : (command : ℕ) → is_change command ≡ true → has_range command ≡ true
-ranged command h = go (command == commands.READ) (command == commands.WRITE) (command == commands.TRIM) (command == commands.CACHE) (command == commands.WRITE_ZEROES) (command == commands.BLOCK_STATUS) h
-  where
-    go : (a b c d e f : Bool) → (b || c || e) ≡ true → (a || b || c || d || e || f) ≡ true
-    go true b c d e f h = refl
-    go false true c d e f h = refl
-    go false false true d e f h = refl
-    go false false false true e f h = refl
-    go false false false false true f h = refl
-    go false false false false false f h = absurd (cc)
-
--- and is no BLOCK_STATUS
-not_status : (command : ℕ) → is_change command ≡ true → (command == commands.BLOCK_STATUS) ≡ false
-not_status command h = go (command == commands.BLOCK_STATUS) refl
-  where
-    go : (b : Bool) → (command == commands.BLOCK_STATUS) ≡ b → (command == commands.BLOCK_STATUS) ≡ false
-    go true q = absurd (let w : true ≡ false = sym h ∙ ap is_change (eqb-true command commands.BLOCK_STATUS q) in cc)
-    go false q = q
+-- a change has a range, and is no BLOCK_STATUS
+pub change_ranged : (command : ℕ) → is_change command ≡ true → (has_range command ≡ true) × (not (command == commands.BLOCK_STATUS) ≡ true)
+change_ranged command h = (grind arith, grind (arith, eqb-true))
 
 pub in_range : (export : Option Exporting) (o : Option Asked) (e : Effect) (x : ℕ) → effect_if o ≡ Some e → IsTrue (inside_asked export o x)
     → IsTrue (is_in e.offset e.length x) × ((s : Exporting) × (export ≡ Some s) × (x < s.size))
 in_range export None e x q h = absurd (cc)
-in_range None (Some a) e x q h = absurd (let z : false ≡ true = (and_parts (a.proper || not (a.command == commands.BLOCK_STATUS)) false h).1 in (cc))
-in_range (Some s) (Some a) e x q h =
-    let all = and_parts (a.proper || not (a.command == commands.BLOCK_STATUS)) (has_range a.command && (is_in a.offset a.length x && nat_lt x s.size)) h in
-    let one = and_parts (has_range a.command) (is_in a.offset a.length x && nat_lt x s.size) all.1 in
-    let two = and_parts (is_in a.offset a.length x) (nat_lt x s.size) one.1 in
-    let same : effect a ≡ e = cc in
-    (ap (λ (d : Effect). is_in d.offset d.length x) (sym same) ∙ two.0, (s, refl, ltb-true x s.size two.1))
+in_range None (Some a) e x q h = absurd (grind arith)
+in_range (Some s) (Some a) e x q h = (let same : effect a ≡ e = cc in (ap (λ (d : Effect). is_in d.offset d.length x) (sym same) ∙ grind arith, (s, refl, grind arith)))
 
 pub is_inside : (export : Option Exporting) (o : Option Asked) (e : Effect) (x : ℕ) (s : Exporting) → effect_if o ≡ Some e → IsTrue (touches None e x) → export ≡ Some s → x < s.size
     → IsTrue (inside_asked export o x)
 is_inside export None e x s q t p l = absurd (cc)
-is_inside None (Some a) e x s q t p l = absurd (cc)
-is_inside (Some z) (Some a) e x s q t p l =
+is_inside export (Some a) e x s q t p l =
     let same : effect a ≡ e = cc in
     let touch : IsTrue (touches None (effect a) x) = ap (λ (d : Effect). touches None d x) same ∙ t in
-    let one = and_parts (is_change a.command) (is_in a.offset a.length x && true) touch in
-    let two = and_parts (is_in a.offset a.length x) true one.1 in
-    let size : z ≡ s = cc in
-    and_from (a.proper || not (a.command == commands.BLOCK_STATUS)) (has_range a.command && (is_in a.offset a.length x && nat_lt x z.size)) (open_to a.proper a.command (not_status a.command one.0))
-    (and_from (has_range a.command) (is_in a.offset a.length x && nat_lt x z.size) (ranged a.command one.0)
-    (and_from (is_in a.offset a.length x) (nat_lt x z.size) two.0 (ap (λ (y : Exporting). nat_lt x y.size) size ∙ lt-ltb x s.size l)))
+    let c : is_change a.command ≡ true = grind arith in
+    let w = change_ranged a.command c in
+    lies_inside export a x (grind (arith, w.1)) w.0 (grind arith) (ap (λ o. nat_lt x (size_of o)) p ∙ lt-ltb x s.size l)
 
 pub numbered : (k : ℕ) (asked : List Asked) (e : Effect) → effect_if (asked_at k asked) ≡ Some e → (0 < k) × (k ≤ length asked)
 numbered zero asked e q = absurd (cc)
-numbered (suc k) asked e q = go (slice_get asked k) refl q
-  where
-    go : (o : Option Asked) → slice_get asked k ≡ o → effect_if o ≡ Some e → (0 < suc k) × (suc k ≤ length asked)
-    go None h q = absurd (cc)
-    go (Some a) h q = (let l : k < length asked = slice_get_within asked k a h in (omega arith, omega arith))
+numbered (suc k) asked e q = elim (slice_get_cases asked k).1 [
+  | inl some ↦ (let l = some.1 in omega (arith, l))
+  | inr past ↦ absurd (cc (past.1))
+]
 
 module _ (profile : Profile) (r : Report) (order : List Entry) (whole : IsFaultless profile r order) where
   -- what surely comes before at an offset that it serves stands before
@@ -96,6 +70,4 @@ module _ (profile : Profile) (r : Report) (order : List Entry) (whole : IsFaultl
       go h None q =
           let s = served_at (take i order) d.request x h in
           whole.none_bad i (inr (inl (d, at, subst (λ p. IsAgain (take i order) d.request p) (sym q) (names_by (take i order) d.request s.0 s.1 s.2 s.3))))
-      go h (Some p) q =
-          let inside : in_part (Some p) x ≡ true = ap (λ o. in_part o x) (sym q) ∙ here in
-          whole.none_bad i (inr (inr (d, at, subst (λ o. IsMisplaced (inside_in r d.request) (take i order) d.request o) (sym q) (inr (inr (x, inside, h))))))
+      go h (Some p) q = whole.none_bad i (inr (inr (d, at, subst (λ o. IsMisplaced (inside_in r d.request) (take i order) d.request o) (sym q) (inr (inr (x, ap (λ o. in_part o x) (sym q) ∙ here, h))))))

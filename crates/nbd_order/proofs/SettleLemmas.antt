@@ -1,16 +1,16 @@
 -- Ranges of the contents, made what is sure of them one after the other.
-use Rattle.nbd_order.proofs.Common.{◌≡◌, ℕ, ◌+◌, ◌<◌, ◌≤◌, inl, inr, List, [], ◌∷◌, refl, sym, ◌∙◌, ap, Option, Some, None, Bool, true, false, IsTrue, if◌then◌else◌, arith, length, nat_le, nat_lt, slice_get, drop, and_from, and_parts, cases_lt, leb-true, ltb-true, subst, Asked, Report, Piece, Exporting, asked_at, byte_at, effect, effect_byte, is_change, is_in, piece_offset, piece_size}
+use Rattle.nbd_order.proofs.Common.{◌≡◌, ℕ, ◌+◌, ◌<◌, ◌≤◌, inl, inr, List, [], refl, sym, ◌∙◌, ap, Option, Some, None, true, false, IsTrue, if◌then◌else◌, arith, length, slice_get, drop, and_parts, cases_lt, subst, Asked, Report, Piece, Exporting, asked_at, byte_at, effect, effect_byte, is_change, is_in, piece_offset, piece_size}
 use Rattle.std.specs.Prelude.{◌-◌, zero, suc, slice_range, OnOk, Result, Ok, Err, IsSome}
-use Rattle.std.proofs.lemmas.Bool.{and_left, and_right, le-leb, le-ltb, lt-leb, lt-ltb}
 use Rattle.nbd_export.proofs.HeldLemmas.{held_from-same}
 use Rattle.nbd_export.specs.Extents.{byte_of, size_of}
 use Rattle.nbd_export.specs.Held.{held, held_from}
 use Rattle.nbd_export.specs.Ranges.{AreSameBelow, bytes_from, overlay}
 use Rattle.nbd_export.specs.declared.extents.Extents.{Extents}
+use Rattle.nbd_judge.proofs.contents.CompareLemmas.{byte_of as byte_of_piece, from_in, in_from}
 use Rattle.nbd_judge.proofs.contents.RangeLemmas.{range_get, range_length}
 use Rattle.nbd_laws.specs.Soundness.{AreLaid, IsSoundAsked, IsSoundReport}
 use Rattle.nbd_wire.specs.protocol.Pieces.{holds, piece_byte}
-use Rattle.nbd_order.specs.Sure.{byte_behind_last, changes, last_number, sure}
+use Rattle.nbd_order.specs.Sure.{changes, sure}
 use Rattle.nbd_order.specs.declared.here.Here.{Here}
 use Rattle.nbd_order.specs.declared.stretches.Stretch.{Stretch}
 use Rattle.nbd_order.specs.internal.Stretches.{stretch_here}
@@ -25,33 +25,13 @@ pub on_ok : {A E P Q : Type 0} (o : Result A E) → OnOk o P → (P → Q) → O
 on_ok (Ok a) h f = f h
 on_ok (Err e) h f = h
 
-pub in_range : (offset n x : ℕ) → is_in offset n x ≡ true → (offset ≤ x) × (x < offset + n)
-in_range offset n x e = (let w = and_parts (nat_le offset x) (nat_lt x (offset + n)) e in (leb-true offset x w.0, ltb-true x (offset + n) w.1))
-
-pub to_range : (offset n x : ℕ) → offset ≤ x → x < offset + n → is_in offset n x ≡ true
-to_range offset n x lo hi = and_from (nat_le offset x) (nat_lt x (offset + n)) (le-leb offset x lo) (lt-ltb x (offset + n) hi)
-
-before_range : (offset n x : ℕ) → x < offset → is_in offset n x ≡ false
-before_range offset n x l = and_left (nat_le offset x) (nat_lt x (offset + n)) (lt-leb offset x l)
-
-behind_range : (offset n x : ℕ) → offset + n ≤ x → is_in offset n x ≡ false
-behind_range offset n x l = and_right (nat_le offset x) (nat_lt x (offset + n)) (le-ltb x (offset + n) l)
-
 -- the same bytes inside
 pub overlay_same : (offset n : ℕ) (f g old : ℕ → Option ℕ) (x : ℕ) → (IsTrue (is_in offset n x) → f x ≡ g x) → overlay offset n f old x ≡ overlay offset n g old x
-overlay_same offset n f g old x h = go (is_in offset n x) h
-  where
-    go : (b : Bool) → (IsTrue b → f x ≡ g x) → (if b then f x else old x) ≡ (if b then g x else old x)
-    go true h = h refl
-    go false h = refl
+overlay_same offset n f g old x h = grind arith
 
 -- inside the bytes that are there
 pub overlay_kept : (offset n : ℕ) (f old : ℕ → Option ℕ) (x : ℕ) → (IsTrue (is_in offset n x) → f x ≡ old x) → old x ≡ overlay offset n f old x
-overlay_kept offset n f old x h = go (is_in offset n x) h
-  where
-    go : (b : Bool) → (IsTrue b → f x ≡ old x) → old x ≡ (if b then f x else old x)
-    go true h = sym (h refl)
-    go false h = refl
+overlay_kept offset n f old x h = grind arith
 
 -- some of the bytes that stand there
 pub sliced : (bytes slice : List ℕ) (first offset n : ℕ) (old : ℕ → Option ℕ) (x : ℕ) → first ≤ offset → offset + n ≤ first + length bytes
@@ -59,32 +39,32 @@ pub sliced : (bytes slice : List ℕ) (first offset n : ℕ) (old : ℕ → Opti
 sliced bytes slice first offset n old x lo hi is =
     ap (λ m. overlay offset m (bytes_from offset slice) old x) (ap length is ∙ range_length bytes (offset - first) n (omega arith))
     ∙ overlay_same offset n (bytes_from offset slice) (bytes_from first bytes) old x
-    (λ h. let w = in_range offset n x h in let from : offset ≤ x = w.0 in let to : x < offset + n = w.1 in
+    (λ h. let w = from_in offset n x h in let from : offset ≤ x = w.0 in let to : x < offset + n = w.1 in
     ap (λ l. slice_get l (x - offset)) is ∙ range_get bytes (offset - first) n (x - offset) (omega arith)
     ∙ (let e : offset - first + (x - offset) ≡ x - first = omega arith in ap (slice_get bytes) e))
 
 -- what is sure at x depends on the bytes at first only there
 pub sure_same : (r : Report) (f g : ℕ → Option ℕ) (x : ℕ) → f x ≡ g x → sure r f x ≡ sure r g x
-sure_same r f g x e = go (last_number (changes x) r.asked)
-  where
-    go : (o : Option ℕ) → byte_behind_last r.asked f x o ≡ byte_behind_last r.asked g x o
-    go (Some n) = refl
-    go None = e
+sure_same r f g x e = grind arith
 
 -- one range more
 module _ (r : Report) (first old new : ℕ → Option ℕ) (at end size : ℕ) (some : at < end) (fits : end ≤ size) where
   pub step_done : ((x : ℕ) → x < at → old x ≡ sure r first x) → ((x : ℕ) → at ≤ x → x < size → old x ≡ first x)
       → ((x : ℕ) → x < size → new x ≡ overlay at (end - at) (sure r old) old x) → (x : ℕ) → x < end → new x ≡ sure r first x
-  step_done done rest made x l =
-      made x (omega arith)
-      ∙ elim (cases_lt x at) [
-        | inl before ↦ ap (λ b. if b then sure r old x else old x) (before_range at (end - at) x before) ∙ done x before
-        | inr behind ↦ ap (λ b. if b then sure r old x else old x) (to_range at (end - at) x behind (omega arith)) ∙ sure_same r old first x (rest x behind (omega arith))
-      ]
+  step_done done rest made x l = made x (omega arith) ∙ elim (cases_lt x at) [
+    | inl before ↦ ap (λ b. if b then sure r old x else old x) (outside before) ∙ done x before
+    | inr behind ↦ ap (λ b. if b then sure r old x else old x) (in_from at (end - at) x behind (omega arith)) ∙ sure_same r old first x (rest x behind (omega arith))
+  ]
+    where
+      outside : x < at → is_in at (end - at) x ≡ false
+      outside before = grind arith
 
   pub step_rest : ((x : ℕ) → at ≤ x → x < size → old x ≡ first x) → ((x : ℕ) → x < size → new x ≡ overlay at (end - at) (sure r old) old x)
       → (x : ℕ) → end ≤ x → x < size → new x ≡ first x
-  step_rest rest made x l h = made x h ∙ ap (λ b. if b then sure r old x else old x) (behind_range at (end - at) x (omega arith)) ∙ rest x (omega arith) h
+  step_rest rest made x l h = made x h ∙ ap (λ b. if b then sure r old x else old x) outside ∙ rest x (omega arith) h
+    where
+      outside : is_in at (end - at) x ≡ false
+      outside = grind arith
 
 -- what the stretch tells that comes next
 pub told_here : (stretches : List Stretch) (i : ℕ) (p : Stretch) (x : ℕ) (h : Here) → slice_get stretches i ≡ Some p → x < p.end → stretch_here (drop i stretches) x ≡ stretch_here stretches x → stretch_here stretches x ≡ Some h → h ≡ p.here
@@ -103,33 +83,12 @@ pub sound_asked : (r : Report) → IsSoundReport r → (k : ℕ) (a : Asked) →
 sound_asked r sound k a at = go r.export refl
   where
     none_at : (k : ℕ) → asked_at k [] ≡ Some a → ⊥
-    none_at zero e = let q : None ≡ Some a = e in (cc)
-    none_at (suc k) e = let q : None ≡ Some a = e in (cc)
+    none_at zero e = cc
+    none_at (suc k) e = cc
 
     go : (o : Option Exporting) → r.export ≡ o → (size : ℕ) × IsSoundAsked size (length r.asked) k a
     go (Some export) e = (export.size, sound.each export k a e at)
     go None e = absurd (none_at k (sym (ap (asked_at k) (sound.none e)) ∙ at))
-
--- the first piece that holds x gives it
-holder : (pieces : List Piece) (x i : ℕ) (p : Piece) → slice_get pieces i ≡ Some p → holds p x ≡ true → (j : ℕ) × (q : Piece) × (slice_get pieces j ≡ Some q) × (holds q x ≡ true) × (byte_at pieces x ≡ Some (piece_byte q x))
-holder [] x i p at has = absurd (cc)
-holder (q ∷ pieces) x i p at has = go (holds q x) refl (λ i at. holder pieces x i p at has) i at
-  where
-    go : (b : Bool) → holds q x ≡ b
-        → ((i : ℕ) → slice_get pieces i ≡ Some p → (j : ℕ) × (q : Piece) × (slice_get pieces j ≡ Some q) × (holds q x ≡ true) × (byte_at pieces x ≡ Some (piece_byte q x)))
-        → (i : ℕ) → slice_get (q ∷ pieces) i ≡ Some p → (j : ℕ) × (d : Piece) × (slice_get (q ∷ pieces) j ≡ Some d) × (holds d x ≡ true) × (byte_at (q ∷ pieces) x ≡ Some (piece_byte d x))
-    go true e f i at = (zero, q, refl, e, ap (λ b. if b then Some (piece_byte q x) else byte_at pieces x) e)
-    go false e f zero at = absurd (let s : q ≡ p = cc in let z : false ≡ true = sym e ∙ ap (λ (y : Piece). holds y x) s ∙ has in (cc))
-    go false e f (suc i) at = (let h = f i at in (suc h.0, h.1, h.2, h.3, ap (λ b. if b then Some (piece_byte q x) else byte_at pieces x) e ∙ h.4))
-
--- where no two pieces share an offset
-pub piece_gives : (offset len : ℕ) (pieces : List Piece) → AreLaid offset len pieces → (x i : ℕ) (p : Piece) → slice_get pieces i ≡ Some p → holds p x ≡ true → byte_at pieces x ≡ Some (piece_byte p x)
-piece_gives offset len pieces laid x i p at has =
-    let h = holder pieces x i p at has in
-    let same : i ≡ h.0 = laid.apart i h.0 p h.1 x at h.2 has h.3 in
-    let e : Some p ≡ Some h.1 = sym at ∙ ap (slice_get pieces) same ∙ h.2 in
-    let q : h.1 ≡ p = cc in
-    h.4 ∙ ap (λ (y : Piece). Some (piece_byte y x)) q
 
 -- A range of which the same is told at each offset.
 module _ (r : Report) (initial : ℕ → Option ℕ) (h : Here) (offset n : ℕ) (some : 0 < n) (told : (x : ℕ) → IsTrue (is_in offset n x) → here_at r.asked x ≡ h) where
@@ -137,10 +96,10 @@ module _ (r : Report) (initial : ℕ → Option ℕ) (h : Here) (offset n : ℕ)
   shown_in o is x inside = subst (IsShown r initial x) (sym (is ∙ ap held_by (sym (told x inside)))) (shown r initial x)
 
   first_in : IsTrue (is_in offset n offset)
-  first_in = to_range offset n offset (omega arith) (omega arith)
+  first_in = in_from offset n offset (omega arith) (omega arith)
 
   last_in : IsTrue (is_in offset n (offset + n - 1))
-  last_in = to_range offset n (offset + n - 1) (omega arith) (omega arith)
+  last_in = in_from offset n (offset + n - 1) (omega arith) (omega arith)
 
   pub change_some : (k : ℕ) → Change k ≡ held_by h → IsSome (asked_at k r.asked)
   change_some k is = (let s = shown_in (Change k) is offset first_in in subst IsSome (sym s.1) refl)
@@ -153,14 +112,14 @@ module _ (r : Report) (initial : ℕ → Option ℕ) (h : Here) (offset n : ℕ)
         let q : s.0 ≡ a = cc in
         (ap (changes x) (sym q) ∙ s.2, s.3 ∙ ap (λ (y : Asked). effect_byte (effect y) x) q)
 
-    lies : (x : ℕ) → IsTrue (is_in offset n x) → (a.offset ≤ x) × (x < a.offset + a.length)
-    lies x inside = in_range a.offset a.length x (and_parts (is_change a.command) (is_in a.offset a.length x) (change_in x inside).0).1
-
-    pub change_first : a.offset ≤ offset
-    change_first = (lies offset first_in).0
-
-    pub change_last : offset + n ≤ a.offset + a.length
-    change_last = (let l = (lies (offset + n - 1) last_in).1 in omega (arith, l))
+    pub change_lies : (a.offset ≤ offset) × (offset + n ≤ a.offset + a.length)
+    change_lies =
+        let first = lies offset first_in in
+        let last = lies (offset + n - 1) last_in in
+        (first.0, omega (arith, last.1))
+      where
+        lies : (x : ℕ) → IsTrue (is_in offset n x) → (a.offset ≤ x) × (x < a.offset + a.length)
+        lies x inside = from_in a.offset a.length x (and_parts (is_change a.command) (is_in a.offset a.length x) (change_in x inside).0).1
 
   pub read_some : (got : Got) → Read got ≡ held_by h → IsSome (asked_at got.number r.asked)
   read_some got is = (let s = shown_in (Read got) is offset first_in in subst IsSome (sym s.2) refl)
@@ -184,14 +143,14 @@ module _ (r : Report) (initial : ℕ → Option ℕ) (h : Here) (offset n : ℕ)
           let q : s.0 ≡ p = cc in
           ap (λ (y : Piece). holds y x) (sym q) ∙ s.2
 
-      pub piece_first : piece_offset p ≤ offset
-      piece_first = (in_range (piece_offset p) (piece_size p) offset (piece_in offset first_in)).0
-
-      pub piece_last : offset + n ≤ piece_offset p + piece_size p
-      piece_last = (let l = (in_range (piece_offset p) (piece_size p) (offset + n - 1) (piece_in (offset + n - 1) last_in)).1 in omega (arith, l))
+      pub piece_lies : (piece_offset p ≤ offset) × (offset + n ≤ piece_offset p + piece_size p)
+      piece_lies =
+          let first = from_in (piece_offset p) (piece_size p) offset (piece_in offset first_in) in
+          let last = from_in (piece_offset p) (piece_size p) (offset + n - 1) (piece_in (offset + n - 1) last_in) in
+          (first.0, omega (arith, last.1))
 
       pub piece_sure : AreLaid a.offset a.length a.pieces → (x : ℕ) → IsTrue (is_in offset n x) → sure r initial x ≡ Some (piece_byte p x)
-      piece_sure laid x inside = (read_in x inside).3 ∙ piece_gives a.offset a.length a.pieces laid x got.piece p is_piece (piece_in x inside)
+      piece_sure laid x inside = (read_in x inside).3 ∙ byte_of_piece a.pieces x (λ j k q s. laid.apart j k q s x) got.piece p is_piece (piece_in x inside)
 
 -- What is held, where each byte is what is sure of the start's.
 pub sure_held : (r : Report) (e : Extents) (first initial : ℕ → Option ℕ) (size n : ℕ) → size_of e ≡ size → size ≡ n → AreSameBelow size (byte_of e) (sure r first) → AreSameBelow n first initial

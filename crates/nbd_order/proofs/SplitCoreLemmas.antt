@@ -1,19 +1,18 @@
 -- What messages lead to behind requests that are finished, and what they lead to without these.
-use Rattle.nbd_order.proofs.Common.{◌≡◌, ℕ, zero, suc, ◌+◌, ◌<◌, ◌≤◌, ◌==◌, ◌&&◌, ◌||◌, List, [], ◌∷◌, length, refl, sym, ap, subst, ◌∙◌, Bool, true, false, not, Option, Some, None, arith, if◌then◌else◌, Entry, Item, Exporting, eq-eqb, eqb-true, and_from, or_cases, or_left, or_right, inl, inr}
-use Rattle.std.specs.Prelude.{◌++◌, ◌⊎◌}
+use Rattle.nbd_order.proofs.Common.{◌≡◌, ℕ, zero, suc, ◌+◌, ◌<◌, ◌≤◌, ◌==◌, List, [], ◌∷◌, length, refl, sym, ap, subst, ◌∙◌, Bool, true, false, not, Option, Some, None, arith, Entry, Item, Exporting, cases_Bool, inl, inr}
+use Rattle.std.specs.Prelude.{◌++◌}
 use Rattle.std.proofs.Common.{append_assoc, length-append}
 use Rattle.nbd_wire.specs.declared.commands.TheConstants as commands
 use Rattle.nbd_wire.specs.declared.message.Message.{Message}
-use Rattle.nbd_wire.specs.declared.message.Message.TheVariants.{Request, Simple, Chunk, ExtendedRequest, ExtendedChunk}
+use Rattle.nbd_wire.specs.declared.message.Message.TheVariants.{Simple, Chunk, ExtendedChunk}
 use Rattle.nbd_wire.specs.protocol.Marks.{Byte, Starts, Completes, Serves, without_service}
-use Rattle.nbd_wire.specs.protocol.Operations.{Operation, any, ends_reply, is_finished}
-use Rattle.nbd_wire.specs.protocol.Rules.{Obeys, cookie_of, core_with_request, filter_in, gives, inside_at, inside_operation, is_by_chunk, is_reply_to, is_this, makes_due, noted, operation_asked, reply_to, request_of_reply, target_of, written}
-use Rattle.nbd_wire.specs.declared.sizes.Sizes.{Sizes}
-use Rattle.nbd_wire.specs.protocol.Contexts.{Context, Filter, length_by}
-use Rattle.nbd_wire.specs.protocol.Sizes.{sizes_for, sizes_kept}
+use Rattle.nbd_wire.specs.protocol.Operations.{Operation, is_finished}
+use Rattle.nbd_wire.specs.protocol.Rules.{Obeys, cookie_of, core_with_request, filter_in, inside_at, inside_operation, is_by_chunk, is_reply_to, is_this, makes_due, operation_asked, reply_to, request_of_reply, target_of, written}
+use Rattle.nbd_wire.specs.protocol.Contexts.{Filter}
+use Rattle.nbd_wire.specs.protocol.Sizes.{sizes_kept}
 unfoldable use Rattle.nbd_wire.specs.protocol.Rules.{complete}
 unfoldable use Rattle.nbd_wire.specs.protocol.States.{target}
-use Rattle.nbd_wire.specs.protocol.States.{Core, Transmission, export_in, has_contexts, in_force, is_awaiting, operation, target_from, with_reply, with_reply_at}
+use Rattle.nbd_wire.specs.protocol.States.{Core, Transmission, export_in, has_contexts, in_force, operation, target_from, with_reply_at}
 use Rattle.nbd_laws.proofs.runs.PrefixLemmas.{InTransmission, asks, asks_more, gives as gives_chunk, gives_more, in_transmission, phase-complete, replies}
 use Rattle.nbd_laws.proofs.runs.TraceLemmas.{answered_by-within, due_within}
 use Rattle.nbd_laws.proofs.service.DueLemmas.{known_if, due_from, or_later}
@@ -29,50 +28,28 @@ abbrev pub AllDone : List Operation → Type 0
 AllDone [] = Unit {0}
 AllDone (e ∷ es) = (is_finished e ≡ true) × AllDone es
 
-not_awaiting : (b : Bool) (f : Bool) → f ≡ true → (b && not f) ≡ false
-not_awaiting true true h = refl
-not_awaiting false true h = refl
-not_awaiting true false h = absurd (cc)
-not_awaiting false false h = refl
-
 -- finished requests are no targets
 target_behind : (i cookie : ℕ) (done es : List Operation) → AllDone done → target_from i cookie (done ++ es) ≡ target_from (i + length done) cookie es
 target_behind i cookie [] es d = ap (λ j. target_from j cookie es) (let q : i ≡ i + 0 = omega arith in q)
-target_behind i cookie (e ∷ done) es d =
-    ap (λ b. if b then Some (suc i) else target_from (suc i) cookie (done ++ es)) (not_awaiting (e.cookie == cookie) (is_finished e) d.0)
-    ∙ target_behind (suc i) cookie done es d.1
-    ∙ ap (λ j. target_from j cookie es) (let q : suc i + length done ≡ i + suc (length done) = omega arith in q)
+target_behind i cookie (e ∷ done) es d = grind (arith, d.0, target_behind (suc i) cookie done es d.1)
 
 target_plus : (n i cookie : ℕ) (es : List Operation) → target_from (n + i) cookie es ≡ plus n (target_from i cookie es)
 target_plus n i cookie [] = refl
-target_plus n i cookie (e ∷ es) = go (is_awaiting cookie e) (target_plus n (suc i) cookie es)
-  where
-    next : n + suc i ≡ suc (n + i)
-    next = omega arith
-
-    go : (b : Bool) → target_from (n + suc i) cookie es ≡ plus n (target_from (suc i) cookie es) → (if b then Some (suc (n + i)) else target_from (suc (n + i)) cookie es) ≡ plus n (if b then Some (suc i) else target_from (suc i) cookie es)
-    go true ih = ap Some (sym next)
-    go false ih = ap (λ j. target_from j cookie es) (sym next) ∙ ih
+target_plus n i cookie (e ∷ es) = grind (arith, target_plus n (suc i) cookie es)
 
 pub target_of_behind : (o : Option ℕ) (done es : List Operation) → AllDone done → target_of o (done ++ es) ≡ plus (length done) (target_of o es)
 unfolding target
 target_of_behind None done es d = refl
-target_of_behind (Some cookie) done es d =
-    target_behind 0 cookie done es d
-    ∙ ap (λ j. target_from j cookie es) (let q : 0 + length done ≡ length done + 0 = omega arith in q)
-    ∙ target_plus (length done) 0 cookie es
-
-operation_next : (k : ℕ) (e : Operation) (es : List Operation) → 0 < k → operation (suc k) (e ∷ es) ≡ operation k es
-operation_next zero e es h = absurd (omega arith)
-operation_next (suc k) e es h = refl
+target_of_behind (Some cookie) done es d = grind (arith, target_behind 0 cookie done es d, target_plus (length done) 0 cookie es)
 
 -- a later request stands behind them
 pub operation_behind : (k : ℕ) (done es : List Operation) → 0 < k → operation (length done + k) (done ++ es) ≡ operation k es
 operation_behind k [] es h = ap (λ j. operation j es) (let q : 0 + k ≡ k = omega arith in q)
-operation_behind k (e ∷ done) es h =
-    ap (λ j. operation j (e ∷ (done ++ es))) (let q : suc (length done) + k ≡ suc (length done + k) = omega arith in q)
-    ∙ operation_next (length done + k) e (done ++ es) (omega arith)
-    ∙ operation_behind k done es h
+operation_behind k (e ∷ done) es h = next (length done + k) (omega arith) (omega arith) ∙ operation_behind k done es h
+  where
+    next : (j : ℕ) → 0 < j → suc (length done) + k ≡ suc j → operation (suc (length done) + k) (e ∷ (done ++ es)) ≡ operation j (done ++ es)
+    next zero l q = absurd (omega arith)
+    next (suc j) l q = ap (λ i. operation i (e ∷ (done ++ es))) q
 
 -- and each of them where it stood
 pub operation_before : (k : ℕ) (done es : List Operation) → 0 < k → k ≤ length done → operation k (done ++ es) ≡ operation k done
@@ -81,16 +58,13 @@ operation_before zero (e ∷ done) es h l = absurd (omega arith)
 operation_before (suc zero) (e ∷ done) es h l = refl
 operation_before (suc (suc k)) (e ∷ done) es h l = operation_before (suc k) done es (omega arith) (omega arith)
 
-reply_next : (k : ℕ) (m : Message) (e : Operation) (es : List Operation) → 0 < k → with_reply_at (suc k) m (e ∷ es) ≡ e ∷ with_reply_at k m es
-reply_next zero m e es h = absurd (omega arith)
-reply_next (suc k) m e es h = refl
-
 reply_behind : (k : ℕ) (m : Message) (done es : List Operation) → 0 < k → with_reply_at (length done + k) m (done ++ es) ≡ done ++ with_reply_at k m es
 reply_behind k m [] es h = ap (λ j. with_reply_at j m es) (let q : 0 + k ≡ k = omega arith in q)
-reply_behind k m (e ∷ done) es h =
-    ap (λ j. with_reply_at j m (e ∷ (done ++ es))) (let q : suc (length done) + k ≡ suc (length done + k) = omega arith in q)
-    ∙ reply_next (length done + k) m e (done ++ es) (omega arith)
-    ∙ ap (λ l. e ∷ l) (reply_behind k m done es h)
+reply_behind k m (e ∷ done) es h = next (length done + k) (omega arith) (omega arith) ∙ ap (λ l. e ∷ l) (reply_behind k m done es h)
+  where
+    next : (j : ℕ) → 0 < j → suc (length done) + k ≡ suc j → with_reply_at (suc (length done) + k) m (e ∷ (done ++ es)) ≡ e ∷ with_reply_at j m (done ++ es)
+    next zero l q = absurd (omega arith)
+    next (suc j) l q = ap (λ i. with_reply_at i m (e ∷ (done ++ es))) q
 
 -- one core stands where the other does, behind requests that are finished
 pub record Behind (done : List Operation) (c d : Core) : Type 0 where
@@ -103,25 +77,7 @@ pub record Behind (done : List Operation) (c d : Core) : Type 0 where
 
 -- the same request is asked where both stand
 same_asked : (done : List Operation) (c d : Core) → Behind done c d → (extended : Bool) (flags command cookie offset len : ℕ) (p : List ℕ) (filter : Option Filter) → operation_asked extended c flags command cookie offset len p filter ≡ operation_asked extended d flags command cookie offset len p filter
-same_asked done c d b extended flags command cookie offset len p filter =
-    ap (asked_by c.structured (sizes_kept c.sizing)) b.contexts
-    ∙ ap (λ s. asked_by s (sizes_kept c.sizing) (in_force d)) b.structured
-    ∙ ap (λ k. asked_by d.structured k (in_force d)) b.sizes
-  where
-    asked_by : Bool → Option Sizes → List Context → Operation
-    asked_by structured kept contexts = record {
-      extended = extended;
-      flags = flags;
-      command = command;
-      cookie = cookie;
-      offset = offset;
-      length = length_by filter len;
-      payload = p;
-      contexts = contexts;
-      filter = filter;
-      sizes = sizes_for structured command kept;
-      replies = [];
-    }
+same_asked done c d b extended flags command cookie offset len p filter = cc (b.structured, b.contexts, b.sizes)
 
 requested_behind : (done : List Operation) (c d : Core) → Behind done c d → (is_disc : Bool) (e f : Operation) → e ≡ f → Behind done (core_with_request is_disc c e) (core_with_request is_disc d f)
 requested_behind done c d b true e f same = record { profile = b.profile; phase = b.phase; structured = b.structured; contexts = b.contexts; sizes = b.sizes; entries = b.entries }
@@ -166,27 +122,12 @@ complete_behind done c d all b export m (replies error cookie p h) = replied_beh
 complete_behind done c d all b export m (gives_chunk flags kind cookie p h) = replied_behind done c d all b (Chunk flags kind cookie p)
 complete_behind done c d all b export m (gives_more flags kind cookie at p h) = replied_behind done c d all b (ExtendedChunk flags kind cookie at p)
 
--- transmission goes on, and both end up so
-pub end_behind : (done : List Operation) → AllDone done → (export : Exporting) (items : List Item) (c d : Core) (js : List Entry) → c.phase ≡ Transmission export → Behind done c d → Obeys (record { core = c; served = js }) items →
-    Behind done (core_end c items) (core_end d items) × ((core_end c items).phase ≡ Transmission export)
-end_behind done all export [] c d js t b ob = (b, t)
-end_behind done all export (Completes s m ∷ items) c d js t b ob =
-    let i : InTransmission c export m = in_transmission t ob.0.0 in
-    end_behind done all export items (complete c m) (complete d m) js (phase-complete c export m i ∙ t) (complete_behind done c d all b export m i) ob.1
-end_behind done all export (Byte s x ∷ items) c d js t b ob = end_behind done all export items c d js t b ob.1
-end_behind done all export (Starts s m ∷ items) c d js t b ob = end_behind done all export items c d js t b ob.1
-end_behind done all export (Serves e ∷ items) c d js t b ob = end_behind done all export items c d _ t b ob.1
-
-pub same_bool : (a b : Bool) → (a ≡ true → b ≡ true) → (b ≡ true → a ≡ true) → a ≡ b
-same_bool true b to from = sym (to refl)
-same_bool false true to from = from refl
-same_bool false false to from = refl
+pub same_number : (n j k : ℕ) → (n + j == n + k) ≡ (j == k)
+same_number n j k = grind arith
 
 is_plus : (n : ℕ) (o : Option ℕ) (k : ℕ) → is_this (plus n o) (n + k) ≡ is_this o k
 is_plus n None k = refl
-is_plus n (Some j) k = same_bool (n + j == n + k) (j == k)
-    (λ h. let q : n + j ≡ n + k = eqb-true (n + j) (n + k) h in eq-eqb j k (omega arith))
-    (λ h. let q : j ≡ k = eqb-true j k h in eq-eqb (n + j) (n + k) (omega arith))
+is_plus n (Some j) k = same_number n j k
 
 module _ (done : List Operation) (all : AllDone done) (c d : Core) (b : Behind done c d) (k x : ℕ) (h : 0 < k) where
   same_operation : operation (length done + k) c.entries ≡ operation k d.entries
@@ -202,12 +143,8 @@ module _ (done : List Operation) (all : AllDone done) (c d : Core) (b : Behind d
   inside_behind = ap (inside_operation (export_in c.phase)) same_operation ∙ ap (λ p. inside_operation (export_in p) (operation k d.entries)) b.phase
 
   pub due_behind_at : (item : Item) → makes_due c item (length done + k) x ≡ makes_due d item k x
-  due_behind_at (Starts s m) = ap (λ r. r && not (is_by_chunk c.profile (operation (length done + k) c.entries))) (is_reply_behind m) ∙ ap (λ r. is_reply_to d m k && not r) chunk_behind
-  due_behind_at (Completes s m) =
-      ap (λ r. r && (is_by_chunk c.profile (operation (length done + k) c.entries) && (ends_reply m || (inside_at c (length done + k) x && gives (operation (length done + k) c.entries) m x)))) (is_reply_behind m)
-      ∙ ap (λ r. is_reply_to d m k && (r && (ends_reply m || (inside_at c (length done + k) x && gives (operation (length done + k) c.entries) m x)))) chunk_behind
-      ∙ ap (λ f. is_reply_to d m k && (is_by_chunk d.profile (operation k d.entries) && (ends_reply m || (f x && gives (operation (length done + k) c.entries) m x)))) inside_behind
-      ∙ ap (λ o. is_reply_to d m k && (is_by_chunk d.profile (operation k d.entries) && (ends_reply m || (inside_at d k x && gives o m x)))) same_operation
+  due_behind_at (Starts s m) = cc (is_reply_behind m, chunk_behind)
+  due_behind_at (Completes s m) = cc (is_reply_behind m, chunk_behind, inside_behind, same_operation)
   due_behind_at (Byte s y) = refl
   due_behind_at (Serves e) = refl
 
@@ -215,38 +152,35 @@ count_behind : (done : List Operation) (c d : Core) → Behind done c d → leng
 count_behind done c d b = ap length b.entries ∙ length-append done d.entries
 
 known_behind : (done : List Operation) (c d : Core) → Behind done c d → (v w : Bool) → v ≡ w → (later now : Option ℕ) → later ≡ plus (length done) now → known_if v c later ≡ plus (length done) (known_if w d now)
-known_behind done c d b true true same later now is = ap Some (count_behind done c d b)
-known_behind done c d b false false same later now is = is
-known_behind done c d b true false same later now is = absurd (cc)
-known_behind done c d b false true same later now is = absurd (cc)
+known_behind done c d b v w same later now is = (let n = count_behind done c d b in grind arith)
 
--- a later request is due with so many more
-pub due_behind : (done : List Operation) → AllDone done → (export : Exporting) (items : List Item) (c d : Core) (js : List Entry) → c.phase ≡ Transmission export → Behind done c d → Obeys (record { core = c; served = js }) items →
-    (k x : ℕ) → 0 < k → due_from c items (length done + k) x ≡ plus (length done) (due_from d items k x)
-due_behind done all export [] c d js t b ob k x h = refl
-due_behind done all export (Completes s m ∷ items) c d js t b ob k x h =
+-- transmission goes on, both end up so, and a later request is due with so many more
+pub items_behind : (done : List Operation) → AllDone done → (export : Exporting) (items : List Item) (c d : Core) (js : List Entry) → c.phase ≡ Transmission export → Behind done c d → Obeys (record { core = c; served = js }) items →
+    Behind done (core_end c items) (core_end d items) × ((core_end c items).phase ≡ Transmission export) × ((k x : ℕ) → 0 < k → due_from c items (length done + k) x ≡ plus (length done) (due_from d items k x))
+items_behind done all export [] c d js t b ob = (b, t, λ k x h. refl)
+items_behind done all export (Completes s m ∷ items) c d js t b ob =
     let i : InTransmission c export m = in_transmission t ob.0.0 in
-    known_behind done c d b _ _ (due_behind_at done all c d b k x h (Completes s m)) _ _ (due_behind done all export items (complete c m) (complete d m) js (phase-complete c export m i ∙ t) (complete_behind done c d all b export m i) ob.1 k x h)
-due_behind done all export (Starts s m ∷ items) c d js t b ob k x h =
-    known_behind done c d b _ _ (due_behind_at done all c d b k x h (Starts s m)) _ _ (due_behind done all export items c d js t b ob.1 k x h)
-due_behind done all export (Byte s y ∷ items) c d js t b ob k x h = due_behind done all export items c d js t b ob.1 k x h
-due_behind done all export (Serves e ∷ items) c d js t b ob k x h = due_behind done all export items c d _ t b ob.1 k x h
+    let r = items_behind done all export items (complete c m) (complete d m) js (phase-complete c export m i ∙ t) (complete_behind done c d all b export m i) ob.1 in
+    (r.0, r.1, λ k x h. known_behind done c d b _ _ (due_behind_at done all c d b k x h (Completes s m)) _ _ (r.2 k x h))
+items_behind done all export (Starts s m ∷ items) c d js t b ob =
+    let r = items_behind done all export items c d js t b ob.1 in
+    (r.0, r.1, λ k x h. known_behind done c d b _ _ (due_behind_at done all c d b k x h (Starts s m)) _ _ (r.2 k x h))
+items_behind done all export (Byte s y ∷ items) c d js t b ob = items_behind done all export items c d js t b ob.1
+items_behind done all export (Serves e ∷ items) c d js t b ob = items_behind done all export items c d _ t b ob.1
 
 -- what is due is of a request that has completed
 pub due_completed : (core : Core) (items : List Item) (k x n : ℕ) → due_from core items k x ≡ Some n → (0 < k) × (k ≤ length (core_end core items).entries)
 due_completed core [] k x n e = absurd (cc)
 due_completed core (Byte s b ∷ items) k x n e = due_completed core items k x n e
 due_completed core (Serves y ∷ items) k x n e = due_completed core items k x n e
-due_completed core (Starts s m ∷ items) k x n e = go (makes_due core (Starts s m) k x) refl e (due_completed core items k x n)
-  where
-    go : (v : Bool) → makes_due core (Starts s m) k x ≡ v → known_if v core (due_from core items k x) ≡ Some n → (due_from core items k x ≡ Some n → (0 < k) × (k ≤ length (core_end core items).entries)) → (0 < k) × (k ≤ length (core_end core items).entries)
-    go true q e ih = (let w = due_within core (Starts s m) k x q in let l = w.1 in let g = entries_grow core items in (w.0, omega (arith, l, g)))
-    go false q e ih = ih e
-due_completed core (Completes s m ∷ items) k x n e = go (makes_due core (Completes s m) k x) refl e (due_completed (complete core m) items k x n)
-  where
-    go : (v : Bool) → makes_due core (Completes s m) k x ≡ v → known_if v core (due_from (complete core m) items k x) ≡ Some n → (due_from (complete core m) items k x ≡ Some n → (0 < k) × (k ≤ length (core_end (complete core m) items).entries)) → (0 < k) × (k ≤ length (core_end (complete core m) items).entries)
-    go true q e ih = (let w = due_within core (Completes s m) k x q in let l = w.1 in let g = entries_grow core (Completes s m ∷ items) in (w.0, omega (arith, l, g)))
-    go false q e ih = ih e
+due_completed core (Starts s m ∷ items) k x n e = elim (cases_Bool (makes_due core (Starts s m) k x)) [
+  | inl q ↦ (let w = due_within core (Starts s m) k x q in let l = w.1 in let g = entries_grow core items in (w.0, omega (arith, l, g)))
+  | inr q ↦ due_completed core items k x n (grind arith)
+]
+due_completed core (Completes s m ∷ items) k x n e = elim (cases_Bool (makes_due core (Completes s m) k x)) [
+  | inl q ↦ (let w = due_within core (Completes s m) k x q in let l = w.1 in let g = entries_grow core (Completes s m ∷ items) in (w.0, omega (arith, l, g)))
+  | inr q ↦ due_completed (complete core m) items k x n (grind arith)
+]
 
 -- what is due does not hang on the moments of service
 pub due_unserved : (core : Core) (items : List Item) (k x : ℕ) → due_from core items k x ≡ due_from core (without_service items) k x
@@ -264,8 +198,7 @@ end_unserved core (Byte s b ∷ items) = end_unserved core items
 end_unserved core (Starts s m ∷ items) = end_unserved core items
 
 known_or : (v : Bool) (core : Core) (first second : Option ℕ) → known_if v core (or_later first second) ≡ or_later (known_if v core first) second
-known_or true core first second = refl
-known_or false core first second = refl
+known_or v core first second = grind arith
 
 -- of two stretches the first counts
 pub due_append : (core : Core) (items more : List Item) (k x : ℕ) → due_from core (items ++ more) k x ≡ or_later (due_from core items k x) (due_from (core_end core items) more k x)
@@ -281,81 +214,3 @@ end_append core (Completes s m ∷ items) more = end_append (complete core m) it
 end_append core (Serves e ∷ items) more = end_append core items more
 end_append core (Byte s b ∷ items) more = end_append core items more
 end_append core (Starts s m ∷ items) more = end_append core items more
-
--- a request that is finished has ended
-abbrev pub HasEnded : Core → Type 0
-HasEnded core = (k : ℕ) (e : Operation) → operation k core.entries ≡ Some e → is_finished e ≡ true → (n : ℕ) × (core.ended_at k ≡ Some n)
-
-operation_snoc : (k : ℕ) (es : List Operation) (e f : Operation) → operation k (es ++ e ∷ []) ≡ Some f → (operation k es ≡ Some f) ⊎ (e ≡ f)
-operation_snoc zero [] e f h = absurd (cc)
-operation_snoc (suc zero) [] e f h = inr (cc)
-operation_snoc (suc (suc k)) [] e f h = absurd (cc)
-operation_snoc zero (y ∷ es) e f h = absurd (cc)
-operation_snoc (suc zero) (y ∷ es) e f h = inl h
-operation_snoc (suc (suc k)) (y ∷ es) e f h = operation_snoc (suc k) es e f h
-
-any_snoc : (p : Message → Bool) (xs : List Message) (m : Message) → any p (xs ++ m ∷ []) ≡ true → (any p xs ≡ true) ⊎ (p m ≡ true)
-any_snoc p [] m h = elim (or_cases (p m) false h) [ inl q ↦ inr q | inr q ↦ absurd (cc) ]
-any_snoc p (y ∷ xs) m h = elim (or_cases (p y) (any p (xs ++ m ∷ [])) h) [
-  | inl q ↦ inl (or_left (p y) (any p xs) q)
-  | inr q ↦ elim (any_snoc p xs m q) [ inl r ↦ inl (or_right (p y) (any p xs) r) | inr r ↦ inr r ]
-]
-
--- a request with a reply more was there before; if it is finished it was so, or this reply ends
-abbrev WasThere : (j k : ℕ) → Message → List Operation → Operation → Type 0
-WasThere j k m es f = (e : Operation) × (operation k es ≡ Some e) × (is_finished f ≡ true → (is_finished e ≡ true) ⊎ ((j ≡ k) × (ends_reply m ≡ true)))
-
-operation_replied : (j : ℕ) (m : Message) (es : List Operation) (k : ℕ) (f : Operation) → operation k (with_reply_at j m es) ≡ Some f → WasThere j k m es f
-operation_replied j m [] k f h = absurd (let q : None ≡ Some f = h in (cc))
-operation_replied zero m (e ∷ es) k f h = (f, h, λ q. inl q)
-operation_replied (suc zero) m (e ∷ es) zero f h = absurd (cc)
-operation_replied (suc zero) m (e ∷ es) (suc zero) f h =
-    let s : with_reply e m ≡ f = (let q : Some (with_reply e m) ≡ Some f = h in cc) in
-    (e, refl, λ fin. elim (any_snoc ends_reply e.replies m (ap is_finished s ∙ fin)) [ inl r ↦ inl r | inr r ↦ inr (refl, r) ])
-operation_replied (suc zero) m (e ∷ es) (suc (suc k)) f h = (f, h, λ q. inl q)
-operation_replied (suc (suc j)) m (e ∷ es) zero f h = absurd (cc)
-operation_replied (suc (suc j)) m (e ∷ es) (suc zero) f h = (f, h, λ q. inl q)
-operation_replied (suc (suc j)) m (e ∷ es) (suc (suc k)) f h =
-    let r = operation_replied (suc j) m es (suc k) f h in
-    (r.0, r.1, λ fin. elim (r.2 fin) [ inl q ↦ inl q | inr q ↦ inr (ap suc q.0, q.1) ])
-
-noted_still : (o : Option ℕ) (b : Bool) (v n : ℕ) → o ≡ Some v → noted o b n ≡ Some v
-noted_still (Some u) b v n h = h
-noted_still None b v n h = absurd (cc)
-
-noted_now : (o : Option ℕ) (b : Bool) (n : ℕ) → b ≡ true → (v : ℕ) × (noted o b n ≡ Some v)
-noted_now (Some u) b n h = (u, refl)
-noted_now None true n h = (n, refl)
-noted_now None false n h = absurd (cc)
-
-ended_asked : (b : Bool) (core : Core) (e : Operation) → is_finished e ≡ false → HasEnded core → HasEnded (core_with_request b core e)
-ended_asked true core e new ended = ended
-ended_asked false core e new ended = λ k f at fin. elim (operation_snoc k core.entries e f at) [
-  | inl q ↦ ended k f q fin
-  | inr q ↦ (let bad : false ≡ true = sym new ∙ ap is_finished q ∙ fin in absurd (cc))
-]
-
-ended_answered : (o : Option ℕ) (core : Core) (m : Message) → HasEnded core → HasEnded (reply_to o core m)
-ended_answered None core m ended = ended
-ended_answered (Some j) core m ended = λ k f at fin.
-    let w = operation_replied j m core.entries k f at in
-    elim (w.2 fin) [
-      | inl q ↦ (let v = ended k w.0 w.1 q in (v.0, noted_still (core.ended_at k) ((j == k) && ends_reply m) v.0 (length core.entries) v.1))
-      | inr q ↦ noted_now (core.ended_at k) ((j == k) && ends_reply m) (length core.entries) (and_from (j == k) (ends_reply m) (eq-eqb j k q.0) q.1)
-    ]
-
-ended_complete : (core : Core) (m : Message) → HasEnded core → HasEnded (complete core m)
-unfolding complete
-ended_complete core (Request flags command cookie offset len p) ended = ended_asked (command == commands.DISC) core _ refl ended
-ended_complete core (ExtendedRequest flags command cookie offset len p) ended = ended_asked (command == commands.DISC) core _ refl ended
-ended_complete core (Simple error cookie p) ended = ended_answered (request_of_reply core (Simple error cookie p)) core (Simple error cookie p) ended
-ended_complete core (Chunk flags kind cookie p) ended = ended_answered (request_of_reply core (Chunk flags kind cookie p)) core (Chunk flags kind cookie p) ended
-ended_complete core (ExtendedChunk flags kind cookie at p) ended = ended_answered (request_of_reply core (ExtendedChunk flags kind cookie at p)) core (ExtendedChunk flags kind cookie at p) ended
-ended_complete core m ended = ended
-
-pub ended_end : (core : Core) (items : List Item) → HasEnded core → HasEnded (core_end core items)
-ended_end core [] ended = ended
-ended_end core (Completes s m ∷ items) ended = ended_end (complete core m) items (ended_complete core m ended)
-ended_end core (Serves e ∷ items) ended = ended_end core items ended
-ended_end core (Byte s b ∷ items) ended = ended_end core items ended
-ended_end core (Starts s m ∷ items) ended = ended_end core items ended

@@ -1,6 +1,10 @@
 -- A session in two parts is judged as the two are, one after the other.
 use Rattle.nbd_order.proofs.Common.{◌≡◌, ℕ, zero, suc, ◌+◌, ◌<◌, ◌≤◌, List, [], ◌∷◌, length, refl, sym, ap, subst, ◌∙◌, Option, Some, None, arith, take, slice_get, cases_lt, inl, inr, if◌then◌else◌, slice_get_within, Profile, Entry, Item, FitsImage, Start, start_byte, Effect, IsWrong, byte_before, byte_or_start, effects, last_touch, later, touch_of, Exporting, Report, due_in, inside_in, report, Passes, ExplainedPasses, PassingIsExplained, size_of}
 use Rattle.std.specs.Prelude.{◌++◌, ◌-◌}
+use Rattle.std.specs.Option.{option_map}
+use Rattle.std.proofs.Math.Seq.{take-append-add}
+use Rattle.std.proofs.lemmas.List.{take-append-le, take-map}
+use Rattle.std.proofs.lemmas.Option.{slice_get-map}
 use Rattle.nbd_wire.specs.protocol.ExportBytes.{IsWrongIn, IsWrongOf}
 use Rattle.nbd_wire.specs.protocol.Explains.{IsExplainedOf, known}
 use Rattle.nbd_wire.specs.protocol.Marks.{pairs}
@@ -10,21 +14,18 @@ use Rattle.nbd_laws.proofs.service.IndexLemmas.{by_entries, by_index}
 use Rattle.nbd_laws.specs.Soundness.{ReportsAreSound}
 use Rattle.nbd_judge.proofs.contents.CompareLemmas.{wrong_there}
 use Rattle.nbd_judge.proofs.contents.StartLemmas.{left_same, wrong_more}
-use Rattle.nbd_order.proofs.ChainLemmas.{later_assoc, left_behind, take_whole}
+use Rattle.nbd_order.proofs.ChainLemmas.{left_behind, take_whole}
 use Rattle.nbd_order.proofs.SplitLemmas.{AreParts, are_parts}
-use Rattle.nbd_order.proofs.SplitOrderLemmas.{AreLow, AreNamed, in_parts, in_whole, low_of_fine, named_of_fine, parted}
+use Rattle.nbd_order.proofs.SplitOrderLemmas.{AreLow, AreNamed, Each, in_parts, in_whole, low_of_fine, named_of_fine, parted}
+use Rattle.nbd_order.proofs.TouchLemmas.{later_later, later_none}
 use Rattle.nbd_order.specs.Leaving.{are_open_at, left}
 use Rattle.nbd_order.specs.Splits.{IsCut, IsExplainedInParts, SplitsAreExplained, SplitsLeaveTheSame, StandsAgain, behind, start_behind}
 
-later_none : (o : Option Effect) → later o None ≡ o
-later_none None = refl
-later_none (Some e) = refl
-
 touch_append : (requests : ℕ → Option Effect) (x : ℕ) (es fs : List Entry) → last_touch requests x (es ++ fs) ≡ later (last_touch requests x fs) (last_touch requests x es)
-touch_append requests x [] fs = sym (later_none (last_touch requests x fs))
+touch_append requests x [] fs = later_none (last_touch requests x fs)
 touch_append requests x (e ∷ es) fs =
     ap (λ l. later l (touch_of e.part (requests e.request) x)) (touch_append requests x es fs)
-    ∙ later_assoc (last_touch requests x fs) (last_touch requests x es) (touch_of e.part (requests e.request) x)
+    ∙ later_later (last_touch requests x fs) (last_touch requests x es) (touch_of e.part (requests e.request) x)
 
 touch_low : (n : ℕ) (whole first : ℕ → Option Effect) → ((k : ℕ) → 0 < k → k ≤ n → whole k ≡ first k) → (x : ℕ) (es : List Entry) → AreLow n es → last_touch whole x es ≡ last_touch first x es
 touch_low n whole first same x [] low = refl
@@ -38,25 +39,15 @@ touch_high n whole second same x (e ∷ es) named =
     ap (λ l. later l (touch_of e.part (whole (n + e.request)) x)) (touch_high n whole second same x es named.1)
     ∙ ap (λ o. later (last_touch second x es) (touch_of e.part o x)) (same e.request named.0)
 
-low_take : (n i : ℕ) (es : List Entry) → AreLow n es → AreLow n (take i es)
-low_take n zero es low = tt
-low_take n (suc i) [] low = tt
-low_take n (suc i) (e ∷ es) low = (low.0, low_take n i es low.1)
+each_take : (P : ℕ → Type 0) (i : ℕ) (es : List Entry) → Each P es → Each P (take i es)
+each_take P zero es each = tt
+each_take P (suc i) [] each = tt
+each_take P (suc i) (e ∷ es) each = (each.0, each_take P i es each.1)
 
-named_take : (i : ℕ) (es : List Entry) → AreNamed es → AreNamed (take i es)
-named_take zero es named = tt
-named_take (suc i) [] named = tt
-named_take (suc i) (e ∷ es) named = (named.0, named_take i es named.1)
-
-low_at : (n i : ℕ) (es : List Entry) (e : Entry) → AreLow n es → slice_get es i ≡ Some e → (0 < e.request) × (e.request ≤ n)
-low_at n i [] e low at = absurd (let q : None ≡ Some e = at in (cc))
-low_at n zero (d ∷ es) e low at = (let q : d ≡ e = (let s : Some d ≡ Some e = at in cc) in subst (λ (y : Entry). (0 < y.request) × (y.request ≤ n)) q low.0)
-low_at n (suc i) (d ∷ es) e low at = low_at n i es e low.1 at
-
-named_at : (i : ℕ) (es : List Entry) (e : Entry) → AreNamed es → slice_get es i ≡ Some e → 0 < e.request
-named_at i [] e named at = absurd (let q : None ≡ Some e = at in (cc))
-named_at zero (d ∷ es) e named at = (let q : d ≡ e = (let s : Some d ≡ Some e = at in cc) in subst (λ (y : Entry). 0 < y.request) q named.0)
-named_at (suc i) (d ∷ es) e named at = named_at i es e named.1 at
+each_at : (P : ℕ → Type 0) (i : ℕ) (es : List Entry) (e : Entry) → Each P es → slice_get es i ≡ Some e → P e.request
+each_at P i [] e each at = absurd (cc)
+each_at P zero (d ∷ es) e each at = (let q : d ≡ e = cc in subst (λ (y : Entry). P y.request) q each.0)
+each_at P (suc i) (d ∷ es) e each at = each_at P i es e each.1 at
 
 -- entries by their places in the two parts
 at_left : (es fs : List Entry) (i : ℕ) → i < length es → slice_get (es ++ fs) i ≡ slice_get es i
@@ -68,29 +59,15 @@ at_right : (es fs : List Entry) (i : ℕ) → slice_get (es ++ fs) (length es + 
 at_right [] fs i = ap (slice_get fs) (let q : 0 + i ≡ i = omega arith in q)
 at_right (e ∷ es) fs i = ap (slice_get (e ∷ (es ++ fs))) (let q : suc (length es) + i ≡ suc (length es + i) = omega arith in q) ∙ at_right es fs i
 
-take_left : (es fs : List Entry) (i : ℕ) → i ≤ length es → take i (es ++ fs) ≡ take i es
-take_left es fs zero l = refl
-take_left [] fs (suc i) l = absurd (omega (arith, l))
-take_left (e ∷ es) fs (suc i) l = ap (λ m. e ∷ m) (take_left es fs i (omega (arith, l)))
-
-take_right : (es fs : List Entry) (i : ℕ) → take (length es + i) (es ++ fs) ≡ es ++ take i fs
-take_right [] fs i = ap (λ n. take n fs) (let q : 0 + i ≡ i = omega arith in q)
-take_right (e ∷ es) fs i = ap (λ n. take n (e ∷ (es ++ fs))) (let q : suc (length es) + i ≡ suc (length es + i) = omega arith in q) ∙ ap (λ m. e ∷ m) (take_right es fs i)
-
-take_moved : (n i : ℕ) (es : List Entry) → take i (behind n es) ≡ behind n (take i es)
-take_moved n zero es = refl
-take_moved n (suc i) [] = refl
-take_moved n (suc i) (e ∷ es) = ap (λ m. record { request = n + e.request; part = e.part } ∷ m) (take_moved n i es)
-
-at_moved : (n : ℕ) (es : List Entry) (i : ℕ) (e : Entry) → slice_get es i ≡ Some e → slice_get (behind n es) i ≡ Some (record { request = n + e.request; part = e.part })
-at_moved n [] i e at = absurd (let q : None ≡ Some e = at in (cc))
-at_moved n (d ∷ es) zero e at = (let q : d ≡ e = (let s : Some d ≡ Some e = at in cc) in ap (λ (y : Entry). Some (record { request = n + y.request; part = y.part })) q)
-at_moved n (d ∷ es) (suc i) e at = at_moved n es i e at
+at_moved : (n : ℕ) (es : List Entry) (i : ℕ) → slice_get (behind n es) i ≡ option_map (λ (e : Entry). record { request = n + e.request; part = e.part }) (slice_get es i)
+at_moved n es i = slice_get-map (λ (e : Entry). record { request = n + e.request; part = e.part }) es i
 
 from_moved : (n : ℕ) (es : List Entry) (i : ℕ) (f : Entry) → slice_get (behind n es) i ≡ Some f → (e : Entry) × (slice_get es i ≡ Some e) × (record { request = n + e.request; part = e.part } ≡ f)
-from_moved n [] i f at = absurd (let q : None ≡ Some f = at in (cc))
-from_moved n (d ∷ es) zero f at = (d, refl, (let s : Some (record { request = n + d.request; part = d.part }) ≡ Some f = at in cc))
-from_moved n (d ∷ es) (suc i) f at = from_moved n es i f at
+from_moved n es i f at = go (slice_get es i) refl
+  where
+    go : (o : Option Entry) → slice_get es i ≡ o → (e : Entry) × (slice_get es i ≡ Some e) × (record { request = n + e.request; part = e.part } ≡ f)
+    go (Some e) q = (e, q, cc (at_moved n es i))
+    go None q = absurd (cc (at_moved n es i))
 
 -- a wrong byte by other requests and bytes that are the same there
 wrong_by : (requests others : ℕ → Option Effect) (entry : Entry) (byte other : ℕ → Option ℕ) (x : ℕ) → others entry.request ≡ requests entry.request → other x ≡ byte x → IsWrongOf requests entry byte x → IsWrongOf others entry other x
@@ -108,7 +85,7 @@ module _ (profile : Profile) (n : ℕ) (r r1 r2 : Report) (export : Exporting) (
   left_first x = ap (λ b. if b then None else byte_before (effects r1) earlier initial (length earlier) x) (are.none_open x) ∙ ap (λ l. byte_or_start (last_touch (effects r1) x l) initial x) (take_whole earlier)
 
   byte_first : (i x : ℕ) → i ≤ length earlier → byte_before (effects r) order initial i x ≡ byte_before (effects r1) earlier initial i x
-  byte_first i x l = ap (λ t. byte_or_start (last_touch (effects r) x t) initial x) (take_left earlier (behind n later) i l) ∙ ap (λ t. byte_or_start t initial x) (touch_low n (effects r) (effects r1) are.effects_low x (take i earlier) (low_take n i earlier low))
+  byte_first i x l = ap (λ t. byte_or_start (last_touch (effects r) x t) initial x) (take-append-le i earlier (behind n later) l) ∙ ap (λ t. byte_or_start t initial x) (touch_low n (effects r) (effects r1) are.effects_low x (take i earlier) (each_take _ i earlier low))
 
   byte_behind_first : (x : ℕ) (taken : List Entry) → AreNamed taken → byte_or_start (last_touch (effects r) x (earlier ++ behind n taken)) initial x ≡ byte_or_start (last_touch (effects r2) x taken) (left r1 earlier initial) x
   byte_behind_first x taken are_named =
@@ -120,22 +97,22 @@ module _ (profile : Profile) (n : ℕ) (r r1 r2 : Report) (export : Exporting) (
 
   byte_second : (i x : ℕ) → byte_before (effects r) order initial (length earlier + i) x ≡ byte_before (effects r2) later (left r1 earlier initial) i x
   byte_second i x =
-      ap (λ t. byte_or_start (last_touch (effects r) x t) initial x) (take_right earlier (behind n later) i ∙ ap (λ t. earlier ++ t) (take_moved n i later))
-      ∙ byte_behind_first x (take i later) (named_take i later named)
+      ap (λ t. byte_or_start (last_touch (effects r) x t) initial x) (take-append-add earlier (behind n later) i ∙ ap (λ t. earlier ++ t) (take-map (λ (e : Entry). record { request = n + e.request; part = e.part }) i later))
+      ∙ byte_behind_first x (take i later) (each_take _ i later named)
 
   pub wrong_first : (i x : ℕ) → IsWrong (effects r1) earlier initial i x → IsWrong (effects r) order initial i x
   wrong_first i x w =
       let l : i < length earlier = slice_get_within earlier i w.0 w.1 in
-      let k = low_at n i earlier w.0 low w.1 in
+      let k = each_at _ i earlier w.0 low w.1 in
       (w.0, at_left earlier (behind n later) i l ∙ w.1, wrong_by (effects r1) (effects r) w.0 (byte_before (effects r1) earlier initial i) (byte_before (effects r) order initial i) x (are.effects_low w.0.request k.0 k.1) (byte_first i x (omega (arith, l))) w.2)
 
   pub wrong_second : (i x : ℕ) → IsWrong (effects r2) later (left r1 earlier initial) i x → IsWrong (effects r) order initial (length earlier + i) x
   wrong_second i x w = (
     record { request = n + w.0.request; part = w.0.part },
-    at_right earlier (behind n later) i ∙ at_moved n later i w.0 w.1,
+    at_right earlier (behind n later) i ∙ at_moved n later i ∙ ap (option_map (λ (e : Entry). record { request = n + e.request; part = e.part })) w.1,
     (
       w.2.0,
-      are.effects_high w.0.request (named_at i later w.0 named w.1) ∙ w.2.1,
+      are.effects_high w.0.request (each_at _ i later w.0 named w.1) ∙ w.2.1,
       wrong_there w.0.part w.2.0 (byte_before (effects r2) later (left r1 earlier initial) i) (byte_before (effects r) order initial (length earlier + i)) x w.2.2 (byte_second i x),
     ),
   )
@@ -143,12 +120,12 @@ module _ (profile : Profile) (n : ℕ) (r r1 r2 : Report) (export : Exporting) (
   pub wrong_parts : ((i x : ℕ) → IsWrong (effects r1) earlier initial i x → ⊥) → ((i x : ℕ) → IsWrong (effects r2) later (left r1 earlier initial) i x → ⊥) → (i x : ℕ) → IsWrong (effects r) order initial i x → ⊥
   wrong_parts first second i x w = elim (cases_lt i (length earlier)) [
     | inl l ↦ (let at : slice_get earlier i ≡ Some w.0 = sym (at_left earlier (behind n later) i l) ∙ w.1 in
-        let k = low_at n i earlier w.0 low at in
+        let k = each_at _ i earlier w.0 low at in
         first i x (w.0, at, wrong_by (effects r) (effects r1) w.0 (byte_before (effects r) order initial i) (byte_before (effects r1) earlier initial i) x (sym (are.effects_low w.0.request k.0 k.1)) (sym (byte_first i x (omega (arith, l)))) w.2))
     | inr l ↦ (let j = i - length earlier in
         let same : i ≡ length earlier + j = omega (arith, l) in
         let at = from_moved n later j w.0 (sym (at_right earlier (behind n later) j) ∙ ap (slice_get order) (sym same) ∙ w.1) in
-        let p = named_at j later at.0 named at.1 in
+        let p = each_at _ j later at.0 named at.1 in
         let part : at.0.part ≡ w.0.part = ap (λ (y : Entry). y.part) at.2 in
         let number : n + at.0.request ≡ w.0.request = ap (λ (y : Entry). y.request) at.2 in
         let here = wrong_there w.0.part w.2.0 (byte_before (effects r) order initial i) (byte_before (effects r2) later (left r1 earlier initial) j) x w.2.2 (sym (ap (λ k. byte_before (effects r) order initial k x) same ∙ byte_second j x)) in
@@ -228,8 +205,8 @@ module _ (sound : ReportsAreSound) (passing : PassingIsExplained) (only : Explai
       let q : Passes profile two h.later (start_behind one h.earlier initial) = only profile (negotiation ++ again) h.later (start_behind one h.earlier initial) stands.is_run h.second_is in
       let f : NoFault one h.earlier = by_entries (due_in profile one) n (inside_in one) h.earlier p.faultless in
       let g : NoFault two h.later = by_entries (due_in profile two) (length two.asked) (inside_in two) h.later q.faultless in
-      let low = low_of_fine n (inside_in one) [] h.earlier f.fine in
-      let named = named_of_fine (length two.asked) (inside_in two) [] h.later g.fine in
+      let low = low_of_fine n (inside_in one) h.earlier f.fine in
+      let named = named_of_fine (length two.asked) (inside_in two) h.later g.fine in
       let w = in_whole n (length two.asked) (due_in profile whole) (due_in profile one) (due_in profile two) (inside_in whole) (inside_in one) (inside_in two) are.due_low are.due_high are.in_low are.in_high are.met h.earlier h.later f g in
       subst (λ o. IsExplainedOf profile (pairs (first ++ rest)) o initial) (sym h.parts)
       (passing profile (first ++ rest) (h.earlier ++ behind n h.later) initial cut.goes_on record {
@@ -251,7 +228,7 @@ splits_leave_the_same sound only profile first rest negotiation again export ord
     let are = are_parts profile first rest negotiation again export sound cut stands in
     let p : Passes profile one h.earlier initial = only profile first h.earlier initial cut.is_run h.first_is in
     let q : Passes profile two h.later (start_behind one h.earlier initial) = only profile (negotiation ++ again) h.later (start_behind one h.earlier initial) stands.is_run h.second_is in
-    let low = low_of_fine (length one.asked) (inside_in one) [] h.earlier (by_entries (due_in profile one) (length one.asked) (inside_in one) h.earlier p.faultless).fine in
-    let named = named_of_fine (length two.asked) (inside_in two) [] h.later (by_entries (due_in profile two) (length two.asked) (inside_in two) h.later q.faultless).fine in
+    let low = low_of_fine (length one.asked) (inside_in one) h.earlier (by_entries (due_in profile one) (length one.asked) (inside_in one) h.earlier p.faultless).fine in
+    let named = named_of_fine (length two.asked) (inside_in two) h.later (by_entries (due_in profile two) (length two.asked) (inside_in two) h.later q.faultless).fine in
     ap (λ o. left (report (first ++ rest)) o (start_byte initial) x) h.parts
     ∙ left_parts profile (length one.asked) (report (first ++ rest)) one two export are h.earlier h.later low named (start_byte initial) (start_byte (start_behind one h.earlier initial)) x (start_is one h.earlier initial export are.first_export x l)

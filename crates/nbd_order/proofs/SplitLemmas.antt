@@ -1,13 +1,12 @@
 -- A session in two parts: what its report has of those of the parts.
-use Rattle.nbd_order.proofs.Common.{◌≡◌, ℕ, zero, suc, ◌+◌, ◌<◌, ◌≤◌, ◌&&◌, ◌||◌, List, [], ◌∷◌, length, refl, sym, ap, subst, ◌∙◌, Bool, true, false, not, Option, Some, None, arith, nat_le, if◌then◌else◌, leb-true, Profile, Base, Item, Effect, effect, effect_if, effects, Exporting, Asked, Report, asked_at, due_by_chunk, due_in, due_of, first_shown, inside_in, lesser_of, is_change, is_in}
+use Rattle.nbd_order.proofs.Common.{◌≡◌, ℕ, zero, suc, ◌+◌, ◌<◌, ◌≤◌, ◌&&◌, ◌||◌, List, [], ◌∷◌, length, refl, sym, ap, subst, ◌∙◌, Bool, true, false, not, Option, Some, None, arith, nat_le, if◌then◌else◌, Profile, Base, Item, Effect, effect, effect_if, effects, Exporting, Asked, Report, asked_at, due_by_chunk, due_in, due_of, first_shown, inside_in, lesser_of, is_change, is_in}
 use Rattle.std.specs.Prelude.{◌++◌}
 use Rattle.std.proofs.Common.{append-nil, length-append}
-use Rattle.nbd_wire.specs.protocol.Operations.{Failure, Operation, Pending, Success, has_failed, is_chunked, is_finished, outcome}
+use Rattle.nbd_wire.specs.protocol.Operations.{Operation, Pending, is_chunked, is_finished, outcome}
 unfoldable use Rattle.nbd_wire.specs.protocol.Reports.{report}
 use Rattle.nbd_wire.specs.protocol.Reports.{asked_list, asked_of, known_count}
 use Rattle.nbd_wire.specs.protocol.Rules.{Obeys, ends_at, inside_operation}
-use Rattle.nbd_wire.specs.protocol.Sizes.{sizes_kept}
-use Rattle.nbd_wire.specs.protocol.States.{Core, Transmission, export_in, in_force, operation, start, start_of}
+use Rattle.nbd_wire.specs.protocol.States.{Core, Transmission, export_in, operation, start_of}
 use Rattle.nbd_wire.specs.protocol.Verdicts.{is_answered}
 use Rattle.nbd_laws.proofs.requests.ReportLemmas.{asked-report, entry_within, length-report, stated, told_if}
 use Rattle.nbd_laws.proofs.runs.PartLemmas.{obeys_back}
@@ -18,7 +17,8 @@ use Rattle.nbd_laws.proofs.service.InsideLemmas.{core_end}
 use Rattle.nbd_laws.proofs.service.MomentLemmas.{due-report, inside-report}
 use Rattle.nbd_laws.specs.Profiles.{with_profile}
 use Rattle.nbd_laws.specs.Soundness.{IsAfter, ReportsAreSound}
-use Rattle.nbd_order.proofs.SplitCoreLemmas.{AllDone, Behind, HasEnded, due_append, due_behind, due_completed, due_unserved, end_append, end_behind, end_unserved, ended_end, operation_before, operation_behind, plus}
+use Rattle.nbd_order.proofs.SplitCoreLemmas.{AllDone, Behind, due_append, due_completed, due_unserved, end_append, end_unserved, items_behind, operation_before, operation_behind, plus}
+use Rattle.nbd_order.proofs.TimedLemmas.{ended_at_end}
 use Rattle.nbd_order.specs.Leaving.{are_open_at}
 use Rattle.nbd_order.specs.Splits.{IsCut, StandsAgain, core_of}
 
@@ -28,7 +28,6 @@ pub record AreParts (profile : Profile) (n : ℕ) (r r1 r2 : Report) (export : E
   pub first_export : r1.export ≡ Some export
   pub second_export : r2.export ≡ Some export
   pub count : length r.asked ≡ n + length r2.asked
-  pub first_count : length r1.asked ≡ n
   pub effects_low : (k : ℕ) → 0 < k → k ≤ n → effects r k ≡ effects r1 k
   pub effects_high : (k : ℕ) → 0 < k → effects r (n + k) ≡ effects r2 k
   pub in_low : (k : ℕ) → 0 < k → k ≤ n → inside_in r k ≡ inside_in r1 k
@@ -55,6 +54,9 @@ effect_told core κ k None = refl
 effect_report : (items : List Item) (k : ℕ) → effects (report items) k ≡ effect_op (export_in (core_of items).phase) (operation k (core_of items).entries)
 effect_report items k = ap effect_if (asked-report items k) ∙ effect_told (core_of items) (known_count items) k (operation k (core_of items).entries)
 
+inside_report : (items : List Item) (k : ℕ) → inside_in (report items) k ≡ inside_operation (export_in (core_of items).phase) (operation k (core_of items).entries)
+inside_report items k = ap (λ f. f k) (inside-report items)
+
 export_report : (items : List Item) → (report items).export ≡ export_in (core_of items).phase
 unfolding report
 export_report items = refl
@@ -72,45 +74,25 @@ open_report : (items : List Item) (x : ℕ) → are_open_at (report items).asked
 unfolding report
 open_report items x = open_listed 0 (core_of items) (known_count items) (core_of items).entries x
 
-answered_of : (e : Operation) → is_finished e ≡ true → is_answered (outcome e) ≡ true
-answered_of e h = ap (λ b. is_answered (if b then (if has_failed e then Failure else Success) else Pending)) h ∙ go (has_failed e)
-  where
-    go : (b : Bool) → is_answered (if b then Failure else Success) ≡ true
-    go true = refl
-    go false = refl
-
-not_open : (b c : Bool) (v : Bool) → v ≡ true → ((b && not v) && c) ≡ false
-not_open true c true h = refl
-not_open false c v h = refl
-not_open true c false h = absurd (cc)
-
-done_closed : (es : List Operation) (x : ℕ) → AllDone es → ops_open es x ≡ false
-done_closed [] x d = refl
-done_closed (e ∷ es) x d = ap (λ b. b || ops_open es x) (not_open (is_change e.command) (is_in e.offset e.length x) (is_answered (outcome e)) (answered_of e d.0)) ∙ done_closed es x d.1
+not_open : (e : Operation) (x : ℕ) → is_finished e ≡ true → ((is_change e.command && not (is_answered (outcome e))) && is_in e.offset e.length x) ≡ false
+not_open e x done = grind arith
 
 open_behind : (done es : List Operation) (x : ℕ) → AllDone done → ops_open (done ++ es) x ≡ ops_open es x
 open_behind [] es x d = refl
-open_behind (e ∷ done) es x d = ap (λ b. b || ops_open (done ++ es) x) (not_open (is_change e.command) (is_in e.offset e.length x) (is_answered (outcome e)) (answered_of e d.0)) ∙ open_behind done es x d.1
+open_behind (e ∷ done) es x d = ap (λ b. b || ops_open (done ++ es) x) (not_open e x d.0) ∙ open_behind done es x d.1
 
 -- each request is finished, where each is by its number
 all_done : (es : List Operation) → ((k : ℕ) (e : Operation) → operation k es ≡ Some e → is_finished e ≡ true) → AllDone es
 all_done [] h = tt
-all_done (e ∷ es) h = (h 1 e refl, all_done es (λ k. later k))
+all_done (e ∷ es) h = (h 1 e refl, all_done es (λ k. later es h k))
   where
-    later : (k : ℕ) (f : Operation) → operation k es ≡ Some f → is_finished f ≡ true
-    later zero f q = absurd (none es q)
-      where
-        none : (l : List Operation) → operation zero l ≡ Some f → ⊥
-        none [] q = (cc)
-        none (y ∷ l) q = (cc)
-    later (suc k) f q = h (suc (suc k)) f q
+    later : (es : List Operation) → ((k : ℕ) (f : Operation) → operation k (e ∷ es) ≡ Some f → is_finished f ≡ true) → (k : ℕ) (f : Operation) → operation k es ≡ Some f → is_finished f ≡ true
+    later es h (suc k) f q = h (suc (suc k)) f q
+    later [] h zero f q = absurd (cc)
+    later (d ∷ es) h zero f q = absurd (cc)
 
 is_finished_of : (e : Operation) → (outcome e ≡ Pending → ⊥) → is_finished e ≡ true
-is_finished_of e h = go (is_finished e) refl
-  where
-    go : (b : Bool) → is_finished e ≡ b → b ≡ true
-    go true q = refl
-    go false q = absurd (h (ap (λ b. if b then (if has_failed e then Failure else Success) else Pending) q))
+is_finished_of e h = grind arith
 
 none_of : (o : Option ℕ) → ((m : ℕ) → o ≡ Some m → ⊥) → o ≡ None
 none_of None h = refl
@@ -118,11 +100,7 @@ none_of (Some m) h = absurd (h m refl)
 
 lesser_some : (o : Option ℕ) (v : ℕ) → (m : ℕ) × (lesser_of o (Some v) ≡ Some m) × (m ≤ v)
 lesser_some None v = (v, refl, omega arith)
-lesser_some (Some u) v = go (nat_le u v) refl
-  where
-    go : (b : Bool) → nat_le u v ≡ b → (m : ℕ) × (Some (if b then u else v) ≡ Some m) × (m ≤ v)
-    go true h = (u, refl, leb-true u v h)
-    go false h = (v, refl, omega arith)
+lesser_some (Some u) v = (if nat_le u v then u else v, refl, grind arith)
 
 -- of a request that has ended all was due
 due_ended : (profile : Profile) (within : ℕ → Bool) (a : Asked) (count v x : ℕ) → a.ended_at ≡ Some v → IsAfter a.known_at count v → (m : ℕ) × (due_of profile within (Some a) x ≡ Some m) × (m ≤ v)
@@ -169,18 +147,19 @@ module _ (profile : Profile) (first rest negotiation again : List Item) (export 
   begun : Behind done (core_end fresh first) (core_end fresh negotiation)
   begun = record {
     profile = same_profile first ∙ sym (same_profile negotiation);
-    phase = ap (λ (c : Core). c.phase) at_first ∙ sym stands.leads.phase ∙ sym (ap (λ (c : Core). c.phase) at_negotiation);
-    structured = ap (λ (c : Core). c.structured) at_first ∙ sym stands.leads.structured ∙ sym (ap (λ (c : Core). c.structured) at_negotiation);
-    contexts = ap in_force at_first ∙ sym stands.leads.contexts ∙ sym (ap in_force at_negotiation);
-    sizes = ap (λ (c : Core). sizes_kept c.sizing) at_first ∙ sym stands.leads.sizes ∙ sym (ap (λ (c : Core). sizes_kept c.sizing) at_negotiation);
-    entries = ap (λ (c : Core). c.entries) at_first ∙ sym (append-nil done) ∙ ap (λ l. done ++ l) (sym none_yet);
+    phase = cc (at_first, at_negotiation, stands.leads.phase);
+    structured = cc (at_first, at_negotiation, stands.leads.structured);
+    contexts = cc (at_first, at_negotiation, stands.leads.contexts);
+    sizes = cc (at_first, at_negotiation, stands.leads.sizes);
+    entries = cc (at_first, none_yet, append-nil done);
   }
 
   obeyed : Obeys (record { core = core_end fresh first; served = (ends_at (start_of profile) first).served }) rest
   obeyed = subst (λ c. Obeys (record { core = c; served = (ends_at (start_of profile) first).served }) rest) (sym (core_end-ends_at fresh [] first)) (obeys_back (start_of profile) first rest cut.goes_on.obeys)
 
   ended_so : Behind done (core_end (core_end fresh first) rest) (core_end (core_end fresh negotiation) rest) × ((core_end (core_end fresh first) rest).phase ≡ Transmission export)
-  ended_so = end_behind done all export rest (core_end fresh first) (core_end fresh negotiation) (ends_at (start_of profile) first).served phase_first begun obeyed
+      × ((k x : ℕ) → 0 < k → due_from (core_end fresh first) rest (length done + k) x ≡ plus (length done) (due_from (core_end fresh negotiation) rest k x))
+  ended_so = items_behind done all export rest (core_end fresh first) (core_end fresh negotiation) (ends_at (start_of profile) first).served phase_first begun obeyed
 
   whole_is : core_end fresh (first ++ rest) ≡ core_end (core_end fresh first) rest
   whole_is = end_append fresh first rest
@@ -200,14 +179,20 @@ module _ (profile : Profile) (first rest negotiation again : List Item) (export 
   abbrev second : Core
   second = core_of (negotiation ++ again)
 
+  at_whole : with_profile Base (core_end fresh (first ++ rest)) ≡ whole
+  at_whole = base_of profile (first ++ rest)
+
+  at_second : with_profile Base (core_end fresh (negotiation ++ again)) ≡ second
+  at_second = base_of profile (negotiation ++ again)
+
   entries_are : whole.entries ≡ done ++ second.entries
-  entries_are = sym (ap (λ (c : Core). c.entries) (base_of profile (first ++ rest))) ∙ at_end.entries ∙ ap (λ l. done ++ l) (ap (λ (c : Core). c.entries) (base_of profile (negotiation ++ again)))
+  entries_are = cc (at_whole, at_second, at_end.entries)
 
   phase_whole : whole.phase ≡ Transmission export
-  phase_whole = sym (ap (λ (c : Core). c.phase) (base_of profile (first ++ rest))) ∙ ap (λ (c : Core). c.phase) whole_is ∙ ended_so.1
+  phase_whole = cc (at_whole, whole_is, ended_so.1)
 
   phase_second : second.phase ≡ Transmission export
-  phase_second = sym (ap (λ (c : Core). c.phase) (base_of profile (negotiation ++ again))) ∙ sym at_end.phase ∙ ap (λ (c : Core). c.phase) whole_is ∙ ended_so.1
+  phase_second = cc (at_second, at_whole, at_end.phase, phase_whole)
 
   due_parts : (k x : ℕ) → due_in profile (report (first ++ rest)) k x ≡ or_later (due_in profile (report first) k x) (due_from (core_end fresh first) rest k x)
   due_parts k x = sym (due-report profile (first ++ rest) cut.goes_on k x) ∙ due_append fresh first rest k x ∙ ap (λ o. or_later o (due_from (core_end fresh first) rest k x)) (due-report profile first cut.is_run k x)
@@ -215,9 +200,7 @@ module _ (profile : Profile) (first rest negotiation again : List Item) (export 
   met_first : (k x : ℕ) → 0 < k → k ≤ count_of → (m : ℕ) × (due_in profile (report first) k x ≡ Some m) × (m ≤ count_of)
   met_first k x p l =
       let e = entry_within k done p (let c : count_of ≡ length done = counted in omega (arith, l, c)) in
-      let ended = ended_end start.core first (λ j f at fin. absurd (let q : None ≡ Some f = at in (cc))) in
-      let last : core_end start.core first ≡ core_of first = core_end-ends_at start.core [] first in
-      let v = subst HasEnded last ended k e.0 e.1 (finished k e.0 e.1) in
+      let v = ended_at_end first cut.is_run k e.0 e.1 (finished k e.0 e.1) in
       let at : asked_at k (report first).asked ≡ Some (stated (core_of first) (known_count first) k e.0) = asked-report first k ∙ ap (told_if (core_of first) (known_count first) k) e.1 in
       let s = (sound profile first cut.is_run).each export k (stated (core_of first) (known_count first) k e.0) (export_report first ∙ ap export_in cut.in_transmission) at in
       let is_after = s.ended v.0 v.1 in
@@ -232,35 +215,25 @@ module _ (profile : Profile) (first rest negotiation again : List Item) (export 
     first_export = export_report first ∙ ap export_in cut.in_transmission;
     second_export = export_report (negotiation ++ again) ∙ ap export_in phase_second;
     count = length-report (first ++ rest) ∙ ap length entries_are ∙ length-append done second.entries ∙ ap (λ n. n + length second.entries) (sym counted) ∙ ap (λ n. count_of + n) (sym (length-report (negotiation ++ again)));
-    first_count = refl;
-    effects_low = λ k p l.
-        effect_report (first ++ rest) k ∙ ap (λ phase. effect_op (export_in phase) (operation k whole.entries)) (phase_whole ∙ sym cut.in_transmission)
-        ∙ ap (λ es. effect_op (export_in (core_of first).phase) (operation k es)) entries_are
-        ∙ ap (effect_op (export_in (core_of first).phase)) (operation_before k done second.entries p (let c : count_of ≡ length done = counted in omega (arith, l, c)))
-        ∙ sym (effect_report first k);
-    effects_high = λ k p.
-        effect_report (first ++ rest) (count_of + k) ∙ ap (λ phase. effect_op (export_in phase) (operation (count_of + k) whole.entries)) (phase_whole ∙ sym phase_second)
-        ∙ ap (effect_op (export_in second.phase)) (higher k p) ∙ sym (effect_report (negotiation ++ again) k);
-    in_low = λ k p l.
-        ap (λ f. f k) (inside-report (first ++ rest)) ∙ ap (λ phase. inside_operation (export_in phase) (operation k whole.entries)) (phase_whole ∙ sym cut.in_transmission)
-        ∙ ap (λ es. inside_operation (export_in (core_of first).phase) (operation k es)) entries_are
-        ∙ ap (inside_operation (export_in (core_of first).phase)) (operation_before k done second.entries p (let c : count_of ≡ length done = counted in omega (arith, l, c)))
-        ∙ sym (ap (λ f. f k) (inside-report first));
-    in_high = λ k p.
-        ap (λ f. f (count_of + k)) (inside-report (first ++ rest)) ∙ ap (λ phase. inside_operation (export_in phase) (operation (count_of + k) whole.entries)) (phase_whole ∙ sym phase_second)
-        ∙ ap (inside_operation (export_in second.phase)) (higher k p) ∙ sym (ap (λ f. f k) (inside-report (negotiation ++ again)));
+    effects_low = λ k p l. cc (effect_report (first ++ rest) k, effect_report first k, phase_whole, cut.in_transmission, lower k p l);
+    effects_high = λ k p. cc (effect_report (first ++ rest) (count_of + k), effect_report (negotiation ++ again) k, phase_whole, phase_second, higher k p);
+    in_low = λ k p l. cc (inside_report (first ++ rest) k, inside_report first k, phase_whole, cut.in_transmission, lower k p l);
+    in_high = λ k p. cc (inside_report (first ++ rest) (count_of + k), inside_report (negotiation ++ again) k, phase_whole, phase_second, higher k p);
     due_low = λ k x p l. (let d = met_first k x p l in due_parts k x ∙ ap (λ o. or_later o (due_from (core_end fresh first) rest k x)) d.1 ∙ sym d.1);
     due_high = λ k x p.
         due_parts (count_of + k) x ∙ ap (λ o. or_later o (due_from (core_end fresh first) rest (count_of + k) x)) (not_due_first k x p)
         ∙ ap (λ n. due_from (core_end fresh first) rest (n + k) x) counted
-        ∙ due_behind done all export rest (core_end fresh first) (core_end fresh negotiation) (ends_at (start_of profile) first).served phase_first begun obeyed k x p
+        ∙ ended_so.2 k x p
         ∙ ap (λ n. plus n (due_from (core_end fresh negotiation) rest k x)) (sym counted)
         ∙ ap (plus count_of) (due_second k x);
     met = met_first;
-    none_open = λ x. open_report first x ∙ done_closed done x all;
+    none_open = λ x. open_report first x ∙ ap (λ es. ops_open es x) (sym (append-nil done)) ∙ open_behind done [] x all;
     open_same = λ x. open_report (first ++ rest) x ∙ ap (λ es. ops_open es x) entries_are ∙ open_behind done second.entries x all ∙ sym (open_report (negotiation ++ again) x);
   }
     where
+      lower : (k : ℕ) → 0 < k → k ≤ count_of → operation k whole.entries ≡ operation k done
+      lower k p l = ap (operation k) entries_are ∙ operation_before k done second.entries p (let c : count_of ≡ length done = counted in omega (arith, l, c))
+
       higher : (k : ℕ) → 0 < k → operation (count_of + k) whole.entries ≡ operation k second.entries
       higher k p = ap (λ n. operation (n + k) whole.entries) counted ∙ ap (operation (length done + k)) entries_are ∙ operation_behind k done second.entries p
 

@@ -1,51 +1,56 @@
 -- An order of a session in two parts, of which the first has n requests, each of them due in it.
-use Rattle.nbd_order.proofs.Common.{◌≡◌, ℕ, ◌+◌, ◌<◌, ◌≤◌, ◌==◌, ◌&&◌, ◌||◌, List, [], ◌∷◌, refl, sym, ap, subst, ◌∙◌, Bool, true, IsTrue, Option, Some, None, arith, nat_lt, Entry, Part, Names, IsAgain, IsMisplaced, in_part, is_served, inl, inr, and_from, or_cases, or_left, or_right, eq-eqb, eqb-true, lt-ltb, cases_lt}
+use Rattle.nbd_order.proofs.Common.{◌≡◌, ℕ, ◌+◌, ◌<◌, ◌≤◌, ◌==◌, ◌&&◌, ◌||◌, List, [], ◌∷◌, refl, sym, ap, subst, ◌∙◌, Bool, true, IsTrue, Option, Some, None, arith, nat_lt, Entry, Part, Names, IsAgain, IsMisplaced, in_part, is_served, inl, inr, and_from, or_cases, or_left, or_right, eq-eqb, lt-ltb, cases_lt}
 use Rattle.std.specs.Prelude.{◌++◌, ◌⊎◌, ◌-◌}
 use Rattle.std.proofs.lemmas.Bool.{le-leb}
 use Rattle.std.proofs.Common.{append-nil, append_assoc}
 use Rattle.nbd_wire.specs.protocol.Entries.{IsServedAt, NamesWhole}
 use Rattle.nbd_laws.proofs.service.EntryLemmas.{AreFine, AreFine-as, AreFine-left, AreFine-right, HasNoFault, IsFine, IsInTime, IsInTime-right, Names-append_cases, names_served, served-append, served_at-left, served_behind, whole_names}
-use Rattle.nbd_order.proofs.SplitCoreLemmas.{plus, same_bool}
+use Rattle.nbd_order.proofs.SplitCoreLemmas.{plus, same_number}
 use Rattle.nbd_order.specs.Splits.{behind}
 
 -- an entry as one of the whole
 abbrev moved : ℕ → Entry → Entry
 moved n e = record { request = n + e.request; part = e.part }
 
+-- each names a request with the property
+abbrev pub Each : (ℕ → Type 0) → List Entry → Type 0
+Each P [] = Unit {0}
+Each P (e ∷ es) = P e.request × Each P es
+
 -- each names a request
 abbrev pub AreNamed : List Entry → Type 0
-AreNamed [] = Unit {0}
-AreNamed (e ∷ es) = (0 < e.request) × AreNamed es
+AreNamed es = Each (λ k. 0 < k) es
 
 -- each names a request of the first part
 abbrev pub AreLow : ℕ → List Entry → Type 0
-AreLow n [] = Unit {0}
-AreLow n (e ∷ es) = ((0 < e.request) × (e.request ≤ n)) × AreLow n es
+AreLow n es = Each (λ k. (0 < k) × (k ≤ n)) es
 
-pub low_names : (n : ℕ) (es : List Entry) (k : ℕ) → AreLow n es → Names es k → (0 < k) × (k ≤ n)
-low_names n [] k low h = absurd h
-low_names n (e ∷ es) k low h = elim h [ inl q ↦ (let p : 0 < e.request = low.0.0 in let l : e.request ≤ n = low.0.1 in (omega (arith, q, p), omega (arith, q, l))) | inr r ↦ low_names n es k low.1 r ]
+each_names : (P : ℕ → Type 0) (es : List Entry) (k : ℕ) → Each P es → Names es k → P k
+each_names P [] k each h = absurd h
+each_names P (e ∷ es) k each h = elim h [ inl q ↦ subst P q each.0 | inr r ↦ each_names P es k each.1 r ]
 
-pub named_names : (es : List Entry) (k : ℕ) → AreNamed es → Names es k → 0 < k
-named_names [] k named h = absurd h
-named_names (e ∷ es) k named h = elim h [ inl q ↦ (let p : 0 < e.request = named.0 in omega (arith, q, p)) | inr r ↦ named_names es k named.1 r ]
+pub each_of_fine : (P : ℕ → Type 0) (n : ℕ) (inside : ℕ → ℕ → Bool) (before es : List Entry) → ((k : ℕ) → 0 < k → k ≤ n → P k) → AreFine n inside before es → Each P es
+each_of_fine P n inside before [] all f = tt
+each_of_fine P n inside before (e ∷ es) all f = (all e.request f.0.0 f.0.1, each_of_fine P n inside (before ++ e ∷ []) es all f.1)
 
-pub low_of_fine : (n : ℕ) (inside : ℕ → ℕ → Bool) (before es : List Entry) → AreFine n inside before es → AreLow n es
-low_of_fine n inside before [] f = tt
-low_of_fine n inside before (e ∷ es) f = ((f.0.0, f.0.1), low_of_fine n inside (before ++ e ∷ []) es f.1)
+pub low_of_fine : (n : ℕ) (inside : ℕ → ℕ → Bool) (es : List Entry) → AreFine n inside [] es → AreLow n es
+low_of_fine n inside es f = each_of_fine _ n inside [] es (λ k p l. (p, l)) f
 
-pub named_of_fine : (n : ℕ) (inside : ℕ → ℕ → Bool) (before es : List Entry) → AreFine n inside before es → AreNamed es
-named_of_fine n inside before [] f = tt
-named_of_fine n inside before (e ∷ es) f = (f.0.0, named_of_fine n inside (before ++ e ∷ []) es f.1)
+pub named_of_fine : (n : ℕ) (inside : ℕ → ℕ → Bool) (es : List Entry) → AreFine n inside [] es → AreNamed es
+named_of_fine n inside es f = each_of_fine _ n inside [] es (λ k p l. p) f
+
+low_names : (n : ℕ) (es : List Entry) (k : ℕ) → AreLow n es → Names es k → (0 < k) × (k ≤ n)
+low_names n es k = each_names (λ k. (0 < k) × (k ≤ n)) es k
+
+named_names : (es : List Entry) (k : ℕ) → AreNamed es → Names es k → 0 < k
+named_names es k = each_names (λ k. 0 < k) es k
 
 -- what entries serve of a request those of the whole serve of the one that stands for it
 pub served_moved : (n : ℕ) (es : List Entry) (k x : ℕ) → is_served (behind n es) (n + k) x ≡ is_served es k x
 served_moved n [] k x = refl
 served_moved n (e ∷ es) k x =
     ap (λ b. (b && in_part e.part x) || is_served (behind n es) (n + k) x)
-    (same_bool (n + e.request == n + k) (e.request == k)
-    (λ h. let q : n + e.request ≡ n + k = eqb-true (n + e.request) (n + k) h in eq-eqb e.request k (omega (arith, q)))
-    (λ h. let q : e.request ≡ k = eqb-true e.request k h in eq-eqb (n + e.request) (n + k) (omega (arith, q))))
+    (same_number n e.request k)
     ∙ ap (λ b. ((e.request == k) && in_part e.part x) || b) (served_moved n es k x)
 
 pub names_to : (n : ℕ) (es : List Entry) (k : ℕ) → Names es k → Names (behind n es) (n + k)
@@ -93,10 +98,24 @@ unplus : (n : ℕ) (o : Option ℕ) (m : ℕ) → plus n o ≡ Some m → (v : �
 unplus n None m h = absurd (let q : None ≡ Some m = h in (cc))
 unplus n (Some v) m h = (v, refl, (let q : Some (n + v) ≡ Some m = h in cc))
 
+misplaced_as : (within other : ℕ → Bool) (es fs : List Entry) (j k : ℕ) (p : Option Part) → within ≡ other → ((x : ℕ) → IsTrue (is_served es j x) → IsTrue (is_served fs k x)) → IsMisplaced within es j p → IsMisplaced other fs k p
+misplaced_as within other es fs j k None same served m = m
+misplaced_as within other es fs j k (Some p) same served (inl z) = inl z
+misplaced_as within other es fs j k (Some p) same served (inr (inl o)) = inr (inl (o.0, o.1, ap (λ f. f o.0) (sym same) ∙ o.2))
+misplaced_as within other es fs j k (Some p) same served (inr (inr s)) = inr (inr (s.0, s.1, served s.0 s.2))
+
 module _ (n more : ℕ) (due due1 due2 : ℕ → ℕ → Option ℕ) (inside inside1 inside2 : ℕ → ℕ → Bool)
     (due_low : (k x : ℕ) → 0 < k → k ≤ n → due k x ≡ due1 k x) (due_high : (k x : ℕ) → 0 < k → due (n + k) x ≡ plus n (due2 k x))
     (in_low : (k : ℕ) → 0 < k → k ≤ n → inside k ≡ inside1 k) (in_high : (k : ℕ) → 0 < k → inside (n + k) ≡ inside2 k)
     (met : (k x : ℕ) → 0 < k → k ≤ n → (m : ℕ) × (due1 k x ≡ Some m) × (m ≤ n)) where
+  -- what was due in the whole behind the first part was due in the second one
+  due_back : (k x m : ℕ) → n < k → due k x ≡ Some m → (j : ℕ) × (v : ℕ) × (k ≡ n + j) × (0 < j) × (due2 j x ≡ Some v) × (n + v ≡ m)
+  due_back k x m l d =
+      let same : k ≡ n + (k - n) = omega (arith, l) in
+      let p : 0 < k - n = omega (arith, l) in
+      let v = unplus n (due2 (k - n) x) m (sym (due_high (k - n) x p) ∙ ap (λ i. due i x) (sym same) ∙ d) in
+      (k - n, v.0, same, p, v.1, v.2)
+
   -- an offset that an entry serves
   offset_of : (count : ℕ) (before : List Entry) (e : Entry) → IsFine count inside before e → (x : ℕ) × (in_part e.part x ≡ true)
   offset_of count before e f = go e.part (λ h. f.2.1 h)
@@ -157,24 +176,10 @@ module _ (n more : ℕ) (due due1 due2 : ℕ → ℕ → Option ℕ) (inside ins
     ]
 
     misplaced_to : (before : List Entry) (k : ℕ) (p : Option Part) → 0 < k → IsMisplaced (inside2 k) before k p → IsMisplaced (inside (n + k)) (earlier ++ behind n before) (n + k) p
-    misplaced_to before k None h m = m
-    misplaced_to before k (Some p) h m = elim m [
-      | inl z ↦ inl z
-      | inr r ↦ elim r [
-        | inl o ↦ inr (inl (o.0, o.1, ap (λ f. f o.0) (in_high k h) ∙ o.2))
-        | inr s ↦ inr (inr (s.0, s.1, served_to before k s.0 s.2))
-      ]
-    ]
+    misplaced_to before k p h = misplaced_as (inside2 k) (inside (n + k)) before (earlier ++ behind n before) k (n + k) p (sym (in_high k h)) (served_to before k)
 
     misplaced_from : (before : List Entry) (k : ℕ) (p : Option Part) → 0 < k → IsMisplaced (inside (n + k)) (earlier ++ behind n before) (n + k) p → IsMisplaced (inside2 k) before k p
-    misplaced_from before k None h m = m
-    misplaced_from before k (Some p) h m = elim m [
-      | inl z ↦ inl z
-      | inr r ↦ elim r [
-        | inl o ↦ inr (inl (o.0, o.1, ap (λ f. f o.0) (sym (in_high k h)) ∙ o.2))
-        | inr s ↦ inr (inr (s.0, s.1, served_from before k s.0 h s.2))
-      ]
-    ]
+    misplaced_from before k p h = misplaced_as (inside (n + k)) (inside2 k) (earlier ++ behind n before) before (n + k) k p (in_high k h) (λ x. served_from before k x h)
 
     next_before : (before : List Entry) (e : Entry) → (earlier ++ behind n before) ++ moved n e ∷ [] ≡ earlier ++ behind n (before ++ e ∷ [])
     next_before before e = append_assoc earlier (behind n before) (moved n e ∷ []) ∙ ap (λ l. earlier ++ l) (sym (append_moved n before (e ∷ [])))
@@ -252,14 +257,9 @@ module _ (n more : ℕ) (due due1 due2 : ℕ → ℕ → Option ℕ) (inside ins
   time_to [] named t = tt
   time_to (e ∷ es) named t = (
     (λ k x m s d. elim (cases_lt n k) [
-      | inl l ↦ (let j = k - n in
-          let same : k ≡ n + j = omega (arith, l) in
-          let p : 0 < j = omega (arith, l) in
-          let s' : IsTrue (is_served (e ∷ es) j x) = sym (served_moved n (e ∷ es) j x) ∙ subst (λ i. IsTrue (is_served (behind n (e ∷ es)) i x)) same s in
-          let v = unplus n (due2 j x) m (sym (due_high j x p) ∙ ap (λ i. due i x) (sym same) ∙ d) in
-          let g : e.request ≤ v.0 = t.0 j x v.0 s' v.1 in
-          let q : n + v.0 ≡ m = v.2 in
-          omega (arith, g, q))
+      | inl l ↦ (let w = due_back k x m l d in
+          let g = t.0 w.0 x w.1 (sym (served_moved n (e ∷ es) w.0 x) ∙ subst (λ i. IsTrue (is_served (behind n (e ∷ es)) i x)) w.2 s) w.4 in
+          omega (arith, g, w.5))
       | inr l ↦ absurd (no_moved n (e ∷ es) k named l (names_served (behind n (e ∷ es)) k x s))
     ]),
     time_to es named.1 t.1,
@@ -271,13 +271,7 @@ module _ (n more : ℕ) (due due1 due2 : ℕ → ℕ → Option ℕ) (inside ins
     (λ k x m s d. elim (or_cases (is_served (e ∷ es) k x) (is_served (behind n fs) k x) (sym (served-append (e ∷ es) (behind n fs) k x) ∙ s)) [
       | inl q ↦ (let w = low_names n (e ∷ es) k low (names_served (e ∷ es) k x q) in t.0 k x m q (sym (due_low k x w.0 w.1) ∙ d))
       | inr q ↦ elim (cases_lt n k) [
-        | inl l ↦ (let j = k - n in
-            let same : k ≡ n + j = omega (arith, l) in
-            let p : 0 < j = omega (arith, l) in
-            let v = unplus n (due2 j x) m (sym (due_high j x p) ∙ ap (λ i. due i x) (sym same) ∙ d) in
-            let q : n + v.0 ≡ m = v.2 in
-            let r : e.request ≤ n = low.0.1 in
-            omega (arith, r, q))
+        | inl l ↦ (let w = due_back k x m l d in omega (arith, low.0.1, w.5))
         | inr l ↦ absurd (no_moved n fs k named l (names_served (behind n fs) k x q))
       ]
     ]),
@@ -286,23 +280,20 @@ module _ (n more : ℕ) (due due1 due2 : ℕ → ℕ → Option ℕ) (inside ins
 
   pub in_whole : (earlier later : List Entry) → HasNoFault n due1 inside1 earlier → HasNoFault more due2 inside2 later → HasNoFault (n + more) due inside (earlier ++ behind n later)
   in_whole earlier later first second =
-      let low : AreLow n earlier = low_of_fine n inside1 [] earlier first.fine in
-      let named : AreNamed later = named_of_fine more inside2 [] later second.fine in
+      let low : AreLow n earlier = low_of_fine n inside1 earlier first.fine in
+      let named : AreNamed later = named_of_fine more inside2 later second.fine in
       record {
         fine = fine_append (n + more) [] earlier (behind n later)
             (AreFine-as n (n + more) inside1 inside [] earlier (λ k q p l. ((let g : k ≤ n + more = omega (arith, l) in g), sym (in_low k p l))) first.fine)
             (subst (λ l. AreFine (n + more) inside l (behind n later)) (append-nil earlier) (fine_to earlier low [] later second.fine));
         in_time = time_whole earlier later low named first.in_time second.in_time;
         served = λ k x m p l d. elim (cases_lt n k) [
-          | inl g ↦ (let j = k - n in
-              let same : k ≡ n + j = omega (arith, g) in
-              let z : 0 < j = omega (arith, g) in
-              let within : j ≤ more = omega (arith, g, l) in
-              let v = unplus n (due2 j x) m (sym (due_high j x z) ∙ ap (λ i. due i x) (sym same) ∙ d) in
-              let s : IsServedAt (inside2 j) later j x = second.served j x v.0 z within v.1 in
-              subst (λ i. IsServedAt (inside i) (earlier ++ behind n later) i x) (sym same) record {
+          | inl g ↦ (let w = due_back k x m g d in
+              let j = w.0 in
+              let s : IsServedAt (inside2 j) later j x = second.served j x w.1 w.3 (omega (arith, w.2, l)) w.4 in
+              subst (λ i. IsServedAt (inside i) (earlier ++ behind n later) i x) (sym w.2) record {
                 named = names_right earlier (behind n later) (n + j) (names_to n later j s.named);
-                covered = λ i. served_to earlier low later j x (s.covered (ap (λ f. f x) (sym (in_high j z)) ∙ i));
+                covered = λ i. served_to earlier low later j x (s.covered (ap (λ f. f x) (sym (in_high j w.3)) ∙ i));
               })
           | inr g ↦ (let s : IsServedAt (inside1 k) earlier k x = first.served k x m p g (sym (due_low k x p g) ∙ d) in
               served_at-left (inside k) earlier (behind n later) k x (subst (λ f. IsServedAt f earlier k x) (sym (in_low k p g)) s))

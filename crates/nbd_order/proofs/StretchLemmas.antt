@@ -1,5 +1,5 @@
 -- What ranges tell, and stretches.
-use Rattle.nbd_order.proofs.Common.{◌≡◌, ℕ, zero, suc, ◌+◌, ◌<◌, ◌≤◌, List, [], ◌∷◌, refl, sym, ◌∙◌, ap, Option, Some, None, Bool, true, false, nat_lt, if◌then◌else◌, arith, drop, take, slice_get, length, cases_lt, inl, inr, lt-ltb}
+use Rattle.nbd_order.proofs.Common.{◌≡◌, ℕ, zero, suc, ◌+◌, ◌<◌, ◌≤◌, List, [], ◌∷◌, refl, sym, ◌∙◌, ap, Option, Some, None, nat_lt, if◌then◌else◌, arith, drop, take, slice_get, length, cases_lt, inl, inr, lt-ltb}
 use Rattle.std.proofs.lemmas.Bool.{le-ltb}
 use Rattle.std.proofs.lemmas.List.{take-append-drop}
 use Rattle.std.specs.Prelude.{◌++◌, ◌⊎◌, min}
@@ -24,11 +24,7 @@ touches_push ts t x = touches_append ts (t ∷ []) x ∙ ap (λ h. joined (touch
 -- one stretch more
 stretch_push : (ps : List Stretch) (p : Stretch) (x : ℕ) → stretch_here (ps ++ p ∷ []) x ≡ option_or (stretch_here ps x) (if nat_lt x p.end then Some p.here else None)
 stretch_push [] p x = refl
-stretch_push (q ∷ ps) p x = go (nat_lt x q.end) (stretch_push ps p x)
-  where
-    go : (b : Bool) → stretch_here (ps ++ p ∷ []) x ≡ option_or (stretch_here ps x) (if nat_lt x p.end then Some p.here else None) → (if b then Some q.here else stretch_here (ps ++ p ∷ []) x) ≡ option_or (if b then Some q.here else stretch_here ps x) (if nat_lt x p.end then Some p.here else None)
-    go true h = refl
-    go false h = h
+stretch_push (q ∷ ps) p x = grind (arith, stretch_push ps p x)
 
 -- x lies before the end of the first of the stretches that are left
 pub stretch_at : (ps : List Stretch) (i : ℕ) (p : Stretch) (x : ℕ) → slice_get ps i ≡ Some p → x < p.end → stretch_here (drop i ps) x ≡ Some p.here
@@ -61,17 +57,12 @@ pub merge_more : (ps qs : List Stretch) (i j k l end : ℕ) (p q : Stretch) → 
     → (x : ℕ) → option_or (if nat_lt x end then Some (joined p.here q.here) else None) (joined_if (stretch_here (drop k ps) x) (stretch_here (drop l qs) x)) ≡ joined_if (stretch_here (drop i ps) x) (stretch_here (drop j qs) x)
 merge_more ps qs i j k l end p q atp atq is pp ps' qp qs' x =
     elim (cases_lt x end) [
-      | inl before ↦
-          ap (λ b. option_or (if b then Some (joined p.here q.here) else None) (joined_if (stretch_here (drop k ps) x) (stretch_here (drop l qs) x))) (lt-ltb x end before)
-          ∙ sym (ap (λ o. joined_if o (stretch_here (drop j qs) x)) (stretch_at ps i p x atp (omega arith)) ∙ ap (λ o. joined_if (Some p.here) o) (stretch_at qs j q x atq (omega arith)))
-      | inr behind ↦
-          ap (λ b. option_or (if b then Some (joined p.here q.here) else None) (joined_if (stretch_here (drop k ps) x) (stretch_here (drop l qs) x))) (le-ltb x end behind)
-          ∙ sym (ap (λ o. joined_if o (stretch_here (drop j qs) x)) (kept ps i k end p atp pp ps' x behind) ∙ ap (λ o. joined_if (stretch_here (drop k ps) x) o) (kept qs j l end q atq qp qs' x behind))
+      | inl before ↦ (let below = lt-ltb x end before in cc (stretch_at ps i p x atp (omega arith), stretch_at qs j q x atq (omega arith)))
+      | inr behind ↦ (let above = le-ltb x end behind in cc (kept ps i k end p atp pp ps' x behind, kept qs j l end q atq qp qs' x behind))
     ]
 
 or_or : (a b c : Option Here) → option_or (option_or a b) c ≡ option_or a (option_or b c)
-or_or (Some a) b c = refl
-or_or None b c = refl
+or_or a b c = grind arith
 
 -- the same, behind the stretches so far
 pub merge_step : (stretches ps qs : List Stretch) (i j k l end : ℕ) (p q r : Stretch) → slice_get ps i ≡ Some p → slice_get qs j ≡ Some q → end ≡ min p.end q.end
@@ -91,22 +82,13 @@ none_left [] (suc i) x l = refl
 none_left (p ∷ ps) zero x l = absurd (omega arith)
 none_left (p ∷ ps) (suc i) x l = none_left ps i x (omega arith)
 
-joined_none : (o : Option Here) → joined_if o None ≡ None
-joined_none (Some h) = refl
-joined_none None = refl
-
-or_nothing : (o : Option Here) → option_or o None ≡ o
-or_nothing (Some h) = refl
-or_nothing None = refl
+nothing_left : (o a b : Option Here) → (a ≡ None) ⊎ (b ≡ None) → option_or o (joined_if a b) ≡ o
+nothing_left o a b h = grind arith
 
 -- one of the lists has no stretch left
 pub merge_end : (o : Option Here) (ps qs : List Stretch) (i j x : ℕ) → (length ps ≤ i) ⊎ (length qs ≤ j) → option_or o (joined_if (stretch_here (drop i ps) x) (stretch_here (drop j qs) x)) ≡ o
-merge_end o ps qs i j x (inl l) = ap (λ a. option_or o (joined_if a (stretch_here (drop j qs) x))) (none_left ps i x l) ∙ none o (stretch_here (drop j qs) x)
-  where
-    none : (o a : Option Here) → option_or o (joined_if None a) ≡ o
-    none o (Some a) = or_nothing o
-    none o None = or_nothing o
-merge_end o ps qs i j x (inr l) = ap (λ a. option_or o (joined_if (stretch_here (drop i ps) x) a)) (none_left qs j x l) ∙ ap (option_or o) (joined_none (stretch_here (drop i ps) x)) ∙ or_nothing o
+merge_end o ps qs i j x (inl l) = nothing_left o (stretch_here (drop i ps) x) (stretch_here (drop j qs) x) (inl (none_left ps i x l))
+merge_end o ps qs i j x (inr l) = nothing_left o (stretch_here (drop i ps) x) (stretch_here (drop j qs) x) (inr (none_left qs j x l))
 
 -- what the two halves tell
 pub halves : (ts fs gs : List Touch) (n : ℕ) → fs ≡ take n ts → gs ≡ drop n ts → (x : ℕ) → joined (touches_here fs x) (touches_here gs x) ≡ touches_here ts x

@@ -1,6 +1,7 @@
 -- Of each request that is finished it is noted when its reply began and ended.
-use Rattle.nbd_order.proofs.Common.{◌≡◌, ℕ, zero, suc, inl, inr, List, [], ◌∷◌, refl, sym, ◌∙◌, ap, subst, Option, Some, None, Bool, true, false, ◌&&◌, ◌||◌, ◌==◌, if◌then◌else◌, is_some, length, eq-eqb, Asked, Item, IsRunOf, Profile, asked_at, report}
+use Rattle.nbd_order.proofs.Common.{◌≡◌, ℕ, zero, suc, inl, inr, List, [], ◌∷◌, refl, sym, ◌∙◌, ap, subst, Option, Some, None, Bool, true, false, ◌&&◌, ◌||◌, ◌==◌, arith, is_some, length, and_from, eq-eqb, or_cases, Asked, Item, IsRunOf, Profile, asked_at, report}
 use Rattle.std.specs.Prelude.{◌++◌, ◌⊎◌}
+use Rattle.nbd_judge.proofs.orders.TableLemmas.{some_of}
 use Rattle.nbd_laws.proofs.requests.ReportLemmas.{asked-report, stated, told_if}
 use Rattle.nbd_laws.proofs.runs.ProfileLemmas.{at_base}
 use Rattle.nbd_laws.proofs.runs.ReachLemmas.{run_reaches}
@@ -9,7 +10,7 @@ use Rattle.nbd_laws.specs.Reached.{IsReached, at_start, after_message}
 use Rattle.nbd_wire.specs.declared.message.Message.{Message}
 use Rattle.nbd_wire.specs.declared.message.Message.TheVariants.{Chunk, ExtendedChunk, ExtendedRequest, Request, Simple}
 use Rattle.nbd_wire.specs.declared.commands.TheConstants as commands
-use Rattle.nbd_wire.specs.protocol.Operations.{Operation, any, ends_reply, has_failed, is_finished, Success, Failure, Pending}
+use Rattle.nbd_wire.specs.protocol.Operations.{Operation, any, ends_reply, is_finished}
 use Rattle.nbd_wire.specs.protocol.Reports.{known_count, operations_of}
 use Rattle.nbd_wire.specs.protocol.Rules.{complete, core_with_request, ends_at, noted, reply_to, request_of_reply}
 use Rattle.nbd_wire.specs.protocol.States.{Core, operation, start, start_of, with_reply, with_reply_at}
@@ -20,24 +21,14 @@ abbrev NotesEnds : Core → Type 0
 NotesEnds core = (k : ℕ) (e : Operation) → operation k core.entries ≡ Some e → any ends_reply e.replies ≡ true → is_some (core.ended_at k) ≡ true
 
 noted_still : (o : Option ℕ) (b : Bool) (n : ℕ) → is_some o ≡ true → is_some (noted o b n) ≡ true
-noted_still (Some u) b n e = refl
-noted_still None b n e = absurd (let q : false ≡ true = e in (cc))
+noted_still o b n e = grind arith
 
 noted_now : (o : Option ℕ) (n : ℕ) → is_some (noted o true n) ≡ true
-noted_now (Some u) n = refl
-noted_now None n = refl
+noted_now o n = grind arith
 
-any_more : (p : Message → Bool) (ms : List Message) (m : Message) → any p (ms ++ m ∷ []) ≡ true → (any p ms ≡ true) ⊎ (p m ≡ true)
-any_more p [] m e = go (p m) e
-  where
-    go : (b : Bool) → (b || false) ≡ true → (false ≡ true) ⊎ (b ≡ true)
-    go true e = inr refl
-    go false e = inl e
-any_more p (d ∷ ms) m e = go (p d) (any_more p ms m) e
-  where
-    go : (b : Bool) → (any p (ms ++ m ∷ []) ≡ true → (any p ms ≡ true) ⊎ (p m ≡ true)) → (b || any p (ms ++ m ∷ [])) ≡ true → ((b || any p ms) ≡ true) ⊎ (p m ≡ true)
-    go true f e = inl refl
-    go false f e = f e
+any_more : (p : Message → Bool) (ms : List Message) (m : Message) → any p (ms ++ m ∷ []) ≡ (any p ms || p m)
+any_more p [] m = grind arith
+any_more p (d ∷ ms) m = grind (arith, any_more p ms m)
 
 -- request k, where a reply to request j came
 replied : (j k : ℕ) (m : Message) (es : List Operation) (e : Operation) → operation k (with_reply_at j m es) ≡ Some e
@@ -62,24 +53,20 @@ asked_new (suc (suc k)) (x ∷ es) d e at = asked_new (suc k) es d e at
 
 notes_reply : (o : Option ℕ) (core : Core) (m : Message) → NotesEnds core → NotesEnds (reply_to o core m)
 notes_reply None core m h = h
-notes_reply (Some j) core m h = λ k e at ends.
-    elim (replied j k m core.entries e at) [
-      | inl was ↦ noted_still (core.ended_at k) ((j == k) && ends_reply m) (length core.entries) (h k e was ends)
-      | inr now ↦
-          elim (any_more ends_reply now.1.0.replies m (ap (λ (y : Operation). any ends_reply y.replies) (sym now.1.2) ∙ ends)) [
-            | inl before ↦ noted_still (core.ended_at k) ((j == k) && ends_reply m) (length core.entries) (h k now.1.0 now.1.1 before)
-            | inr here ↦ ap (λ b. is_some (noted (core.ended_at k) (b && ends_reply m) (length core.entries))) (eq-eqb j k now.0)
-                ∙ ap (λ b. is_some (noted (core.ended_at k) b (length core.entries))) here ∙ noted_now (core.ended_at k) (length core.entries)
-          ]
-    ]
+notes_reply (Some j) core m h = λ k e at ends. elim (replied j k m core.entries e at) [
+  | inl was ↦ noted_still (core.ended_at k) ((j == k) && ends_reply m) (length core.entries) (h k e was ends)
+  | inr now ↦ elim (or_cases (any ends_reply now.1.0.replies) (ends_reply m) (sym (any_more ends_reply now.1.0.replies m) ∙ ap (λ (y : Operation). any ends_reply y.replies) (sym now.1.2) ∙ ends)) [
+    | inl before ↦ noted_still (core.ended_at k) ((j == k) && ends_reply m) (length core.entries) (h k now.1.0 now.1.1 before)
+    | inr here ↦ ap (λ b. is_some (noted (core.ended_at k) b (length core.entries))) (and_from (j == k) (ends_reply m) (eq-eqb j k now.0) here) ∙ noted_now (core.ended_at k) (length core.entries)
+  ]
+]
 
 notes_request : (b : Bool) (core : Core) (d : Operation) → any ends_reply d.replies ≡ false → NotesEnds core → NotesEnds (core_with_request b core d)
 notes_request true core d none h = h
-notes_request false core d none h = λ k e at ends.
-    elim (asked_new k core.entries d e at) [
-      | inl was ↦ h k e was ends
-      | inr now ↦ absurd (let q : false ≡ true = sym none ∙ ap (λ (y : Operation). any ends_reply y.replies) (sym now) ∙ ends in (cc))
-    ]
+notes_request false core d none h = λ k e at ends. elim (asked_new k core.entries d e at) [
+  | inl was ↦ h k e was ends
+  | inr now ↦ absurd (cc (ap (λ (y : Operation). any ends_reply y.replies) now))
+]
 
 notes_complete : (core : Core) (m : Message) → NotesEnds core → NotesEnds (complete core m)
 unfolding complete
@@ -94,29 +81,25 @@ notes_reached : {core : Core} → IsReached core → NotesEnds core
 notes_reached at_start = λ k e at ends. absurd (let q : None ≡ Some e = at in (cc))
 notes_reached (after_message {c = c} m r sn ok) = notes_complete c m (notes_reached r)
 
-notes_at_end : {profile : Profile} (items : List Item) → IsRunOf profile items → NotesEnds (ends_at start items).core
-notes_at_end {profile} items run = let h : NotesEnds (ends_at (start_of profile) items).core = notes_reached (run_reaches items run) in subst NotesEnds (at_base profile items) h
+-- a request that is finished has ended
+pub ended_at_end : {profile : Profile} (items : List Item) → IsRunOf profile items → (k : ℕ) (e : Operation) → operation k (ends_at start items).core.entries ≡ Some e → is_finished e ≡ true → (n : ℕ) × ((ends_at start items).core.ended_at k ≡ Some n)
+ended_at_end {profile} items run k e at finished =
+    let noted : NotesEnds (ends_at (start_of profile) items).core = notes_reached (run_reaches items run) in
+    some_of ((ends_at start items).core.ended_at k) (subst NotesEnds (at_base profile items) noted k e at finished)
 
 -- what is noted of a request
 pub record IsTimed (a : Asked) : Type 0 where
   pub known : (n : ℕ) × (a.known_at ≡ Some n)
   pub ended : (n : ℕ) × (a.ended_at ≡ Some n)
 
-some_of : (o : Option ℕ) → is_some o ≡ true → (n : ℕ) × (o ≡ Some n)
-some_of (Some n) e = (n, refl)
-some_of None e = absurd (let q : false ≡ true = e in (cc))
-
 pub timed : {profile : Profile} (items : List Item) → IsRunOf profile items → (k : ℕ) (a : Asked) → asked_at k (report items).asked ≡ Some a → is_answered a.outcome ≡ true → IsTimed a
 timed items run k a at answered = go (operation k (operations_of items)) refl (sym (asked-report items k) ∙ at)
   where
     go : (o : Option Operation) → operation k (operations_of items) ≡ o → told_if (ends_at start items).core (known_count items) k o ≡ Some a → IsTimed a
-    go None q e = absurd (let z : None ≡ Some a = e in (cc))
+    go None q e = absurd (cc)
     go (Some d) q e =
         let same : stated (ends_at start items).core (known_count items) k d ≡ a = cc in
-        let end = some_of ((ends_at start items).core.ended_at k) (notes_at_end items run k d q (finished (is_finished d) (has_failed d) refl refl (ap (λ (y : Asked). is_answered y.outcome) same ∙ answered))) in
+        let finished : is_finished d ≡ true = grind (arith, ap (λ (y : Asked). is_answered y.outcome) same ∙ answered) in
+        let end = ended_at_end items run k d q finished in
         let began = (sooner_at_end items run k).ended end.0 end.1 in
         subst IsTimed same (record { known = (began.0, began.1); ended = end })
-      where
-        finished : (f g : Bool) → is_finished d ≡ f → has_failed d ≡ g → is_answered (if is_finished d then (if has_failed d then Failure else Success) else Pending) ≡ true → is_finished d ≡ true
-        finished true g e e' h = e
-        finished false g e e' h = absurd (let z : false ≡ true = sym (ap (λ b. is_answered (if b then (if has_failed d then Failure else Success) else Pending)) e) ∙ h in (cc))

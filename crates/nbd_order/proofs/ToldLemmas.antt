@@ -1,316 +1,188 @@
 -- What requests tell of an offset is so of them.
-use Rattle.nbd_order.proofs.Common.{◌≡◌, ℕ, zero, suc, ◌+◌, ◌<◌, ◌≤◌, inl, inr, List, [], ◌∷◌, refl, sym, ◌∙◌, ap, subst, Option, Some, None, Bool, true, false, not, ◌==◌, ◌&&◌, ◌||◌, if◌then◌else◌, arith, nat_le, length, slice_get, take, cases_lt, and_from, eqb-true, Asked, Piece, asked_at, is_change, is_in, is_success}
-use Rattle.std.specs.Prelude.{◌++◌, ◌⊎◌, count_by, max, min}
+use Rattle.nbd_order.proofs.Common.{◌≡◌, ℕ, zero, suc, ◌+◌, ◌≤◌, inl, inr, List, [], ◌∷◌, refl, sym, ◌∙◌, ap, subst, Option, Some, None, Bool, true, false, ◌&&◌, ◌||◌, if◌then◌else◌, arith, nat_le, slice_get, eqb-true, Asked, Piece, asked_at, is_change, is_in}
+use Rattle.std.specs.Prelude.{◌⊎◌, count_by, max, min}
 use Rattle.std.specs.List.{list_any}
-use Rattle.std.specs.Option.{unwrap_or}
-use Rattle.std.proofs.lemmas.Bool.{and_left, and_right, le-leb, lt-leb}
-use Rattle.std.proofs.lemmas.List.{length-take-le, take_all}
-use Rattle.std.proofs.lemmas.List.Folds.{list_any-append}
-use Rattle.std.proofs.lemmas.List.Sums.{sum_by_push}
-use Rattle.nbd_wire.specs.declared.commands.TheConstants as commands
+use Rattle.std.specs.Option.{option_or}
+use Rattle.std.proofs.lemmas.Bool.{cases_Bool}
+use Rattle.std.proofs.lemmas.List.Sums.{sum_by-cons}
 use Rattle.nbd_wire.specs.protocol.Pieces.{holds}
-use Rattle.nbd_wire.specs.protocol.Verdicts.{is_answered}
-use Rattle.nbd_order.specs.Leaving.{are_open_at, is_open, is_open_at}
-use Rattle.nbd_order.specs.Sure.{changes, changes_behind, gets, has_completed, is_read, last_number, leaves_unknown, number_before}
+use Rattle.nbd_order.specs.Leaving.{are_open_at, is_open_at}
+use Rattle.nbd_order.specs.Sure.{changes, changes_behind, gets, is_read, last_number, leaves_unknown, number_before}
 use Rattle.nbd_order.specs.declared.here.Got.{Got}
 use Rattle.nbd_order.specs.declared.here.Here.{Here}
-use Rattle.nbd_order.specs.internal.Here.{here_at, here_if, joined, known, nothing, of_change, of_piece, piece_here, pieces_here, request_here, request_here_if, requests_here}
-use Rattle.nbd_order.proofs.HereLemmas.{joined_nothing}
-use Rattle.nbd_order.proofs.LeavingLemmas.{push as open_push}
+use Rattle.nbd_order.specs.internal.Here.{here_at, here_if, joined, nothing, of_change, of_piece, pieces_here, request_here, requests_here}
 
--- Lists with one element more.
+-- the number behind k others
+abbrev pub behind : ℕ → Option ℕ → Option ℕ
+behind k (Some n) = Some (k + n)
+behind k None = None
 
-or_none : (a : Bool) → (a || false) ≡ a
-or_none true = refl
-or_none false = refl
+-- the READ of this number, behind k others, is the last of these requests that got x, and it got x with this piece
+abbrev pub IsGot : (k x : ℕ) → List Asked → Option Got → Type 0
+IsGot k x asked None = last_number (gets x) asked ≡ None
+IsGot k x asked (Some got) =
+    (n : ℕ) × (a : Asked) × (p : Piece) × (got.number ≡ k + n) × (asked_at n asked ≡ Some a) × (slice_get a.pieces got.piece ≡ Some p) × (holds p x ≡ true) × (last_number (gets x) asked ≡ Some n)
 
-or_turn : (a b : Bool) → (a || b) ≡ (b || a)
-or_turn true true = refl
-or_turn true false = refl
-or_turn false b = sym (or_none b)
-
-pub within : {A : Type 0} (xs : List A) (n : ℕ) → n < length xs → (a : A) × (slice_get xs n ≡ Some a)
-within [] n l = absurd (omega arith)
-within (x ∷ xs) zero l = (x, refl)
-within (x ∷ xs) (suc n) l = within xs n (omega arith)
-
-pub taken_more : {A : Type 0} (xs : List A) (n : ℕ) (a : A) → slice_get xs n ≡ Some a → take (suc n) xs ≡ take n xs ++ a ∷ []
-taken_more [] n a at = absurd (cc)
-taken_more (x ∷ xs) zero a at = let e : x ≡ a = cc in ap (λ y. y ∷ []) e
-taken_more (x ∷ xs) (suc n) a at = ap (λ l. x ∷ l) (taken_more xs n a at)
-
-any_push : {A : Type 0} (p : A → Bool) (xs : List A) (a : A) → list_any p (xs ++ a ∷ []) ≡ (list_any p xs || p a)
-any_push p xs a = list_any-append p xs (a ∷ []) ∙ ap (λ b. list_any p xs || b) (or_none (p a))
-
-last_push : (has_it : Asked → Bool) (xs : List Asked) (a : Asked) → last_number has_it (xs ++ a ∷ []) ≡ (if has_it a then Some (suc (length xs)) else last_number has_it xs)
-last_push has_it [] a = go (has_it a)
-  where
-    go : (y : Bool) → number_before y None ≡ (if y then Some 1 else None)
-    go true = refl
-    go false = refl
-last_push has_it (b ∷ xs) a = ap (number_before (has_it b)) (last_push has_it xs a) ∙ go (has_it a)
-  where
-    go : (y : Bool) → number_before (has_it b) (if y then Some (suc (length xs)) else last_number has_it xs) ≡ (if y then Some (suc (suc (length xs))) else number_before (has_it b) (last_number has_it xs))
-    go true = refl
-    go false = refl
-
--- Counts.
-
--- of `count` changes the first replies began behind the arrival of request n; latest and second are the greatest counts
-pub record Counts (n latest second count : ℕ) : Type 0 where
-  pub one : n ≤ latest → 1 ≤ count
-  pub none : latest < n → count ≡ 0
-  pub two : n ≤ second → 2 ≤ count
-  pub few : second < n → count ≤ 1
-
-count_if : (n k : ℕ) → ((k < n) × (◌≡◌ {A = ℕ} (if nat_le n k then 1 else 0) 0)) ⊎ ((n ≤ k) × (◌≡◌ {A = ℕ} (if nat_le n k then 1 else 0) 1))
-count_if n k = elim (cases_lt k n) [
-  | inl l ↦ inl (l, ap (λ b. if b then 1 else 0) (lt-leb n k l))
-  | inr l ↦ inr (l, ap (λ b. if b then 1 else 0) (le-leb n k l))
-]
-
-counts_more : (n m s c k d : ℕ) → Counts n m s c → ((k < n) × (d ≡ 0)) ⊎ ((n ≤ k) × (d ≡ 1)) → Counts n (max m k) (max (max s 0) (min m k)) (c + d)
-counts_more n m s c k d h (inl w) =
-    let l : k < n = w.0 in
-    let e : d ≡ 0 = w.1 in
-    record {
-      one = λ q. (let a = h.one (omega arith) in omega (arith, a));
-      none = λ q. (let a = h.none (omega arith) in omega (arith, a));
-      two = λ q. (let a = h.two (omega arith) in omega (arith, a));
-      few = λ q. (let a = h.few (omega arith) in omega (arith, a));
-    }
-counts_more n m s c k d h (inr w) =
-    let l : n ≤ k = w.0 in
-    let e : d ≡ 1 = w.1 in
-    record {
-      one = λ q. omega arith;
-      none = λ q. absurd (omega arith);
-      two = λ q. elim (cases_lt s n) [ inl b ↦ (let a = h.one (omega arith) in omega (arith, a)) | inr b ↦ (let a = h.two b in omega (arith, a)) ];
-      few = λ q. (let a = h.none (omega arith) in omega (arith, a));
-    }
-
-le_max : (n v k : ℕ) → nat_le n (max v k) ≡ (nat_le n v || nat_le n k)
-le_max n v k = elim (cases_lt v n) [
-  | inl l ↦ elim (cases_lt k n) [
-    | inl m ↦ lt-leb n (max v k) (omega arith) ∙ sym (ap (λ b. b || nat_le n k) (lt-leb n v l) ∙ lt-leb n k m)
-    | inr m ↦ le-leb n (max v k) (omega arith) ∙ sym (ap (λ b. b || nat_le n k) (lt-leb n v l) ∙ le-leb n k m)
-  ]
-  | inr l ↦ le-leb n (max v k) (omega arith) ∙ sym (ap (λ b. b || nat_le n k) (le-leb n v l))
-]
-
-vague_more : (n v k : ℕ) (u : Bool) → 1 ≤ n → nat_le n (max v (if u then k else 0)) ≡ (nat_le n v || (nat_le n k && u))
-vague_more n v k true l = le_max n v k ∙ ap (λ b. nat_le n v || b) (sym (and_true (nat_le n k)))
-  where
-    and_true : (b : Bool) → (b && true) ≡ b
-    and_true true = refl
-    and_true false = refl
-vague_more n v k false l = le_max n v 0 ∙ ap (λ b. nat_le n v || b) (lt-leb n 0 (omega arith) ∙ sym (and_right (nat_le n k) false refl))
-
-completed : (n : ℕ) (o : Option ℕ) → 1 ≤ n → has_completed n o ≡ nat_le n (unwrap_or o 0)
-completed n (Some c) l = refl
-completed n None l = sym (lt-leb n 0 (omega arith))
-
--- What is told.
-
--- the READ of this number is the last of these requests that got x, and it got x with this piece
-abbrev pub IsGot : (x : ℕ) → List Asked → Option Got → Type 0
-IsGot x asked None = last_number (gets x) asked ≡ None
-IsGot x asked (Some got) =
-    (a : Asked) × (p : Piece) × (asked_at got.number asked ≡ Some a) × (slice_get a.pieces got.piece ≡ Some p) × (holds p x ≡ true) × (last_number (gets x) asked ≡ Some got.number)
-
--- this is told of x by these requests
-pub record IsTold (x : ℕ) (asked : List Asked) (h : Here) : Type 0 where
+-- this is told of x by these requests, behind k others
+pub record IsTold (k x : ℕ) (asked : List Asked) (h : Here) : Type 0 where
   pub any_open : h.any_open ≡ are_open_at asked x
-  pub last : h.last ≡ last_number (changes x) asked
-  pub counts : (n : ℕ) → 1 ≤ n → Counts n h.latest h.second (count_by (changes_behind n x) asked)
+  pub last : h.last ≡ behind k (last_number (changes x) asked)
+  pub latest : (n : ℕ) → 1 ≤ n → nat_le n h.latest ≡ list_any (changes_behind n x) asked
+  pub second : (n : ℕ) → 1 ≤ n → nat_le n h.second ≡ nat_le 2 (count_by (changes_behind n x) asked)
   pub vague : (n : ℕ) → 1 ≤ n → nat_le n h.vague ≡ list_any (λ (a : Asked). changes_behind n x a && leaves_unknown a) asked
-  pub read : IsGot x asked h.read
+  pub read : IsGot k x asked h.read
 
-kept_at : (xs ys : List Asked) (k : ℕ) (a : Asked) → asked_at k xs ≡ Some a → asked_at k (xs ++ ys) ≡ Some a
-kept_at xs ys zero a at = absurd (cc)
-kept_at xs ys (suc k) a at = go xs k at
-  where
-    go : (xs : List Asked) (k : ℕ) → slice_get xs k ≡ Some a → slice_get (xs ++ ys) k ≡ Some a
-    go [] k at = absurd (cc)
-    go (x ∷ xs) zero at = at
-    go (x ∷ xs) (suc k) at = go xs k at
+-- the piece of this place is the last of a READ that got x
+abbrev IsPiece : (k i x : ℕ) → List Piece → (gets_it : Bool) → Option Got → Type 0
+IsPiece k i x pieces gets_it None = gets_it ≡ false
+IsPiece k i x pieces gets_it (Some got) =
+    (j : ℕ) × (p : Piece) × (got.number ≡ k) × (got.piece ≡ i + j) × (slice_get pieces j ≡ Some p) × (holds p x ≡ true) × (gets_it ≡ true)
 
-new_at : (xs : List Asked) (a : Asked) → slice_get (xs ++ a ∷ []) (length xs) ≡ Some a
-new_at [] a = refl
-new_at (x ∷ xs) a = new_at xs a
+-- this is told of x by request k
+record IsOne (k x : ℕ) (a : Asked) (h : Here) : Type 0 where
+  any_open : h.any_open ≡ is_open_at x a
+  last : h.last ≡ (if changes x a then Some k else None)
+  latest : (n : ℕ) → 1 ≤ n → nat_le n h.latest ≡ changes_behind n x a
+  second : h.second ≡ 0
+  vague : (n : ℕ) → 1 ≤ n → nat_le n h.vague ≡ (changes_behind n x a && leaves_unknown a)
+  read : IsPiece k 0 x a.pieces (gets x a) h.read
 
-count_push : (p : Asked → Bool) (xs : List Asked) (a : Asked) → count_by p (xs ++ a ∷ []) ≡ count_by p xs + (if p a then 1 else 0)
-count_push p xs a = sum_by_push (λ (y : Asked). if p y then 1 else 0) xs a
+pub count_more : (p : Asked → Bool) (a : Asked) (asked : List Asked) → count_by p (a ∷ asked) ≡ (if p a then 1 else 0) + count_by p asked
+count_more p a asked = sum_by-cons (λ (y : Asked). if p y then 1 else 0) a asked
 
--- one request more
-module _ (x : ℕ) (xs : List Asked) (a : Asked) (h : Here) (t : IsTold x xs h) where
-  got_still : gets x a ≡ false → (o : Option Got) → IsGot x xs o → IsGot x (xs ++ a ∷ []) o
-  got_still e None g = last_push (gets x) xs a ∙ ap (λ b. if b then Some (suc (length xs)) else last_number (gets x) xs) e ∙ g
-  got_still e (Some got) g =
-      (g.0, g.1, kept_at xs (a ∷ []) got.number g.0 g.2, g.3, g.4, last_push (gets x) xs a ∙ ap (λ b. if b then Some (suc (length xs)) else last_number (gets x) xs) e ∙ g.5)
+-- one has the property where the count of them is 1 or more
+pub any_counted : (p : Asked → Bool) (asked : List Asked) → list_any p asked ≡ nat_le 1 (count_by p asked)
+any_counted p [] = grind arith
+any_counted p (a ∷ asked) = grind (arith, any_counted p asked, count_more p a asked)
 
-  -- it changes nothing at x
-  module _ (idle : changes x a ≡ false) where
-    not_open : is_open_at x a ≡ false
-    not_open = go (is_change a.command) (not (is_answered a.outcome)) (is_in a.offset a.length x) idle
-      where
-        go : (p q r : Bool) → (p && r) ≡ false → ((p && q) && r) ≡ false
-        go true true r e = e
-        go true false r e = refl
-        go false q r e = refl
+le_second : (n s m l : ℕ) → 1 ≤ n → nat_le n (max (max 0 s) (min m l)) ≡ (nat_le n s || (nat_le n m && nat_le n l))
+le_second n s m l one = grind arith
 
-    not_behind : (n : ℕ) → changes_behind n x a ≡ false
-    not_behind n = ap (λ b. b && has_completed n a.known_at) idle
+two_counted : (c : ℕ) (b : Bool) → (nat_le 2 c || (b && nat_le 1 c)) ≡ nat_le 2 ((if b then 1 else 0) + c)
+two_counted c b = grind arith
 
-    still_open : are_open_at xs x ≡ are_open_at (xs ++ a ∷ []) x
-    still_open = sym (open_push xs a x ∙ ap (λ b. b || are_open_at xs x) not_open)
+max_more : (n v w : ℕ) (b c : Bool) → nat_le n v ≡ b → nat_le n w ≡ c → nat_le n (max v w) ≡ (b || c)
+max_more n v w b c p q = grind arith
 
-    still_last : last_number (changes x) xs ≡ last_number (changes x) (xs ++ a ∷ [])
-    still_last = sym (last_push (changes x) xs a ∙ ap (λ b. if b then Some (suc (length xs)) else last_number (changes x) xs) idle)
+last_more : (k : ℕ) (b : Bool) (o l e : Option ℕ) → e ≡ (if b then Some (k + 1) else None) → l ≡ behind (k + 1) o → option_or l e ≡ behind k (number_before b o)
+last_more k b o l e p q = grind arith
 
-    still_count : (n : ℕ) → count_by (changes_behind n x) xs ≡ count_by (changes_behind n x) (xs ++ a ∷ [])
-    still_count n = sym (count_push (changes_behind n x) xs a ∙ ap (λ b. count_by (changes_behind n x) xs + (if b then 1 else 0)) (not_behind n) ∙ (let e : count_by (changes_behind n x) xs + 0 ≡ count_by (changes_behind n x) xs = omega arith in e))
+-- the others have the next numbers
+pub next_at : (a : Asked) (asked : List Asked) (n : ℕ) (b : Asked) → asked_at n asked ≡ Some b → asked_at (suc n) (a ∷ asked) ≡ Some b
+next_at a asked zero b at = absurd (cc)
+next_at a asked (suc n) b at = at
 
-    still_vague : (n : ℕ) → list_any (λ (y : Asked). changes_behind n x y && leaves_unknown y) xs ≡ list_any (λ (y : Asked). changes_behind n x y && leaves_unknown y) (xs ++ a ∷ [])
-    still_vague n = sym (any_push (λ (y : Asked). changes_behind n x y && leaves_unknown y) xs a
-        ∙ ap (λ b. list_any (λ (y : Asked). changes_behind n x y && leaves_unknown y) xs || (b && leaves_unknown a)) (not_behind n)
-        ∙ or_none (list_any (λ (y : Asked). changes_behind n x y && leaves_unknown y) xs))
+module _ (k x : ℕ) (a : Asked) (asked : List Asked) where
+  got_more : (e h : Option Got) → IsPiece (k + 1) 0 x a.pieces (gets x a) e → IsGot (k + 1) x asked h → IsGot k x (a ∷ asked) (option_or h e)
+  got_more e (Some got) o t = (
+    suc t.0,
+    t.1,
+    t.2,
+    grind (arith, t.3),
+    next_at a asked t.0 t.1 t.4,
+    t.5,
+    t.6,
+    ap (number_before (gets x a)) t.7,
+  )
+  got_more None None o t = ap (λ l. number_before (gets x a) l) t ∙ ap (λ b. number_before b None) o
+  got_more (Some got) None o t = (
+    1,
+    a,
+    o.1,
+    grind (arith, o.2),
+    refl,
+    ap (slice_get a.pieces) (grind (arith, o.3)) ∙ o.4,
+    o.5,
+    ap (λ l. number_before (gets x a) l) t ∙ ap (λ b. number_before b None) o.6,
+  )
 
-    told_still : gets x a ≡ false → IsTold x (xs ++ a ∷ []) h
-    told_still e = record {
-      any_open = t.any_open ∙ still_open;
-      last = t.last ∙ still_last;
-      counts = λ n l. subst (λ c. Counts n h.latest h.second c) (still_count n) (t.counts n l);
-      vague = λ n l. t.vague n l ∙ still_vague n;
-      read = got_still e h.read t.read;
-    }
-
-    -- it is a READ that got x
-    told_read : gets x a ≡ true → (i : ℕ) (p : Piece) → slice_get a.pieces i ≡ Some p → holds p x ≡ true → IsTold x (xs ++ a ∷ []) (joined h (of_piece (suc (length xs)) i))
-    told_read e i p at has = record {
-      any_open = or_none h.any_open ∙ t.any_open ∙ still_open;
-      last = t.last ∙ still_last;
-      counts = λ n l. let c = subst (λ c. Counts n h.latest h.second c) (still_count n) (t.counts n l) in
-          subst (λ m. Counts n m (max (max h.second 0) (min h.latest 0)) (count_by (changes_behind n x) (xs ++ a ∷ []))) (let q : h.latest ≡ max h.latest 0 = omega arith in q)
-          (subst (λ m. Counts n h.latest m (count_by (changes_behind n x) (xs ++ a ∷ []))) (let q : h.second ≡ max (max h.second 0) (min h.latest 0) = omega arith in q) c);
-      vague = λ n l. ap (nat_le n) (let q : max h.vague 0 ≡ h.vague = omega arith in q) ∙ t.vague n l ∙ still_vague n;
-      read = (a, p, new_at xs a, at, has, last_push (gets x) xs a ∙ ap (λ b. if b then Some (suc (length xs)) else last_number (gets x) xs) e);
-    }
-
-  -- it changes x
-  told_change : changes x a ≡ true → is_in a.offset a.length x ≡ true → gets x a ≡ false → IsTold x (xs ++ a ∷ []) (joined h (of_change (suc (length xs)) a))
-  told_change e inside none = record {
-    any_open = ap (λ b. b || is_open a) t.any_open ∙ or_turn (are_open_at xs x) (is_open a) ∙ ap (λ b. b || are_open_at xs x) opens ∙ sym (open_push xs a x);
-    last = sym (last_push (changes x) xs a ∙ ap (λ b. if b then Some (suc (length xs)) else last_number (changes x) xs) e);
-    counts = λ n l. subst (λ c. Counts n (max h.latest (known a)) (max (max h.second 0) (min h.latest (known a))) c)
-        (sym (count_push (changes_behind n x) xs a ∙ ap (λ b. count_by (changes_behind n x) xs + (if b then 1 else 0)) (behind n l)))
-        (counts_more n h.latest h.second (count_by (changes_behind n x) xs) (known a) (if nat_le n (known a) then 1 else 0) (t.counts n l) (count_if n (known a)));
-    vague = λ n l. vague_more n h.vague (known a) (leaves_unknown a) l
-        ∙ ap (λ b. b || (nat_le n (known a) && leaves_unknown a)) (t.vague n l)
-        ∙ ap (λ b. list_any (λ (y : Asked). changes_behind n x y && leaves_unknown y) xs || (b && leaves_unknown a)) (sym (behind n l))
-        ∙ sym (any_push (λ (y : Asked). changes_behind n x y && leaves_unknown y) xs a);
-    read = got_still none h.read t.read;
+  told_more : (e h : Here) → IsOne (k + 1) x a e → IsTold (k + 1) x asked h → IsTold k x (a ∷ asked) (joined e h)
+  told_more e h o t = record {
+    any_open = cc (o.any_open, t.any_open);
+    last = last_more k (changes x a) (last_number (changes x) asked) h.last e.last o.last t.last;
+    latest = λ n l. max_more n e.latest h.latest _ _ (o.latest n l) (t.latest n l);
+    second = λ n l.
+        let behind_n = changes_behind n x in
+        cc (o.second, o.latest n l, t.latest n l, t.second n l, le_second n h.second e.latest h.latest l, two_counted (count_by behind_n asked) (behind_n a), any_counted behind_n asked, count_more behind_n a asked);
+    vague = λ n l. max_more n e.vague h.vague _ _ (o.vague n l) (t.vague n l);
+    read = got_more e.read h.read o.read t.read;
   }
-    where
-      opens : is_open a ≡ is_open_at x a
-      opens = sym (ap (λ b. is_open a && b) inside ∙ go (is_open a))
-        where
-          go : (b : Bool) → (b && true) ≡ b
-          go true = refl
-          go false = refl
 
-      behind : (n : ℕ) → 1 ≤ n → changes_behind n x a ≡ nat_le n (known a)
-      behind n l = ap (λ b. b && has_completed n a.known_at) e ∙ completed n a.known_at l
-
--- What the first n pieces of a READ tell.
-abbrev PiecesTell : (k : ℕ) → List Piece → (x n : ℕ) → Type 0
-PiecesTell k pieces x n =
-    ((list_any (λ (p : Piece). holds p x) (take n pieces) ≡ false) × (pieces_here k pieces x n ≡ nothing))
-    ⊎ ((i : ℕ) × (p : Piece) × (slice_get pieces i ≡ Some p) × (holds p x ≡ true) × (list_any (λ (p : Piece). holds p x) (take n pieces) ≡ true) × (pieces_here k pieces x n ≡ of_piece k i))
-
-pieces_tell : (k : ℕ) (pieces : List Piece) (x n : ℕ) → n ≤ length pieces → PiecesTell k pieces x n
-pieces_tell k pieces x zero l = inl (refl, refl)
-pieces_tell k pieces x (suc n) l =
-    let w = within pieces n (omega arith) in
-    let p : Piece = w.0 in
-    let at : slice_get pieces n ≡ Some p = w.1 in
-    go p at (holds p x) refl (pieces_tell k pieces x n (omega arith))
+-- what pieces tell
+pieces_tell : (k i x : ℕ) (pieces : List Piece)
+    → ((pieces_here k i pieces x ≡ nothing) × (list_any (λ (p : Piece). holds p x) pieces ≡ false))
+    ⊎ ((j : ℕ) × (p : Piece) × (pieces_here k i pieces x ≡ of_piece k (i + j)) × (slice_get pieces j ≡ Some p) × (holds p x ≡ true) × (list_any (λ (p : Piece). holds p x) pieces ≡ true))
+pieces_tell k i x [] = inl (refl, refl)
+pieces_tell k i x (p ∷ pieces) = elim (pieces_tell k (i + 1) x pieces) [
+  | inr s ↦ inr (
+    suc s.0,
+    s.1,
+    ap (joined (here_if (holds p x) (of_piece k i))) s.2 ∙ behind_it (holds p x) (i + 1 + s.0) (i + suc s.0) (omega arith),
+    s.3,
+    s.4,
+    grind (arith, s.5),
+  )
+  | inl none ↦ elim (cases_Bool (holds p x)) [
+    | inl has ↦ inr (
+      zero,
+      p,
+      ap (joined (here_if (holds p x) (of_piece k i))) none.0 ∙ ap (λ b. joined (here_if b (of_piece k i)) nothing) has ∙ ap (of_piece k) (let e : i ≡ i + 0 = omega arith in e),
+      refl,
+      has,
+      ap (λ b. b || list_any (λ (q : Piece). holds q x) pieces) has,
+    )
+    | inr away ↦ inl (ap (joined (here_if (holds p x) (of_piece k i))) none.0 ∙ ap (λ b. joined (here_if b (of_piece k i)) nothing) away, ap (λ b. b || list_any (λ (q : Piece). holds q x) pieces) away ∙ none.1)
+  ]
+]
   where
-    go : (p : Piece) → slice_get pieces n ≡ Some p → (b : Bool) → holds p x ≡ b → PiecesTell k pieces x n → PiecesTell k pieces x (suc n)
-    go p at true e t =
-        inr (
-          n,
-          p,
-          at,
-          e,
-          ap (list_any (λ (p : Piece). holds p x)) (taken_more pieces n p at) ∙ any_push (λ (p : Piece). holds p x) (take n pieces) p ∙ ap (λ b. list_any (λ (p : Piece). holds p x) (take n pieces) || b) e ∙ or_turn (list_any (λ (p : Piece). holds p x) (take n pieces)) true,
-          ap (λ o. joined (pieces_here k pieces x n) (piece_here k n o x)) at ∙ ap (λ b. joined (pieces_here k pieces x n) (here_if b (of_piece k n))) e
-              ∙ elim t [ inl none ↦ ap (λ h. joined h (of_piece k n)) none.1 | inr some ↦ ap (λ h. joined h (of_piece k n)) some.5 ],
-        )
-    go p at false e (inl none) =
-        inl (
-          ap (list_any (λ (p : Piece). holds p x)) (taken_more pieces n p at) ∙ any_push (λ (p : Piece). holds p x) (take n pieces) p ∙ ap (λ b. list_any (λ (p : Piece). holds p x) (take n pieces) || b) e ∙ or_none (list_any (λ (p : Piece). holds p x) (take n pieces)) ∙ none.0,
-          ap (λ o. joined (pieces_here k pieces x n) (piece_here k n o x)) at ∙ ap (λ b. joined (pieces_here k pieces x n) (here_if b (of_piece k n))) e ∙ joined_nothing (pieces_here k pieces x n) ∙ none.1,
-        )
-    go p at false e (inr some) =
-        inr (
-          some.0,
-          some.1,
-          some.2,
-          some.3,
-          ap (list_any (λ (p : Piece). holds p x)) (taken_more pieces n p at) ∙ any_push (λ (p : Piece). holds p x) (take n pieces) p ∙ ap (λ b. list_any (λ (p : Piece). holds p x) (take n pieces) || b) e ∙ or_none (list_any (λ (p : Piece). holds p x) (take n pieces)) ∙ some.4,
-          ap (λ o. joined (pieces_here k pieces x n) (piece_here k n o x)) at ∙ ap (λ b. joined (pieces_here k pieces x n) (here_if b (of_piece k n))) e ∙ joined_nothing (pieces_here k pieces x n) ∙ some.5,
-        )
+    behind_it : (b : Bool) (m n : ℕ) → m ≡ n → joined (here_if b (of_piece k i)) (of_piece k m) ≡ of_piece k n
+    behind_it true m n e = ap (of_piece k) e
+    behind_it false m n e = ap (of_piece k) e
 
 -- a change is no READ
 no_read : (a : Asked) → is_change a.command ≡ true → is_read a ≡ false
-no_read a e = go (a.command == commands.READ) refl
+no_read a e = grind (arith, eqb-true)
+
+one_is : (k x : ℕ) (a : Asked) → IsOne k x a (request_here k a x)
+one_is k x a = go (is_change a.command) (is_in a.offset a.length x) (is_read a) refl refl refl
   where
-    go : (b : Bool) → (a.command == commands.READ) ≡ b → (b && is_success a.outcome) ≡ false
-    go true r = absurd (let c : is_change commands.READ ≡ true = sym (ap is_change (eqb-true a.command commands.READ r)) ∙ e in (cc))
-    go false r = refl
+    told_no : (h : Here) → h ≡ nothing → changes x a ≡ false → gets x a ≡ false → IsOne k x a h
+    told_no h e idle none = subst (IsOne k x a) (sym e) (record {
+      any_open = grind arith;
+      last = grind arith;
+      latest = λ n l. grind arith;
+      second = refl;
+      vague = λ n l. grind arith;
+      read = none;
+    })
 
-told_step : (x : ℕ) (xs : List Asked) (a : Asked) (h : Here) → IsTold x xs h → IsTold x (xs ++ a ∷ []) (joined h (request_here (suc (length xs)) a x))
-told_step x xs a h t = go (is_change a.command) (is_in a.offset a.length x) (is_read a) refl refl refl
-  where
-    idle : (i : Here) → i ≡ nothing → IsTold x (xs ++ a ∷ []) h → IsTold x (xs ++ a ∷ []) (joined h i)
-    idle i e s = subst (λ y. IsTold x (xs ++ a ∷ []) y) (sym (ap (joined h) e ∙ joined_nothing h)) s
+    go : (c i r : Bool) → is_change a.command ≡ c → is_in a.offset a.length x ≡ i → is_read a ≡ r → IsOne k x a (if c then here_if i (of_change k a) else here_if r (pieces_here k 0 a.pieces x))
+    go true false r c i f = told_no _ refl (grind arith) (grind (arith, no_read a c))
+    go false i false c j f = told_no _ refl (grind arith) (grind arith)
+    go true true r c i f = record {
+      any_open = grind arith;
+      last = grind arith;
+      latest = λ n l. grind arith;
+      second = refl;
+      vague = λ n l. grind arith;
+      read = grind (arith, no_read a c);
+    }
+    go false i true c j f = elim (pieces_tell k 0 x a.pieces) [
+      | inl none ↦ told_no (pieces_here k 0 a.pieces x) none.0 (grind arith) (grind (arith, none.1))
+      | inr s ↦ subst (IsOne k x a) (sym s.2) (record {
+        any_open = grind arith;
+        last = grind arith;
+        latest = λ n l. grind arith;
+        second = refl;
+        vague = λ n l. grind arith;
+        read = (s.0, s.1, refl, refl, s.3, s.4, grind (arith, s.5));
+      })
+    ]
 
-    go : (c i r : Bool) → is_change a.command ≡ c → is_in a.offset a.length x ≡ i → is_read a ≡ r
-        → IsTold x (xs ++ a ∷ []) (joined h (if c then here_if i (of_change (suc (length xs)) a) else here_if r (pieces_here (suc (length xs)) a.pieces x (length a.pieces))))
-    go true true r c i f = told_change x xs a h t (and_from (is_change a.command) (is_in a.offset a.length x) c i) i (and_left (is_read a) (list_any (λ (p : Piece). holds p x) a.pieces) (no_read a c))
-    go true false r c i f = idle nothing refl (told_still x xs a h t (and_right (is_change a.command) (is_in a.offset a.length x) i) (and_left (is_read a) (list_any (λ (p : Piece). holds p x) a.pieces) (no_read a c)))
-    go false i false c j f = idle nothing refl (told_still x xs a h t (and_left (is_change a.command) (is_in a.offset a.length x) c) (and_left (is_read a) (list_any (λ (p : Piece). holds p x) a.pieces) f))
-    go false i true c j f = pieces (pieces_tell (suc (length xs)) a.pieces x (length a.pieces) (omega arith))
-      where
-        all : (b : Bool) → list_any (λ (p : Piece). holds p x) (take (length a.pieces) a.pieces) ≡ b → gets x a ≡ b
-        all b e = ap (λ y. y && list_any (λ (p : Piece). holds p x) a.pieces) f ∙ sym (ap (list_any (λ (p : Piece). holds p x)) (take_all (length a.pieces) a.pieces (omega arith))) ∙ e
-
-        pieces : PiecesTell (suc (length xs)) a.pieces x (length a.pieces) → IsTold x (xs ++ a ∷ []) (joined h (pieces_here (suc (length xs)) a.pieces x (length a.pieces)))
-        pieces (inl none) = idle (pieces_here (suc (length xs)) a.pieces x (length a.pieces)) none.1 (told_still x xs a h t (and_left (is_change a.command) (is_in a.offset a.length x) c) (all false none.0))
-        pieces (inr some) =
-            subst (λ i. IsTold x (xs ++ a ∷ []) (joined h i)) (sym some.5)
-            (told_read x xs a h t (and_left (is_change a.command) (is_in a.offset a.length x) c) (all true some.4) some.0 some.1 some.2 some.3)
-
-told_none : (x : ℕ) → IsTold x [] nothing
-told_none x = record {
-  any_open = refl;
-  last = refl;
-  counts = λ n l. record { one = λ q. absurd (omega arith); none = λ q. refl; two = λ q. absurd (omega arith); few = λ q. let z : 0 ≤ 1 = omega arith in z };
-  vague = λ n l. lt-leb n 0 (omega arith);
-  read = refl;
-}
-
-told_first : (asked : List Asked) (x n : ℕ) → n ≤ length asked → IsTold x (take n asked) (requests_here asked x n)
-told_first asked x zero l = told_none x
-told_first asked x (suc n) l =
-    let w = within asked n (omega arith) in
-    let so : length (take n asked) ≡ n = length-take-le n asked (omega arith) in
-    let s = told_step x (take n asked) w.0 (requests_here asked x n) (told_first asked x n (omega arith)) in
-    subst (λ o. IsTold x (take (suc n) asked) (joined (requests_here asked x n) (request_here_if (suc n) o x))) (sym w.1)
-    (subst (λ l. IsTold x l (joined (requests_here asked x n) (request_here (suc n) w.0 x))) (sym (taken_more asked n w.0 w.1))
-    (subst (λ k. IsTold x (take n asked ++ w.0 ∷ []) (joined (requests_here asked x n) (request_here (suc k) w.0 x))) so s))
+told_from : (k x : ℕ) (asked : List Asked) → IsTold k x asked (requests_here k asked x)
+told_from k x [] = record { any_open = refl; last = refl; latest = λ n l. grind arith; second = λ n l. grind arith; vague = λ n l. grind arith; read = refl }
+told_from k x (a ∷ asked) = told_more k x a asked (request_here (k + 1) a x) (requests_here (k + 1) asked x) (one_is (k + 1) x a) (told_from (k + 1) x asked)
 
 -- what all of them tell
-pub told : (asked : List Asked) (x : ℕ) → IsTold x asked (here_at asked x)
-told asked x = subst (λ l. IsTold x l (here_at asked x)) (take_all (length asked) asked (omega arith)) (told_first asked x (length asked) (omega arith))
+pub told : (asked : List Asked) (x : ℕ) → IsTold 0 x asked (here_at asked x)
+told asked x = told_from 0 x asked

@@ -1,5 +1,5 @@
 -- What the first entries of an order serve at an offset, and the byte that they leave there.
-use Rattle.nbd_order.proofs.Common.{◌≡◌, ℕ, zero, suc, ◌<◌, ◌≤◌, inl, inr, List, [], ◌∷◌, refl, sym, ◌∙◌, ap, Option, Some, None, Bool, true, false, ◌&&◌, ◌||◌, ◌==◌, arith, drop, slice_get, take, IsTrue, and_from, eq-eqb, eqb-true, Entry, Names, in_part, is_served, Effect, byte_before, byte_or_start, last_touch, later, touch_of}
+use Rattle.nbd_order.proofs.Common.{◌≡◌, ℕ, zero, suc, ◌<◌, ◌≤◌, inl, inr, List, [], ◌∷◌, refl, sym, ◌∙◌, ap, Option, Some, None, true, false, ◌&&◌, ◌||◌, ◌==◌, arith, drop, slice_get, take, IsTrue, and_from, and_parts, eq-eqb, eqb-true, or_cases, or_left, or_right, Entry, Names, in_part, is_served, Effect, byte_before, byte_or_start, last_touch, later, touch_of}
 
 -- an entry that serves offset x of request k
 abbrev pub ServesAt : List Entry → (k x : ℕ) → Type 0
@@ -7,25 +7,18 @@ ServesAt es k x = (i : ℕ) × (e : Entry) × (slice_get es i ≡ Some e) × (e.
 
 pub served_at : (es : List Entry) (k x : ℕ) → IsTrue (is_served es k x) → ServesAt es k x
 served_at [] k x h = absurd (let q : false ≡ true = h in (cc))
-served_at (e ∷ es) k x h = go (e.request == k) (in_part e.part x) refl refl (λ q. served_at es k x q) h
-  where
-    go : (a b : Bool) → (e.request == k) ≡ a → in_part e.part x ≡ b → (IsTrue (is_served es k x) → ServesAt es k x)
-        → ((a && b) || is_served es k x) ≡ true → ServesAt (e ∷ es) k x
-    go true true named part rest q = (zero, e, refl, eqb-true e.request k named, part)
-    go true false named part rest q = (let s = rest q in (suc s.0, s.1, s.2, s.3, s.4))
-    go false b named part rest q = (let s = rest q in (suc s.0, s.1, s.2, s.3, s.4))
+served_at (e ∷ es) k x h = elim (or_cases ((e.request == k) && in_part e.part x) (is_served es k x) h) [
+  | inl here ↦ (let w = and_parts (e.request == k) (in_part e.part x) here in (zero, e, refl, eqb-true e.request k w.0, w.1))
+  | inr later ↦ (let s = served_at es k x later in (suc s.0, s.1, s.2, s.3, s.4))
+]
 
 pub is_served_by : (es : List Entry) (k x j : ℕ) (e : Entry) → slice_get es j ≡ Some e → e.request ≡ k → IsTrue (in_part e.part x) → is_served es k x ≡ true
 is_served_by [] k x j e at named part = absurd (cc)
 is_served_by (d ∷ es) k x zero e at named part =
     let same : e ≡ d = cc in
-    ap (λ b. b || is_served es k x)
+    or_left ((d.request == k) && in_part d.part x) (is_served es k x)
     (ap (λ (y : Entry). (y.request == k) && in_part y.part x) (sym same) ∙ and_from (e.request == k) (in_part e.part x) (eq-eqb e.request k named) part)
-is_served_by (d ∷ es) k x (suc j) e at named part = go ((d.request == k) && in_part d.part x) (is_served_by es k x j e at named part)
-  where
-    go : (a : Bool) → is_served es k x ≡ true → (a || is_served es k x) ≡ true
-    go true h = refl
-    go false h = h
+is_served_by (d ∷ es) k x (suc j) e at named part = or_right ((d.request == k) && in_part d.part x) (is_served es k x) (is_served_by es k x j e at named part)
 
 -- the same, of the entries from one on that stands no later
 pub is_served_from : (es : List Entry) (k x i j : ℕ) (e : Entry) → i ≤ j → slice_get es j ≡ Some e → e.request ≡ k → IsTrue (in_part e.part x) → is_served (drop i es) k x ≡ true
@@ -52,34 +45,18 @@ from_taken (d ∷ es) zero j e at = absurd (cc)
 from_taken (d ∷ es) (suc i) zero e at = (omega arith, at)
 from_taken (d ∷ es) (suc i) (suc j) e at = (let h = from_taken es i j e at in let l : j < i = h.0 in (omega arith, h.1))
 
--- of the first entry more, or of the last: whether it serves
-one_of_two : (a b : Bool) → a ≡ b → (a || false) ≡ (false || b)
-one_of_two true b e = e
-one_of_two false b e = e
-
-regrouped : (a b c : Bool) → (a || (b || c)) ≡ ((a || b) || c)
-regrouped true b c = refl
-regrouped false b c = refl
-
 -- one entry more serves what it serves itself
 pub served_more : (es : List Entry) (i : ℕ) (d : Entry) (k x : ℕ) → slice_get es i ≡ Some d
     → is_served (take (suc i) es) k x ≡ (is_served (take i es) k x || ((d.request == k) && in_part d.part x))
 served_more [] i d k x at = absurd (cc)
-served_more (c ∷ es) zero d k x at =
-    let same : c ≡ d = cc in
-    one_of_two ((c.request == k) && in_part c.part x) ((d.request == k) && in_part d.part x)
-    (ap (λ (y : Entry). (y.request == k) && in_part y.part x) same)
-served_more (c ∷ es) (suc i) d k x at =
-    ap (λ b. ((c.request == k) && in_part c.part x) || b) (served_more es i d k x at)
-    ∙ regrouped ((c.request == k) && in_part c.part x) (is_served (take i es) k x) ((d.request == k) && in_part d.part x)
+served_more (c ∷ es) zero d k x at = (let same : c ≡ d = cc in grind (arith, ap (λ (y : Entry). (y.request == k) && in_part y.part x) same))
+served_more (c ∷ es) (suc i) d k x at = grind (arith, served_more es i d k x at)
 
-later_none : (o : Option Effect) → o ≡ later o None
-later_none (Some e) = refl
-later_none None = refl
+pub later_none : (o : Option Effect) → o ≡ later o None
+later_none o = grind arith
 
-later_later : (a b c : Option Effect) → later (later a b) c ≡ later a (later b c)
-later_later (Some e) b c = refl
-later_later None b c = refl
+pub later_later : (a b c : Option Effect) → later (later a b) c ≡ later a (later b c)
+later_later a b c = grind arith
 
 module _ (requests : ℕ → Option Effect) (x : ℕ) where
   -- one entry more touches last where it touches

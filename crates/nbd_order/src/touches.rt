@@ -1,6 +1,6 @@
 //! The ranges in which the requests of a session tell something.
 
-ghost use Rattle.std.specs.Prelude.{◌≡◌, ℕ, IfOk, OnOk, length};
+ghost use Rattle.std.specs.Prelude.{◌≡◌, ℕ, IfOk, OnOk};
 ghost use Rattle.nbd_state.specs.Transcripts.{report_of_request};
 ghost use Rattle.nbd_order.specs.Sure.{is_read};
 ghost use Rattle.nbd_order.specs.internal.Here.{here_at, joined, pieces_here, request_here};
@@ -52,7 +52,7 @@ fn add_request(number: u64, one: &Asked, touches: &mut Vec<Touch>) -> Result<(),
 // Adds the pieces of the READ with this number.
 fn add_pieces(number: u64, one: &Asked, touches: &mut Vec<Touch>) -> Result<(), AllocError>
     ensures { OnOk result ((x : ℕ) → touches_here touches.new.items x
-        ≡ joined (touches_here touches.old.items x) (pieces_here number one.now.pieces.items x (length one.now.pieces.items))) }
+        ≡ joined (touches_here touches.old.items x) (pieces_here number 0 one.now.pieces.items x)) }
 {
     for i in 0..one.pieces.len() {
         touches.push(Touch {

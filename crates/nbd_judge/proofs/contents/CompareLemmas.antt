@@ -1,5 +1,5 @@
 -- The least wrong byte of a READ, from its pieces.
-use Rattle.nbd_judge.proofs.Common.{◌≡◌, ℕ, zero, suc, ◌+◌, ◌-◌, ◌<◌, ◌≤◌, ◌⊎◌, inl, inr, List, [], ◌∷◌, length, refl, sym, ◌∙◌, ap, subst, Option, Some, None, arith, Bool, true, false, nat_le, nat_lt, ◌&&◌, if◌then◌else◌, slice_get, slice_index_or, IsTrue, is_some, map, Bor, ◌==◌, ◌||◌, eqb-true, or_cases, and_from, and_parts, leb-true, leb-false, le-leb, lt-ltb, ltb-true, cases_eq, Contains, slice_get_within, slice_get-get_or, slice_get-map, option_map, Part, in_part, Piece, Bytes, Hole, IsWrongIn, effect, is_success, Effect, serves, GivesByte, Asked, lesser_of, byte_at, holds, is_in, piece_byte, piece_offset, piece_size, DiffersIn, IsLeast, bytes_from, zeroes, DiffersInOneOf, DiffersInPiece, IsServable}
+use Rattle.nbd_judge.proofs.Common.{◌≡◌, ℕ, zero, suc, ◌+◌, ◌-◌, ◌<◌, ◌≤◌, ◌⊎◌, inl, inr, List, [], ◌∷◌, length, refl, sym, ◌∙◌, ap, subst, Option, Some, None, arith, Bool, true, false, nat_le, if◌then◌else◌, slice_get, slice_index_or, IsTrue, is_some, map, Bor, ◌==◌, ◌||◌, cases_Bool, eqb-true, or_cases, and_from, and_parts, leb-true, leb-false, cases_eq, Contains, slice_get_within, slice_get-get_or, slice_get-map, option_map, Part, in_part, Piece, Bytes, Hole, IsWrongIn, effect, is_success, Effect, serves, GivesByte, Asked, lesser_of, byte_at, holds, is_in, piece_byte, piece_offset, piece_size, DiffersIn, IsLeast, bytes_from, zeroes, DiffersInOneOf, DiffersInPiece, IsServable}
 use Rattle.nbd_wire.specs.declared.commands.TheConstants as commands
 use Rattle.nbd_judge.proofs.orders.FirstLemmas.{one_first, read_at}
 
@@ -44,12 +44,10 @@ module _ (byte : ℕ → Option ℕ) (pieces : List Piece) (n : ℕ) (p : Piece)
       (least_lesser (DiffersInOneOf byte pieces n) (DiffersInPiece byte p) a b ha hb)
 
 pub in_from : (offset len x : ℕ) → offset ≤ x → x < offset + len → IsTrue (is_in offset len x)
-in_from offset len x lo hi = ap (λ b. b && nat_lt x (offset + len)) (le-leb offset x lo) ∙ lt-ltb x (offset + len) hi
+in_from offset len x lo hi = grind arith
 
 pub from_in : (offset len x : ℕ) → IsTrue (is_in offset len x) → (offset ≤ x) × (x < offset + len)
-from_in offset len x h =
-    let b = and_parts (nat_le offset x) (nat_lt x (offset + len)) h in
-    (leb-true offset x b.0, ltb-true x (offset + len) b.1)
+from_in offset len x h = grind arith
 
 -- a piece's range is compared with the bytes that the piece gives
 piece_difference : (byte given : ℕ → Option ℕ) (p : Piece) → ((x : ℕ) → piece_offset p ≤ x → x < piece_offset p + piece_size p → given x ≡ Some (piece_byte p x)) →
@@ -66,29 +64,22 @@ hole_difference byte offset size = piece_difference byte zeroes (Hole offset siz
 
 -- a piece that holds x, where the pieces give a byte there
 holding : (ps : List Piece) (x : ℕ) → IsTrue (is_some (byte_at ps x)) → (i : ℕ) × (p : Piece) × (slice_get ps i ≡ Some p) × IsTrue (holds p x)
-holding [] x h = absurd (let q : false ≡ true = h in (cc))
-holding (p ∷ ps) x h = go (holds p x) refl (λ q. holding ps x q) h
-  where
-    go : (b : Bool) → holds p x ≡ b
-        → (IsTrue (is_some (byte_at ps x)) → (i : ℕ) × (r : Piece) × (slice_get ps i ≡ Some r) × IsTrue (holds r x))
-        → IsTrue (is_some (if b then Some (piece_byte p x) else byte_at ps x))
-        → (i : ℕ) × (r : Piece) × (slice_get (p ∷ ps) i ≡ Some r) × IsTrue (holds r x)
-    go true e ih h = (0, p, refl, e)
-    go false e ih h = (let r = ih h in (suc r.0, r.1, r.2, r.3))
+holding [] x h = absurd (cc)
+holding (p ∷ ps) x h = elim (cases_Bool (holds p x)) [
+  | inl here ↦ (0, p, refl, here)
+  | inr away ↦ (let r = holding ps x (grind arith) in (suc r.0, r.1, r.2, r.3))
+]
 
 -- the byte of the one piece that holds x
-byte_of : (ps : List Piece) (x : ℕ) → ((i j : ℕ) (p q : Piece) → slice_get ps i ≡ Some p → slice_get ps j ≡ Some q → IsTrue (holds p x) → IsTrue (holds q x) → i ≡ j)
+pub byte_of : (ps : List Piece) (x : ℕ) → ((i j : ℕ) (p q : Piece) → slice_get ps i ≡ Some p → slice_get ps j ≡ Some q → IsTrue (holds p x) → IsTrue (holds q x) → i ≡ j)
     → (i : ℕ) (p : Piece) → slice_get ps i ≡ Some p → IsTrue (holds p x) → byte_at ps x ≡ Some (piece_byte p x)
-byte_of [] x apart i p e h = absurd (let q : None ≡ Some p = e in (cc))
+byte_of [] x apart i p e h = absurd (cc)
 byte_of (q ∷ ps) x apart zero p e h =
     let s : q ≡ p = cc in
     ap (λ (r : Piece). if holds r x then Some (piece_byte r x) else byte_at ps x) s ∙ ap (λ b. if b then Some (piece_byte p x) else byte_at ps x) h
 byte_of (q ∷ ps) x apart (suc i) p e h =
-    go (holds q x) refl (byte_of ps x (λ j k a c ea ec ha hc. (let s : suc j ≡ suc k = apart (suc j) (suc k) a c ea ec ha hc in omega arith)) i p e h)
-  where
-    go : (b : Bool) → holds q x ≡ b → byte_at ps x ≡ Some (piece_byte p x) → (if b then Some (piece_byte q x) else byte_at ps x) ≡ Some (piece_byte p x)
-    go true t ih = (let bad : zero ≡ suc i = apart zero (suc i) q p refl e t h in absurd (omega arith))
-    go false t ih = ih
+    let there = byte_of ps x (λ j k a c ea ec ha hc. (let s : suc j ≡ suc k = apart (suc j) (suc k) a c ea ec ha hc in omega arith)) i p e h in
+    grind (arith, apart 0 (suc i) q p refl e, there)
 
 -- what is said of a wrong byte, whatever the type of its request
 pub wrong_of : (p : Option Part) (e : Effect) (byte : ℕ → Option ℕ) (x : ℕ) → IsWrongIn p e byte x →

@@ -1,21 +1,14 @@
 -- The contents taken forward are the bytes looked up backwards.
-use Rattle.nbd_judge.proofs.Common.{◌≡◌, ℕ, List, [], ◌∷◌, ◌++◌, refl, ◌∙◌, ap, Option, Some, None, Bool, true, false, if◌then◌else◌, take, Entry, Part, Effect, last_touch, later, effect_byte, byte_or_start, touches, touch_of, AreSameBelow, Folding, contents_with_effect, contents_after}
+use Rattle.nbd_judge.proofs.Common.{arith, ◌≡◌, ℕ, List, [], ◌∷◌, ◌++◌, refl, ap, Option, Some, None, if◌then◌else◌, take, Entry, Part, Effect, last_touch, effect_byte, byte_or_start, touches, touch_of, AreSameBelow, Folding, contents_with_effect, contents_after}
 
 one_applied : (p : Option Part) (e : Option Effect) (old : ℕ → Option ℕ) (x : ℕ) → contents_with_effect p e old x ≡ byte_or_start (touch_of p e x) old x
 one_applied p None old x = refl
-one_applied p (Some e) old x = go (touches p e x)
-  where
-    go : (b : Bool) → (if b then effect_byte e x else old x) ≡ byte_or_start (if b then Some e else None) old x
-    go true = refl
-    go false = refl
+one_applied p (Some e) old x = grind arith
 
 after_left : (requests : ℕ → Option Effect) (es : List Entry) (old : ℕ → Option ℕ) (x : ℕ) → contents_after requests es old x ≡ byte_or_start (last_touch requests x es) old x
 after_left requests [] old x = refl
-after_left requests (e ∷ es) old x = after_left requests es (contents_with_effect e.part (requests e.request) old) x ∙ go (last_touch requests x es)
-  where
-    go : (l : Option Effect) → byte_or_start l (contents_with_effect e.part (requests e.request) old) x ≡ byte_or_start (later l (touch_of e.part (requests e.request) x)) old x
-    go (Some d) = refl
-    go None = one_applied e.part (requests e.request) old x
+after_left requests (e ∷ es) old x =
+    grind (arith, after_left requests es (contents_with_effect e.part (requests e.request) old) x, one_applied e.part (requests e.request) old x)
 
 pub folding : Folding
 folding requests order initial i x = after_left requests (take i order) initial x

@@ -1,27 +1,20 @@
 -- A part that may be served lies in its request's range.
-use Rattle.nbd_judge.proofs.Common.{◌≡◌, ℕ, ◌+◌, ◌-◌, ◌<◌, ◌≤◌, ◌&&◌, inl, inr, List, refl, sym, ◌∙◌, ap, subst, take, Option, Some, None, Bool, true, false, arith, nat_lt, slice_get, ◌||◌, not, ◌==◌, and_parts, cases_eq, Entry, Part, IsMisplaced, inside, inside_of, Exporting, has_range, IsBadPart, is_in, Asked, Report, asked_at, inside_asked, inside_in, IsPartIn}
-use Rattle.nbd_wire.specs.declared.commands.TheConstants as commands
-use Rattle.nbd_judge.proofs.contents.CompareLemmas.{from_in, in_from}
+use Rattle.nbd_judge.proofs.Common.{◌≡◌, ℕ, ◌+◌, ◌-◌, ◌<◌, ◌≤◌, inl, inr, List, refl, sym, ◌∙◌, ap, subst, take, Option, Some, None, true, arith, slice_get, cases_Bool, cases_eq, Entry, Part, IsMisplaced, inside_of, Exporting, IsBadPart, Asked, Report, asked_at, inside_asked, inside_in, IsPartIn}
+use Rattle.nbd_judge.proofs.contents.CompareLemmas.{in_from}
 
 -- what lies inside a request lies in its range
 inside_range : (export : Option Exporting) (a : Asked) (x : ℕ) → inside_of a.proper export a.command a.offset a.length x ≡ true → (a.offset ≤ x) × (x < a.offset + a.length)
-inside_range export a x h = go export (and_parts (a.proper || not (a.command == commands.BLOCK_STATUS)) (inside export a.command a.offset a.length x) h).1
-  where
-    go : (export : Option Exporting) → inside export a.command a.offset a.length x ≡ true → (a.offset ≤ x) × (x < a.offset + a.length)
-    go (Some export) h =
-        let b = and_parts (has_range a.command) (is_in a.offset a.length x && nat_lt x export.size) h in
-        from_in a.offset a.length x (and_parts (is_in a.offset a.length x) (nat_lt x export.size) b.1).0
-    go None h = absurd (let q : false ≡ true = h in cc)
+inside_range (Some export) a x h = grind arith
+inside_range None a x h = absurd (grind arith)
 
 pub well_placed : (r : Report) (order : List Entry) (i : ℕ) (e : Entry) → slice_get order i ≡ Some e → (a : Asked) → asked_at e.request r.asked ≡ Some a → (IsBadPart (inside_in r) order i → ⊥) → IsPartIn e.part a
 well_placed r order i e at a told well = go e.part refl
   where
     lies : (p : Part) → e.part ≡ Some p → (x : ℕ) → p.offset ≤ x → x < p.offset + p.length → (a.offset ≤ x) × (x < a.offset + a.length)
-    lies p q x lo hi = inside_range r.export a x (by (inside_in r e.request x) refl)
-      where
-        by : (b : Bool) → inside_in r e.request x ≡ b → inside_of a.proper r.export a.command a.offset a.length x ≡ true
-        by true is = sym (ap (λ o. inside_asked r.export o x) told) ∙ is
-        by false is = absurd (well (e, at, subst (λ o. IsMisplaced (inside_in r e.request) (take i order) e.request o) (sym q) (inr (inl (x, in_from p.offset p.length x lo hi, is)))))
+    lies p q x lo hi = elim (cases_Bool (inside_in r e.request x)) [
+      | inl is ↦ inside_range r.export a x (sym (ap (λ o. inside_asked r.export o x) told) ∙ is)
+      | inr is ↦ absurd (well (e, at, subst (λ o. IsMisplaced (inside_in r e.request) (take i order) e.request o) (sym q) (inr (inl (x, in_from p.offset p.length x lo hi, is)))))
+    ]
 
     go : (p : Option Part) → e.part ≡ p → IsPartIn p a
     go None q = tt

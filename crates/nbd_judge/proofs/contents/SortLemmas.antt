@@ -1,5 +1,5 @@
 -- Pieces in the order of their offsets, and those that meet a part.
-use Rattle.nbd_judge.proofs.Common.{◌≡◌, ℕ, zero, suc, ◌+◌, ◌-◌, ◌<◌, ◌≤◌, inl, inr, List, [], ◌∷◌, length, max, refl, sym, ◌∙◌, ap, subst, Option, Some, None, Bool, true, false, arith, nat_le, nat_lt, cond, slice_get, slice_index_or, IsTrue, map, Bor, take, drop, filter, sum_by, leb-true, leb-false, lt-ltb, ltb-false, ltb-true, cases_eq, length-drop, length-map, length-take-le, sum_by-cons, Contains-permutation, IsPermutation-map, IsPermutation-sym, sum_by-IsPermutation, get_or_from_slice_get, slice_get_within, slice_get-get_or, slice_get-map, option_map, BTreeMap, get, nat_cmp, Contains, IsNonDecreasingBy, IsPartitionPoint, IsPermutation, Vec, Part, Piece, holds, is_in, piece_offset, piece_size, Asked, asked_at, IsLeast, AddsSorted, AreApart, AreInOrder, AreInside, AreSorted, AreThose, DiffersInOneOf, DiffersInOneWithin, IsOneOf, IsSortedAt}
+use Rattle.nbd_judge.proofs.Common.{◌≡◌, ℕ, zero, suc, ◌+◌, ◌-◌, ◌<◌, ◌≤◌, inl, inr, List, [], ◌∷◌, length, max, refl, sym, ◌∙◌, ap, subst, Option, Some, None, Bool, true, false, arith, nat_le, nat_lt, cond, slice_get, slice_index_or, IsTrue, map, Bor, take, drop, filter, sum_by, leb-true, leb-false, lt-ltb, ltb-false, ltb-true, cases_Bool, cases_eq, length-drop, length-map, length-take-le, sum_by-cons, Contains-permutation, IsPermutation-map, IsPermutation-sym, sum_by-IsPermutation, get_or_from_slice_get, slice_get_within, slice_get-get_or, slice_get-map, option_map, BTreeMap, get, nat_cmp, Contains, IsNonDecreasingBy, IsPartitionPoint, IsPermutation, Vec, Part, Piece, holds, is_in, piece_offset, piece_size, Asked, asked_at, IsLeast, AddsSorted, AreApart, AreInOrder, AreInside, AreSorted, AreThose, DiffersInOneOf, DiffersInOneWithin, IsOneOf, IsSortedAt}
 use Rattle.nbd_judge.proofs.contents.CompareLemmas.{contained, from_in, in_from, least_as}
 use Rattle.nbd_judge.proofs.contents.RangeLemmas.{drop_get, take_get}
 
@@ -118,27 +118,26 @@ holders_sum x (p ∷ ps) = ap (λ n. one (holds p x) + n) (holders_sum x ps) ∙
 
 none_held : (x : ℕ) (ps : List Piece) → ((j : ℕ) (q : Piece) → slice_get ps j ≡ Some q → IsTrue (holds q x) → ⊥) → holders x ps ≡ 0
 none_held x [] h = refl
-none_held x (p ∷ ps) h = go (holds p x) refl (none_held x ps (λ j q. h (suc j) q))
-  where
-    go : (b : Bool) → holds p x ≡ b → holders x ps ≡ 0 → one b + holders x ps ≡ 0
-    go true e z = absurd (h 0 p refl e)
-    go false e z = omega arith
+none_held x (p ∷ ps) h = grind (arith, h 0 p refl, none_held x ps (λ j q. h (suc j) q))
 
 one_held : (x : ℕ) (ps : List Piece) → ((i j : ℕ) (p q : Piece) → slice_get ps i ≡ Some p → slice_get ps j ≡ Some q → IsTrue (holds p x) → IsTrue (holds q x) → i ≡ j) → holders x ps ≤ 1
 one_held x [] h = omega arith
-one_held x (p ∷ ps) h = go (holds p x) refl (one_held x ps (λ i j q r a c d f. (let s : suc i ≡ suc j = h (suc i) (suc j) q r a c d f in omega arith)))
-  where
-    go : (b : Bool) → holds p x ≡ b → holders x ps ≤ 1 → one b + holders x ps ≤ 1
-    go true e few = (let z : holders x ps ≡ 0 = none_held x ps (λ j q at held. (let s : 0 ≡ suc j = h 0 (suc j) p q refl at e held in omega arith)) in omega arith)
-    go false e few = omega arith
+one_held x (p ∷ ps) h = elim (cases_Bool (holds p x)) [
+  | inl here ↦
+      let z = none_held x ps (λ j q at held. (let s : 0 ≡ suc j = h 0 (suc j) p q refl at here held in omega arith)) in
+      grind (arith, here, z)
+  | inr away ↦
+      let few = one_held x ps (λ i j q r a c d f. (let s : suc i ≡ suc j = h (suc i) (suc j) q r a c d f in omega arith)) in
+      grind (arith, away, few)
+]
 
 some_held : (x : ℕ) (ps : List Piece) (j : ℕ) (q : Piece) → slice_get ps j ≡ Some q → IsTrue (holds q x) → 1 ≤ holders x ps
-some_held x [] j q e h = absurd (let s : None ≡ Some q = e in cc)
+some_held x [] j q e h = absurd (cc)
 some_held x (p ∷ ps) zero q e h = (let s : p ≡ q = cc in let o : one (holds p x) ≡ 1 = ap (λ (r : Piece). one (holds r x)) s ∙ ap one h in omega arith)
 some_held x (p ∷ ps) (suc j) q e h = (let l : 1 ≤ holders x ps = some_held x ps j q e h in omega arith)
 
 two_held : (x : ℕ) (ps : List Piece) (i j : ℕ) (p q : Piece) → i < j → slice_get ps i ≡ Some p → slice_get ps j ≡ Some q → IsTrue (holds p x) → IsTrue (holds q x) → 2 ≤ holders x ps
-two_held x [] i j p q l e f g h = absurd (let s : None ≡ Some p = e in cc)
+two_held x [] i j p q l e f g h = absurd (cc)
 two_held x (r ∷ ps) i zero p q l e f g h = absurd (omega arith)
 two_held x (r ∷ ps) zero (suc j) p q l e f g h =
     (let s : r ≡ p = cc in let o : one (holds r x) ≡ 1 = ap (λ (t : Piece). one (holds t x)) s ∙ ap one g in let m : 1 ≤ holders x ps = some_held x ps j q f h in omega arith)
@@ -150,11 +149,7 @@ is_filled p = nat_lt 0 (piece_size p)
 
 fewer_held : (x : ℕ) (ps : List Piece) → holders x (filter is_filled ps) ≤ holders x ps
 fewer_held x [] = omega arith
-fewer_held x (p ∷ ps) = go (is_filled p) (fewer_held x ps)
-  where
-    go : (b : Bool) → holders x (filter is_filled ps) ≤ holders x ps → holders x (cond b (p ∷ filter is_filled ps) (filter is_filled ps)) ≤ one (holds p x) + holders x ps
-    go true l = omega arith
-    go false l = omega arith
+fewer_held x (p ∷ ps) = grind (arith, fewer_held x ps)
 
 from_filled : (ps : List Piece) (i : ℕ) (p : Piece) → slice_get (filter is_filled ps) i ≡ Some p → IsOneOf ps p × (is_filled p ≡ true)
 from_filled [] i p e = absurd (let q : None ≡ Some p = e in cc)
@@ -218,12 +213,7 @@ module _ (pieces sorted : List Piece) (apart : AreApart pieces) (perm : IsPermut
 -- the same of references to pieces
 filter_seen : (ps : List (Bor Piece)) → seen (filter (λ p. is_filled p.now) ps) ≡ filter is_filled (seen ps)
 filter_seen [] = refl
-filter_seen (p ∷ ps) = go (is_filled p.now) (filter_seen ps)
-  where
-    go : (b : Bool) → seen (filter (λ q. is_filled q.now) ps) ≡ filter is_filled (seen ps)
-        → seen (cond b (p ∷ filter (λ q. is_filled q.now) ps) (filter (λ q. is_filled q.now) ps)) ≡ cond b (p.now ∷ filter is_filled (seen ps)) (filter is_filled (seen ps))
-    go true e = ap (λ l. p.now ∷ l) e
-    go false e = e
+filter_seen (p ∷ ps) = grind (arith, filter_seen ps)
 
 pub sorted_references : (pieces : List Piece) (all sorted : List (Bor Piece)) → AreApart pieces → seen all ≡ pieces → IsPermutation (filter (λ (p : Bor Piece). nat_lt 0 (piece_size p.now)) all) sorted
     → IsNonDecreasingBy (λ (p : Bor Piece). piece_offset p.now) sorted → AreSorted pieces (seen sorted)

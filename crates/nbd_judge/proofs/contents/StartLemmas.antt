@@ -15,12 +15,11 @@ use Rattle.nbd_judge.proofs.orders.FirstLemmas.{first_of}
 use Rattle.nbd_judge.proofs.verdicts.SoundLemmas.{servable}
 
 request_of : (o : Option Asked) (e : Effect) → effect_if o ≡ Some e → (a : Asked) × (o ≡ Some a) × (effect a ≡ e)
-request_of None e h = absurd (let q : None ≡ Some e = h in (cc))
-request_of (Some a) e h = (a, refl, (let q : Some (effect a) ≡ Some e = h in cc))
+request_of None e h = absurd (cc)
+request_of (Some a) e h = (a, refl, cc)
 
 pub left_same : (l : Option Effect) (f g : ℕ → Option ℕ) (x : ℕ) → f x ≡ g x → byte_or_start l f x ≡ byte_or_start l g x
-left_same None f g x e = e
-left_same (Some l) f g x e = refl
+left_same l f g x e = grind arith
 
 -- a wrong byte stays one where what was known there still is
 there_too : (p : Option Part) (e : Effect) (byte other : ℕ → Option ℕ) (x : ℕ) → IsWrongIn p e byte x → ((b : ℕ) → byte x ≡ Some b → other x ≡ Some b) → IsWrongIn p e other x
@@ -28,8 +27,7 @@ there_too p e byte other x w more = (w.0, w.1, w.2, (w.3.0, more w.3.0 w.3.1, w.
 
 -- a byte that was known at first is known as the same
 known_more : (l : Option Effect) (f g : ℕ → Option ℕ) (x b : ℕ) → (f x ≡ Some b → g x ≡ Some b) → byte_or_start l f x ≡ Some b → byte_or_start l g x ≡ Some b
-known_more None f g x b more e = more e
-known_more (Some l) f g x b more e = e
+known_more l f g x b more e = grind arith
 
 module _ (r : Report) (sound : IsSoundReport r) (order : List Entry) (f g : ℕ → Option ℕ) where
   -- where more is known below the export's size, what was wrong is wrong

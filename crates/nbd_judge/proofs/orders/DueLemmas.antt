@@ -39,11 +39,7 @@ module _ (profile : Profile) (r : Report) (e : Entry) (a : Asked) (told : asked_
 
     -- what is shown at an offset that the entry serves is shown in the span
     shows : (x n : ℕ) → IsTrue (in_part e.part x) → here x ≡ Some n → ShowsIn a span n
-    shows x n p h = go (inside_in r e.request x) refl h
-      where
-        go : (b : Bool) → inside_in r e.request x ≡ b → (if b then first_shown a.shown x else None) ≡ Some n → ShowsIn a span n
-        go true i h = (x, into x p i, h)
-        go false i h = absurd (cc)
+    shows x n p h = (let i : inside_in r e.request x ≡ true = grind arith in (x, into x p i, grind arith))
 
     served : (n : ℕ) → ShowsIn a span n → (x : ℕ) × IsTrue (in_part e.part x) × (here x ≡ Some n)
     served n (x, i, f) = (let b = back x i in (x, b.0, ap (λ t. if t then first_shown a.shown x else None) b.1 ∙ f))

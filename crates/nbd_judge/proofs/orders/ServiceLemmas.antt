@@ -1,37 +1,33 @@
 -- What entries serve of a request.
-use Rattle.nbd_judge.proofs.Common.{◌≡◌, ℕ, zero, suc, ◌+◌, ◌-◌, ◌<◌, ◌≤◌, ◌==◌, ◌&&◌, ◌||◌, ◌⊎◌, inl, inr, List, [], ◌∷◌, ◌++◌, refl, sym, ◌∙◌, ap, subst, Option, Some, None, Bool, true, false, is_some, if◌then◌else◌, arith, nat_le, eqb-true, eq-eqb, append_assoc, append-nil, nat_tests, cases_lt, cases_eq, and_parts, leb-true, Entry, Part, Piece, Hole, HasBadPart, IsServedAt, MayServe, Names, NamesWhole, in_part, is_served, SharesNone, byte_at, holds, is_in, piece_byte, piece_offset, piece_size, is_apart, is_apart_from, total, apart_from-shares, covered_total, full_total_covers, no_overlap, total_within, apart_snoc, whole_names, Span, HasMore, IsApart, IsBare, IsFree, IsHeld, IsIndex, Meets, index-more, index-none, AreParts, IsSpanOf, LieApart, part_pieces, parts_of}
+use Rattle.nbd_judge.proofs.Common.{◌≡◌, ℕ, zero, suc, ◌+◌, ◌-◌, ◌<◌, ◌≤◌, ◌==◌, ◌&&◌, ◌||◌, ◌⊎◌, inl, inr, List, [], ◌∷◌, ◌++◌, refl, sym, ◌∙◌, ap, subst, Option, Some, None, Bool, true, false, is_some, if◌then◌else◌, arith, nat_le, eqb-true, eq-eqb, append_assoc, append-nil, nat_tests, cases_Bool, cases_lt, cases_eq, Entry, Part, Piece, Hole, HasBadPart, IsServedAt, MayServe, Names, NamesWhole, in_part, is_served, SharesNone, byte_at, holds, is_in, piece_byte, piece_offset, piece_size, is_apart, is_apart_from, total, apart_from-shares, covered_total, full_total_covers, no_overlap, total_within, apart_snoc, whole_names, Span, HasMore, IsApart, IsBare, IsFree, IsHeld, IsIndex, Meets, index-more, index-none, AreParts, IsSpanOf, LieApart, part_pieces, parts_of}
 use Rattle.nbd_laws.proofs.requests.LaidLemmas.{AreApart, AreInside}
 use Rattle.nbd_judge.proofs.contents.CompareLemmas.{from_in, in_from}
 
 -- a test passes at each offset of a range, or fails at one
 pub all_or_one : (f : ℕ → Bool) (offset size : ℕ) → ((x : ℕ) → offset ≤ x → x < offset + size → f x ≡ true) ⊎ ((x : ℕ) × (offset ≤ x) × (x < offset + size) × (f x ≡ false))
 all_or_one f offset zero = inl (λ x lo hi. absurd (omega arith))
-all_or_one f offset (suc size) = go (f offset) refl (all_or_one f (suc offset) size)
-  where
-    go : (b : Bool) → f offset ≡ b → ((x : ℕ) → suc offset ≤ x → x < suc offset + size → f x ≡ true) ⊎ ((x : ℕ) × (suc offset ≤ x) × (x < suc offset + size) × (f x ≡ false)) →
-        ((x : ℕ) → offset ≤ x → x < offset + suc size → f x ≡ true) ⊎ ((x : ℕ) × (offset ≤ x) × (x < offset + suc size) × (f x ≡ false))
-    go false q rest = inr (offset, omega arith, omega arith, q)
-    go true q (inl all) = inl (λ x lo hi. elim (cases_eq offset x) [ inl s ↦ subst (λ y. f y ≡ true) s q | inr ne ↦ all x (omega arith) (omega arith) ])
-    go true q (inr (x, lo, hi, none)) = inr (x, omega (arith, lo), omega (arith, hi), none)
+all_or_one f offset (suc size) = elim (cases_Bool (f offset)) [
+  | inr fails ↦ inr (offset, omega arith, omega arith, fails)
+  | inl passes ↦ elim (all_or_one f (suc offset) size) [
+    | inl all ↦ inl (λ x lo hi. elim (cases_eq offset x) [ inl s ↦ subst (λ y. f y ≡ true) s passes | inr ne ↦ all x (omega arith) (omega arith) ])
+    | inr (x, lo, hi, fails) ↦ inr (x, omega (arith, lo), omega (arith, hi), fails)
+  ]
+]
 
 -- where no entry serves the request atomically, its served offsets are those of its parts
 pub served_parts : (es : List Entry) (k x : ℕ) → (NamesWhole es k → ⊥) → is_served es k x ≡ is_some (byte_at (parts_of es k) x)
 served_parts [] k x none = refl
-served_parts (e ∷ es) k x none = go (e.request == k) refl (served_parts es k x (λ n. none (inr n)))
+served_parts (e ∷ es) k x none = elim (cases_Bool (e.request == k)) [
+  | inl named ↦
+      ap (λ b. (b && in_part e.part x) || is_served es k x) named ∙ part e.part refl (eqb-true e.request k named) (served_parts es k x (λ n. none (inr n)))
+      ∙ sym (ap (λ b. is_some (byte_at ((if b then part_pieces e.part else []) ++ parts_of es k) x)) named)
+  | inr other ↦ grind (arith, other, served_parts es k x (λ n. none (inr n)))
+]
   where
     part : (p : Option Part) → e.part ≡ p → e.request ≡ k → is_served es k x ≡ is_some (byte_at (parts_of es k) x) →
         (in_part p x || is_served es k x) ≡ is_some (byte_at (part_pieces p ++ parts_of es k) x)
     part None q n ih = absurd (none (inl (n, q)))
-    part (Some p) q n ih = at (is_in p.offset p.length x)
-      where
-        at : (b : Bool) → (b || is_served es k x) ≡ is_some (if b then Some 0 else byte_at (parts_of es k) x)
-        at true = refl
-        at false = ih
-
-    go : (b : Bool) → (e.request == k) ≡ b → is_served es k x ≡ is_some (byte_at (parts_of es k) x) →
-        ((b && in_part e.part x) || is_served es k x) ≡ is_some (byte_at ((if b then part_pieces e.part else []) ++ parts_of es k) x)
-    go true q ih = part e.part refl (eqb-true e.request k q) ih
-    go false q ih = ih
+    part (Some p) q n ih = grind arith
 
 -- one more part
 pub parts_push : (es : List Entry) (k : ℕ) (p : Option Part) → parts_of (es ++ record { request = k; part = p } ∷ []) k ≡ parts_of es k ++ part_pieces p
@@ -42,11 +38,10 @@ parts_push (e ∷ es) k p =
 
 pub parts_unnamed : (es : List Entry) (k : ℕ) → (Names es k → ⊥) → parts_of es k ≡ []
 parts_unnamed [] k none = refl
-parts_unnamed (e ∷ es) k none = go (e.request == k) refl (parts_unnamed es k (λ n. none (inr n)))
-  where
-    go : (b : Bool) → (e.request == k) ≡ b → parts_of es k ≡ [] → ((if b then part_pieces e.part else []) ++ parts_of es k) ≡ []
-    go true q ih = absurd (none (inl (eqb-true e.request k q)))
-    go false q ih = ih
+parts_unnamed (e ∷ es) k none = elim (cases_Bool (e.request == k)) [
+  | inl named ↦ absurd (none (inl (eqb-true e.request k named)))
+  | inr other ↦ ap (λ b. (if b then part_pieces e.part else []) ++ parts_of es k) other ∙ parts_unnamed es k (λ n. none (inr n))
+]
 
 -- an entry with a part does not serve the request atomically
 pub whole_push : (es : List Entry) (k : ℕ) (p : Part) → (NamesWhole es k → ⊥) → NamesWhole (es ++ record { request = k; part = Some p } ∷ []) k → ⊥
@@ -65,11 +60,7 @@ are_apart span (p ∷ ps) l = (l.3, are_apart span ps l.4)
 laid_push : (span : Span) (ps : List Piece) (q : Piece) → LieApart span ps → span.offset ≤ piece_offset q → piece_offset q + piece_size q ≤ span.offset + span.size → 0 < piece_size q → SharesNone q ps → LieApart span (ps ++ q ∷ [])
 laid_push span [] q l lo hi some none = (lo, hi, some, (λ x h. refl), tt)
 laid_push span (p ∷ ps) q l lo hi some none =
-    (l.0, l.1, l.2, (apart_snoc (p ∷ ps) q (are_apart span (p ∷ ps) l) none).0, laid_push span ps q l.4 lo hi some (λ x h. later x (holds p x) (none x h)))
-  where
-    later : (x : ℕ) (b : Bool) → (if b then Some (piece_byte p x) else byte_at ps x) ≡ None → byte_at ps x ≡ None
-    later x true e = absurd (cc)
-    later x false e = e
+    (l.0, l.1, l.2, (apart_snoc (p ∷ ps) q (are_apart span (p ∷ ps) l) none).0, laid_push span ps q l.4 lo hi some (λ x h. (let n = none x h in grind arith)))
 
 total_push : (ps : List Piece) (q : Piece) → total (ps ++ q ∷ []) ≡ total ps + piece_size q
 total_push [] q = omega arith
@@ -77,21 +68,11 @@ total_push (p ∷ ps) q = let ih : total (ps ++ q ∷ []) ≡ total ps + piece_s
 
 -- a piece that does not lie apart from others, none of them empty, shares an offset with them
 shared : (span : Span) (p : Piece) (ps : List Piece) → 0 < piece_size p → LieApart span ps → is_apart_from p ps ≡ false → (x : ℕ) × (holds p x ≡ true) × (is_some (byte_at ps x) ≡ true)
-shared span p [] some l e = absurd (let q : true ≡ false = e in (cc))
-shared span p (q ∷ ps) some l e = go (is_apart p q) refl e (shared span p ps some l.4)
-  where
-    later : (x : ℕ) → is_some (byte_at ps x) ≡ true → is_some (if holds q x then Some (piece_byte q x) else byte_at ps x) ≡ true
-    later x h = at (holds q x)
-      where
-        at : (b : Bool) → is_some (if b then Some (piece_byte q x) else byte_at ps x) ≡ true
-        at true = refl
-        at false = h
-
-    go : (b : Bool) → is_apart p q ≡ b → (b && is_apart_from p ps) ≡ false → (is_apart_from p ps ≡ false → (x : ℕ) × (holds p x ≡ true) × (is_some (byte_at ps x) ≡ true)) →
-        (x : ℕ) × (holds p x ≡ true) × (is_some (byte_at (q ∷ ps) x) ≡ true)
-    go true a e ih = (let r = ih e in (r.0, r.1, later r.0 r.2))
-    go false a e ih = (let o = no_overlap p q some l.2 a in
-        (o.0, o.1, ap (λ b. is_some (if b then Some (piece_byte q o.0) else byte_at ps o.0)) o.2))
+shared span p [] some l e = absurd (cc)
+shared span p (q ∷ ps) some l e = elim (cases_Bool (is_apart p q)) [
+  | inl apart ↦ (let r = shared span p ps some l.4 (grind arith) in (r.0, r.1, grind (arith, r.2)))
+  | inr meets ↦ (let o = no_overlap p q some l.2 meets in (o.0, o.1, ap (λ b. is_some (if b then Some (piece_byte q o.0) else byte_at ps o.0)) o.2))
+]
 
 module _ (span : Span) (within : ℕ → Bool) (is_span : IsSpanOf span within) (before : List Entry) (k : ℕ) where
   module _ (sizes : ℕ → Option ℕ) (left : ℕ) (h : AreParts sizes left span before k) where
@@ -206,7 +187,7 @@ no_parts sizes span before k none unnamed = record {
 
 -- the spans' test, as bounds
 pub in_span : (span : Span) (p : Part) → (nat_le span.offset p.offset && nat_le (p.offset + p.length) (span.offset + span.size)) ≡ true → (span.offset ≤ p.offset) × (p.offset + p.length ≤ span.offset + span.size)
-in_span span p e = (let b = and_parts (nat_le span.offset p.offset) (nat_le (p.offset + p.length) (span.offset + span.size)) e in (leb-true _ _ b.0, leb-true _ _ b.1))
+in_span span p e = grind arith
 
 pub off_span : (span : Span) (p : Part) → (nat_le span.offset p.offset && nat_le (p.offset + p.length) (span.offset + span.size)) ≡ false → span.offset ≤ p.offset → p.offset + p.length ≤ span.offset + span.size → ⊥
 off_span span p e lo hi = grind (arith, nat_tests)

@@ -1,5 +1,5 @@
 -- What of a READ the messages before the last one showed, and the least count at which a span was shown.
-use Rattle.nbd_judge.proofs.Common.{◌≡◌, ℕ, zero, suc, ◌+◌, ◌<◌, ◌≤◌, ◌⊎◌, ◌&&◌, ◌==◌, Bor, inl, inr, List, [], ◌∷◌, length, refl, sym, ◌∙◌, ap, Option, Some, None, arith, Bool, true, false, IsTrue, if◌then◌else◌, slice_get, and_from, and_parts, cases_eq, slice_get_past, slice_get_read, slice_get_within, IsLeast, Span, shown_in, with_counts, option_copied, IsItemAt, Piece, is_in, piece_offset, piece_size, first_shown, lesser_of, Shown, Entry, OrderFault, Missing, NotCovered, AreApart, IsFaultOfService, IsShownAt}
+use Rattle.nbd_judge.proofs.Common.{◌≡◌, ℕ, zero, suc, ◌+◌, ◌<◌, ◌≤◌, ◌⊎◌, ◌&&◌, ◌==◌, Bor, inl, inr, List, [], ◌∷◌, length, refl, sym, ◌∙◌, ap, Option, Some, None, arith, Bool, IsTrue, if◌then◌else◌, slice_get, and_from, and_parts, cases_Bool, cases_eq, slice_get_past, slice_get_read, slice_get_within, IsLeast, Span, shown_in, with_counts, option_copied, IsItemAt, Piece, is_in, piece_offset, piece_size, first_shown, lesser_of, Shown, Entry, OrderFault, Missing, NotCovered, AreApart, IsFaultOfService, IsShownAt}
 use Rattle.nbd_state.specs.declared.asked.Asked.{Asked}
 use Rattle.nbd_wire.specs.declared.commands.TheConstants as commands
 use Rattle.nbd_judge.proofs.contents.CompareLemmas.{from_in, in_from, least_as, least_lesser}
@@ -41,20 +41,15 @@ pub record HasAt (ws : List Shown) (x n : ℕ) : Type 0 where
 
 pub first_has : (ws : List Shown) (x n : ℕ) → first_shown ws x ≡ Some n → HasAt ws x n
 first_has [] x n e = absurd (cc)
-first_has (s ∷ ws) x n e = go (is_in s.offset s.size x) refl e (first_has ws x n)
-  where
-    go : (b : Bool) → is_in s.offset s.size x ≡ b → (if b then Some s.count else first_shown ws x) ≡ Some n → (first_shown ws x ≡ Some n → HasAt ws x n) → HasAt (s ∷ ws) x n
-    go true q e ih = record { place = 0; range = s; at = refl; has = q; counts = cc }
-    go false q e ih = (let h = ih e in record { place = suc h.place; range = h.range; at = h.at; has = h.has; counts = h.counts })
+first_has (s ∷ ws) x n e = elim (cases_Bool (is_in s.offset s.size x)) [
+  | inl here ↦ record { place = 0; range = s; at = refl; has = here; counts = grind arith }
+  | inr away ↦ (let h = first_has ws x n (grind arith) in record { place = suc h.place; range = h.range; at = h.at; has = h.has; counts = h.counts })
+]
 
 pub has_first : (ws : List Shown) (x i : ℕ) (s : Shown) → slice_get ws i ≡ Some s → IsTrue (is_in s.offset s.size x) → (n : ℕ) × (first_shown ws x ≡ Some n)
 has_first [] x i s e h = absurd (cc)
-has_first (t ∷ ws) x i s e h = go (is_in t.offset t.size x) refl i e (λ j f. has_first ws x j s f h)
-  where
-    go : (b : Bool) → is_in t.offset t.size x ≡ b → (i : ℕ) → slice_get (t ∷ ws) i ≡ Some s → ((j : ℕ) → slice_get ws j ≡ Some s → (n : ℕ) × (first_shown ws x ≡ Some n)) → (n : ℕ) × ((if b then Some t.count else first_shown ws x) ≡ Some n)
-    go true q i e ih = (t.count, refl)
-    go false q zero e ih = absurd (let same : t ≡ s = cc in let z : false ≡ true = sym q ∙ ap (λ (r : Shown). is_in r.offset r.size x) same ∙ h in (cc))
-    go false q (suc j) e ih = ih j e
+has_first (t ∷ ws) x zero s e h = (let same : t ≡ s = cc in (t.count, ap (λ b. if b then Some t.count else first_shown ws x) (ap (λ (r : Shown). is_in r.offset r.size x) same ∙ h)))
+has_first (t ∷ ws) x (suc i) s e h = (let r = has_first ws x i s e h in (if is_in t.offset t.size x then t.count else r.0, grind (arith, r.1)))
 
 -- one of the ranges before place i meets the span, with this count
 abbrev pub ShownBefore : List Shown → Span → (i n : ℕ) → Type 0

@@ -1,37 +1,17 @@
 -- The table of what an order serves of each request.
-use Rattle.nbd_judge.proofs.Common.{slice_get_within, take-length, IsFaultless, MatchOption, is_some, ◌≡◌, ℕ, zero, suc, ◌+◌, ◌-◌, ◌<◌, ◌≤◌, ◌==◌, ◌&&◌, inl, inr, List, [], ◌∷◌, ◌++◌, length, refl, sym, ◌∙◌, ap, subst, Option, Some, None, Result, Ok, Err, Bool, true, false, if◌then◌else◌, arith, nat_le, nat_lt, min, eqb-true, slice_get, slice_set, take, ◌||◌, not, IsTrue, ltb-true, ltb-false, cases_eq, Entry, HasBadPart, IsTwice, MayServe, NamesWhole, inside_of, Exporting, has_range, is_chunked, IsBad, IsDue, IsLate, IsUnserved, NamesNone, Part, Profile, is_in, Asked, Report, asked_at, due_in, due_of, first_shown, inside_asked, inside_in, lesser_of, Names-left, Names-push_cases, NamesWhole-left, total, Span, IsIndex, sizes_of, Service, Unnamed, Whole, InParts, OrderFault, Twice, Missing, BadPart, NotCovered, IsOrderFault, has_inside, AreServices, IsAllServed, IsBadAt, IsFaultAfter, IsFaultOfService, IsFirstBad, IsNext, IsServiceAfter, IsServiceOf, IsShownAt, IsSpanOf, IsUnservedBy, LieApart, TellsFaultOf, TellsUnserved, part_pieces, parts_of, span_if, span_of_asked, IsFair, nat_tests, and-false, and_assoc}
+use Rattle.nbd_judge.proofs.Common.{slice_get_within, take-length, IsFaultless, MatchOption, is_some, ◌≡◌, ℕ, zero, suc, ◌+◌, ◌-◌, ◌<◌, ◌≤◌, ◌==◌, ◌&&◌, inl, inr, List, [], ◌∷◌, ◌++◌, length, refl, sym, ◌∙◌, ap, subst, Option, Some, None, Result, Ok, Err, Bool, true, false, if◌then◌else◌, arith, nat_le, nat_lt, cases_Bool, eqb-true, slice_get, slice_set, take, ◌||◌, not, IsTrue, cases_eq, Entry, HasBadPart, IsTwice, MayServe, NamesWhole, inside_of, Exporting, has_range, is_chunked, IsBad, IsDue, IsLate, IsUnserved, NamesNone, Part, Profile, is_in, Asked, Report, asked_at, due_in, due_of, first_shown, inside_asked, inside_in, lesser_of, Names-left, Names-push_cases, NamesWhole-left, total, Span, IsIndex, sizes_of, Service, Unnamed, Whole, InParts, OrderFault, Twice, Missing, BadPart, NotCovered, IsOrderFault, has_inside, AreServices, IsAllServed, IsBadAt, IsFaultAfter, IsFaultOfService, IsFirstBad, IsNext, IsServiceAfter, IsServiceOf, IsShownAt, IsSpanOf, IsUnservedBy, LieApart, TellsFaultOf, TellsUnserved, part_pieces, parts_of, span_if, span_of_asked, IsFair, nat_tests, and-false, and_assoc}
 use Rattle.nbd_wire.specs.declared.commands.TheConstants as commands
 use Rattle.nbd_judge.specs.internal.Services.{IsFaultOf}
 use Rattle.nbd_judge.proofs.orders.DueLemmas.{due_chunked, due_none, due_whole}
 use Rattle.nbd_judge.proofs.contents.EffectLemmas.{taken_one}
 
 -- a range, as far as the export goes
-abbrev IsSame : (size offset len x : ℕ) → Bool → Span → Type 0
-IsSame size offset len x b span = (b && (is_in offset len x && nat_lt x size)) ≡ is_in span.offset span.size x
-
-cut_off : (size offset len x : ℕ) → offset < size → (is_in offset len x && nat_lt x size) ≡ is_in offset (min len (size - offset)) x
-cut_off size offset len x h = grind (arith, nat_tests)
-
-beyond : (size offset len x : ℕ) → size ≤ offset → (is_in offset len x && nat_lt x size) ≡ false
-beyond size offset len x h = grind (arith, nat_tests)
-
-nowhere : (x : ℕ) → is_in 0 0 x ≡ false
-nowhere x = grind (arith, nat_tests)
-
-span_is : (size : ℕ) (b : Bool) (offset len x : ℕ) → IsSame size offset len x b (span_if (b && nat_lt offset size) offset len size)
-span_is size false offset len x = sym (nowhere x)
-span_is size true offset len x = go (nat_lt offset size) refl
-  where
-    go : (c : Bool) → nat_lt offset size ≡ c → IsSame size offset len x true (span_if c offset len size)
-    go true e = cut_off size offset len x (ltb-true offset size e)
-    go false e = beyond size offset len x (ltb-false offset size e) ∙ sym (nowhere x)
+span_is : (size : ℕ) (b : Bool) (offset len x : ℕ) → let span : Span = span_if (b && nat_lt offset size) offset len size in (b && (is_in offset len x && nat_lt x size)) ≡ is_in span.offset span.size x
+span_is size b offset len x = grind (arith, nat_tests)
 
 span_of_inside : (export : Option Exporting) (a : Asked) → IsSpanOf (span_of_asked export a) (inside_of a.proper export a.command a.offset a.length)
 span_of_inside (Some export) a x = sym (and_assoc (a.proper || not (a.command == commands.BLOCK_STATUS)) (has_range a.command) _) ∙ span_is export.size (has_inside a) a.offset a.length x
-span_of_inside None a x = and-false (a.proper || not (a.command == commands.BLOCK_STATUS)) ∙ none (has_inside a) (span_is 0 (has_inside a) a.offset a.length x)
-  where
-    none : {c : Bool} (b : Bool) → (b && (is_in a.offset a.length x && nat_lt x 0)) ≡ c → false ≡ c
-    none b e = sym (ap (λ t. b && t) (beyond 0 a.offset a.length x (omega arith)) ∙ and-false b) ∙ e
+span_of_inside None a x = and-false (a.proper || not (a.command == commands.BLOCK_STATUS)) ∙ grind (arith, nat_tests, span_is 0 (has_inside a) a.offset a.length x)
 
 pub span_of_request : (r : Report) (k : ℕ) (a : Asked) → asked_at k r.asked ≡ Some a → IsSpanOf (span_of_asked r.export a) (inside_in r k)
 span_of_request r k a at x = ap (λ o. inside_asked r.export o x) at ∙ span_of_inside r.export a x
@@ -43,11 +23,10 @@ request_within (suc k) asked a e = (omega arith, slice_get_within asked k a e, a
 
 -- entries that name another request
 parts_other : (es : List Entry) (e : Entry) (k : ℕ) → (e.request ≡ k → ⊥) → parts_of (es ++ e ∷ []) k ≡ parts_of es k
-parts_other [] e k ne = go (e.request == k) refl
-  where
-    go : (b : Bool) → (e.request == k) ≡ b → ((if b then part_pieces e.part else []) ++ []) ≡ []
-    go true q = absurd (ne (eqb-true e.request k q))
-    go false q = refl
+parts_other [] e k ne = elim (cases_Bool (e.request == k)) [
+  | inl named ↦ absurd (ne (eqb-true e.request k named))
+  | inr other ↦ ap (λ b. (if b then part_pieces e.part else []) ++ []) other
+]
 parts_other (d ∷ es) e k ne = ap (λ l. (if d.request == k then part_pieces d.part else []) ++ l) (parts_other es e k ne)
 
 whole_other : (es : List Entry) (e : Entry) (k : ℕ) → (e.request ≡ k → ⊥) → NamesWhole (es ++ e ∷ []) k → NamesWhole es k
@@ -196,10 +175,6 @@ module _ (profile : Profile) (r : Report) (order : List Entry) (k : ℕ) (a : As
   is_due : (x n : ℕ) → due_of profile (inside_in r k) (Some a) x ≡ Some n → IsDue (length r.asked) (due_in profile r) k x
   is_due x n d = (let w = request_within k r.asked a told in (w.0, w.1, (n, due_at x ∙ d)))
 
-  -- a request whose reply has not started
-  pub not_started : is_chunked profile a.command ≡ false → a.known_at ≡ None → IsAllServed profile r order k
-  not_started whole none x (lo, hi, (n, d)) = absurd (let q : None ≡ Some n = sym (due_at x ∙ due_whole profile (inside_in r k) a x whole ∙ none) ∙ d in (cc))
-
   -- one that was due at each offset: by the start of its reply, or by the end of a READ's
   pub all_due : (found : Option OrderFault) → ((x : ℕ) → (n : ℕ) × (due_of profile (inside_in r k) (Some a) x ≡ Some n)) → IsFaultOfService (λ x. Unit {0}) (inside_in r k) order k found → IsFaultOf profile r order k found
   all_due found due f = fault_by profile r order k (λ x. Unit {0}) found (λ x u. is_due x (due x).0 (due x).1) (λ x d. tt) (λ fault q. (0, tt)) f
@@ -222,11 +197,10 @@ module _ (profile : Profile) (r : Report) (order : List Entry) (k : ℕ) (a : As
       (λ x (lo, hi, (n, d)). shown x n (sym (due_at x ∙ due_chunked profile (inside_in r k) a x chunked ∙ ap (lesser_of (if inside_in r k x then first_shown a.shown x else None)) open_) ∙ d)) one f
     where
       shown : (x n : ℕ) → lesser_of (if inside_in r k x then first_shown a.shown x else None) None ≡ Some n → IsShownAt (inside_in r k) a.shown x
-      shown x n d = go (inside_in r k x) (first_shown a.shown x) refl refl d
-        where
-          go : (b : Bool) (o : Option ℕ) → inside_in r k x ≡ b → first_shown a.shown x ≡ o → lesser_of (if b then o else None) None ≡ Some n → IsShownAt (inside_in r k) a.shown x
-          go true (Some m) i s d = (i, (m, s))
-          go b o i s d = absurd (cc)
+      shown x n d = elim (cases_Bool (inside_in r k x)) [
+        | inl inside ↦ (inside, (n, grind arith))
+        | inr outside ↦ absurd (grind arith)
+      ]
 
 bad_within : (r : Report) (order : List Entry) (i : ℕ) → IsBad (length r.asked) (inside_in r) order i → i < length order
 bad_within r order i b = elim b [

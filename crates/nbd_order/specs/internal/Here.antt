@@ -1,5 +1,5 @@
 -- What the requests of a session tell of an offset.
-use Rattle.std.specs.Prelude.{ℕ, zero, suc, List, ◌||◌, Bool, false, nat_le, nat_lt, Option, Some, None, if◌then◌else◌, length, max, min, slice_get}
+use Rattle.std.specs.Prelude.{ℕ, ◌+◌, List, [], ◌∷◌, ◌||◌, Bool, false, nat_le, nat_lt, Option, Some, None, if◌then◌else◌, max, min}
 use Rattle.std.specs.Option.{option_or, unwrap_or}
 use Rattle.nbd_wire.specs.declared.payloads.Piece.{Piece}
 use Rattle.nbd_wire.specs.protocol.Operations.{is_change}
@@ -57,35 +57,25 @@ of_piece k i = record {
 abbrev pub here_if : Bool → Here → Here
 here_if is_told here = if is_told then here else nothing
 
--- what piece i of request k tells of x, if there is one
-abbrev pub piece_here : (k i : ℕ) → Option Piece → (x : ℕ) → Here
-piece_here k i (Some p) x = here_if (holds p x) (of_piece k i)
-piece_here k i None x = nothing
-
--- what the first n of these pieces of request k tell of x
-abbrev pub pieces_here : (k : ℕ) → List Piece → (x n : ℕ) → Here
-pieces_here k pieces x zero = nothing
-pieces_here k pieces x (suc n) = joined (pieces_here k pieces x n) (piece_here k n (slice_get pieces n) x)
+-- what these pieces of request k tell of x, of which the first has place i
+abbrev pub pieces_here : (k i : ℕ) → List Piece → (x : ℕ) → Here
+pieces_here k i [] x = nothing
+pieces_here k i (p ∷ pieces) x = joined (here_if (holds p x) (of_piece k i)) (pieces_here k (i + 1) pieces x)
 
 -- what request k tells of x
 abbrev pub request_here : (k : ℕ) → Asked → (x : ℕ) → Here
 request_here k a x =
     if is_change a.command then here_if (is_in a.offset a.length x) (of_change k a)
-    else here_if (is_read a) (pieces_here k a.pieces x (length a.pieces))
+    else here_if (is_read a) (pieces_here k 0 a.pieces x)
 
--- the same, if there is one
-abbrev pub request_here_if : (k : ℕ) → Option Asked → (x : ℕ) → Here
-request_here_if k (Some a) x = request_here k a x
-request_here_if k None x = nothing
-
--- what the first n of these requests tell of x
-abbrev pub requests_here : List Asked → (x n : ℕ) → Here
-requests_here asked x zero = nothing
-requests_here asked x (suc n) = joined (requests_here asked x n) (request_here_if (suc n) (slice_get asked n) x)
+-- what these requests tell of x, behind k others
+abbrev pub requests_here : (k : ℕ) → List Asked → (x : ℕ) → Here
+requests_here k [] x = nothing
+requests_here k (a ∷ asked) x = joined (request_here (k + 1) a x) (requests_here (k + 1) asked x)
 
 -- what all of these requests tell of x
 abbrev pub here_at : List Asked → (x : ℕ) → Here
-here_at asked x = requests_here asked x (length asked)
+here_at asked x = requests_here 0 asked x
 
 -- what an offset holds where several changes may be the last
 abbrev pub held_by_read : (latest : ℕ) → Option Got → Holds

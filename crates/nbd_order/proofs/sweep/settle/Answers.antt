@@ -4,7 +4,7 @@ use Rattle.nbd_export.specs.Ranges.{unknown}
 use Rattle.nbd_wire.specs.protocol.Pieces.{piece_byte}
 use Rattle.nbd_order.specs.Sure.{sure}
 use Rattle.nbd_order.specs.declared.here.Holds.TheVariants.{First, Unknown}
-use Rattle.nbd_order.proofs.SettleLemmas.{change_first, change_in, change_last, change_some, on_ok, overlay_kept, overlay_same, piece_first, piece_last, piece_some, piece_sure, read_some, shown_in, sound_asked}
+use Rattle.nbd_order.proofs.SettleLemmas.{change_in, change_lies, change_some, on_ok, overlay_kept, overlay_same, piece_lies, piece_some, piece_sure, read_some, shown_in, sound_asked}
 use Rattle.nbd_order.proofs.sweep.settle.Goals as goal
 
 pub request-requires : goal.request-requires
@@ -15,14 +15,9 @@ request-requires c =
 pub put_change-requires : goal.put_change-requires
 put_change-requires c =
     let r : Report = c.args.transcript.now in
-    let f : ℕ → Option ℕ = byte_of c.args.contents.now in
     let a : Asked = report_of_request c.request.result.now in
-    record {
-      fits = c.requires.fits;
-      first = change_first r f c.args.here.now c.args.span.offset c.args.span.size c.requires.some c.requires.told c.in-Change.number c.in-Change.ensures a c.request.ensures;
-      last = change_last r f c.args.here.now c.args.span.offset c.args.span.size c.requires.some c.requires.told c.in-Change.number c.in-Change.ensures a c.request.ensures;
-      carried = (sound_asked r c.requires.sound c.in-Change.number a c.request.ensures).1.carried;
-    }
+    let lies = change_lies r (byte_of c.args.contents.now) c.args.here.now c.args.span.offset c.args.span.size c.requires.some c.requires.told c.in-Change.number c.in-Change.ensures a c.request.ensures in
+    record { fits = c.requires.fits; first = lies.0; last = lies.1; carried = (sound_asked r c.requires.sound c.in-Change.number a c.request.ensures).1.carried }
 
 pub returns-in-Change-clause-done : goal.returns-in-Change-clause-done
 returns-in-Change-clause-done c =
@@ -47,13 +42,9 @@ piece-requires c =
 pub put_piece-requires : goal.put_piece-requires
 put_piece-requires c =
     let r : Report = c.args.transcript.now in
-    let f : ℕ → Option ℕ = byte_of c.args.contents.now in
     let a : Asked = report_of_request c.request-in-Read.result.now in
-    record {
-      fits = c.requires.fits;
-      first = piece_first r f c.args.here.now c.args.span.offset c.args.span.size c.requires.some c.requires.told c.in-Read.got c.in-Read.ensures a c.request-in-Read.ensures c.piece.result.now c.piece.ensures;
-      last = piece_last r f c.args.here.now c.args.span.offset c.args.span.size c.requires.some c.requires.told c.in-Read.got c.in-Read.ensures a c.request-in-Read.ensures c.piece.result.now c.piece.ensures;
-    }
+    let lies = piece_lies r (byte_of c.args.contents.now) c.args.here.now c.args.span.offset c.args.span.size c.requires.some c.requires.told c.in-Read.got c.in-Read.ensures a c.request-in-Read.ensures c.piece.result.now c.piece.ensures in
+    record { fits = c.requires.fits; first = lies.0; last = lies.1 }
 
 pub returns-in-Read-clause-done : goal.returns-in-Read-clause-done
 returns-in-Read-clause-done c =

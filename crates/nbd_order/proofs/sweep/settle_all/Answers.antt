@@ -4,7 +4,8 @@ use Rattle.std.proofs.lemmas.Option.{slice_get-get_or}
 use Rattle.nbd_export.specs.Extents.{byte_of, size_of}
 use Rattle.nbd_order.specs.declared.stretches.Stretch.{Stretch}
 use Rattle.nbd_order.specs.internal.Here.{here_at, nothing}
-use Rattle.nbd_order.proofs.SettleLemmas.{in_range, left_next, none_behind, step_done, step_rest, told_here}
+use Rattle.nbd_judge.proofs.contents.CompareLemmas.{from_in}
+use Rattle.nbd_order.proofs.SettleLemmas.{left_next, none_behind, step_done, step_rest, told_here}
 use Rattle.nbd_order.proofs.sweep.settle_all.Goals as goal
 use Rattle.nbd_order.proofs.sweep.settle_all.Goals.{else-at-end, then-at-end+in_ok-settle}
 
@@ -65,7 +66,7 @@ settle-requires c =
       some = omega (arith, some);
       fits = omega (arith, some, ends, same);
       told = λ x inside.
-          let w = in_range _ _ x inside in
+          let w = from_in _ _ x inside in
           let lo : c.loop-stretch.at ≤ x = w.0 in
           let hi = w.1 in
           let below : x < size = omega (arith, hi, ends, some) in

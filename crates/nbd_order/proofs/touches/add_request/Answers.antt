@@ -1,4 +1,4 @@
-use Rattle.nbd_order.proofs.Common.{sym, ◌∙◌, ap, if◌then◌else◌, length, is_in, report_of_request, Asked, Span}
+use Rattle.nbd_order.proofs.Common.{sym, ◌∙◌, ap, if◌then◌else◌, is_in, report_of_request, Asked, Span}
 use Rattle.nbd_order.specs.Sure.{is_read}
 use Rattle.nbd_order.specs.declared.here.Here.{Here}
 use Rattle.nbd_order.specs.internal.Here.{here_if, joined, of_change, pieces_here}
@@ -14,4 +14,4 @@ returns-in_ok-push c = λ x.
     ∙ touches_push c.args.touches.now.items (record { span = c.range_of.result; here = c.of_change.result }) x
     ∙ ap (λ (h : Here). joined (touches_here c.args.touches.now.items x) h)
     (ap (λ (s : Span). here_if (is_in s.offset s.size x) c.of_change.result) c.range_of.ensures ∙ ap (here_if (is_in a.offset a.length x)) c.of_change.ensures
-    ∙ sym (ap (λ b. if b then here_if (is_in a.offset a.length x) (of_change k a) else here_if (is_read a) (pieces_here k a.pieces x (length a.pieces))) (sym c.is_change.ensures ∙ c.if-is_change.true)))
+    ∙ sym (ap (λ b. if b then here_if (is_in a.offset a.length x) (of_change k a) else here_if (is_read a) (pieces_here k 0 a.pieces x)) (sym c.is_change.ensures ∙ c.if-is_change.true)))
