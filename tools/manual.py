@@ -6,9 +6,7 @@ import textwrap
 from pathlib import Path
 
 TOP = Path(__file__).resolve().parent.parent
-TEXT = r'"((?:[^"\\]|\\.)*)"'
-RULE = re.compile(rf"\(\s*WireFault::(\w+),\s*{TEXT},\s*(?:(CHOICE)|{TEXT}),?\s*\)")
-ORDER = re.compile(rf"\(\s*OrderFault::(\w+),\s*{TEXT},?\s*\)")
+TEXT = r'"((?:[^"\\]|\\[\s\S])*)"'
 BREAKERS = {"Client": "the client", "Server": "the server", "Sender": "the sender", "Nobody": "nobody"}
 
 
@@ -33,16 +31,21 @@ def function(name):
     return source().split(f"fn {name}(")[1].split("\n}\n")[0]
 
 
+def table(name):
+    """Each fault of a table, its rule, and where it stands."""
+    choice = unquoted(re.search(rf"const CHOICE: &str = {TEXT}", source())[1])
+    rows = unquoted(re.search(rf"const {name}: &str = {TEXT}", source())[1]).removeprefix("\\\n").split("\n\n")
+    return [(*rule.split(": ", 1), section or choice) for rule, _, section in (row.partition("\n") for row in rows)]
+
+
 def rules():
     """Each wire fault, who broke its rule, the rule and its section."""
     broke = breakers()
-    choice = unquoted(re.search(rf"const CHOICE: &str = {TEXT}", source())[1])
-    return [(fault, broke.get(fault, "the server"), sentence, choice if is_choice else unquoted(section))
-            for fault, sentence, is_choice, section in RULE.findall(source())]
+    return [(fault, broke.get(fault, "the server"), sentence, section) for fault, sentence, section in table("WIRE")]
 
 
 def order_rules():
-    return ORDER.findall(source())
+    return [(fault, sentence) for fault, sentence, _ in table("ORDER")]
 
 
 def manual():

@@ -89,7 +89,7 @@ ORDERLESS = {
     "no-order-of-a-read-between": Session(BETWEEN),
     "no-order-of-a-hole": Session(HOLED),
     "no-order-of-five-reads": Session(alternating(2)),
-    "no-order-of-more-than-ten-steps": Session(alternating(6)),
+    "no-order-of-thirteen-reads": Session(alternating(6)),
     "no-source-of-a-status": Session(
         [*SELECTED, request(WRITE_ZEROES, 1, 0, 1), simple(1), write(2, 0, b"\x11"), simple(2), status(3, 0, 8),
          extents(3, 1, (8, 2), flags=DONE)], profile="wide"),

@@ -12,7 +12,7 @@ pub use Rattle.nbd_explain.specs.Ordering.IsOrdered.{gave_up, image, none_whole,
 pub use Rattle.nbd_explain.specs.Orderless.{IsTold, Tells}
 pub use Rattle.nbd_explain.specs.Orderless.IsTold.{found}
 pub use Rattle.nbd_explain.specs.Outputs.{OneOutput}
-pub use Rattle.nbd_explain.specs.Shown.{IsAnswered, IsShowCause, IsShown, Leads, LeavesShown, WritesAll, WritesMessages, WritesSome}
+pub use Rattle.nbd_explain.specs.Shown.{IsShowCause, IsShown, Leads, LeavesShown, WritesAll, WritesMessages, WritesSome}
 pub use Rattle.nbd_explain.specs.Shown.IsShown.{accepted, refused}
 pub use Rattle.nbd_explain.specs.declared.answer.Answer.{Answer}
 pub use Rattle.nbd_explain.specs.declared.answer.Answer.TheVariants.{No, Open, Yes}
@@ -37,7 +37,7 @@ pub use Rattle.nbd_judge.specs.Verdicts.{wrong_verdict}
 pub use Rattle.nbd_judge.specs.declared.verdict.Verdict.{Verdict}
 pub use Rattle.nbd_judge.specs.internal.Captures.{HasReport}
 pub use Rattle.nbd_laws.proofs.judge.PhaseLemmas.{in_force_stays, transmission_stays}
-pub use Rattle.nbd_laws.proofs.requests.OutstandingLemmas.{AreDistinct, Free, both_true, distinct_complete, not_true_is_false}
+pub use Rattle.nbd_laws.proofs.requests.OutstandingLemmas.{AreDistinct, Free, distinct_complete}
 pub use Rattle.nbd_laws.proofs.runs.ProfileLemmas.{at_base}
 pub use Rattle.nbd_laws.proofs.service.ServiceLemmas.{same_marks}
 pub use Rattle.nbd_laws.specs.Soundness.{IsSoundReport}
@@ -96,3 +96,4 @@ pub use Rattle.std.proofs.lemmas.List.Elements.{All-nil}
 pub use Rattle.std.specs.Fmt.{decimal}
 pub use Rattle.std.specs.Io.KnownBytes.{Appends, Keeps}
 pub use borrow.Author.Tests.{tests}
+pub use Rattle.std.proofs.lemmas.Bool.{and_parts, not-true}

@@ -1,7 +1,6 @@
 -- What the end of a session says of its capture.
-use Rattle.nbd_explain.proofs.Common.{◌≡◌, ℕ, List, Bool, sym, ◌∙◌, subst, Option, Result, Ok, Err, IfOk, IfErr, IsErrAnd, OnOk, ◌⊎◌, inl, inr, Appends, Appends-trans, Profile, SessionFault, IsComplete, IsOfRun, SessionView, fault_at_end, fault_of, RunFault, IsOverText, LeavesLast, is_accepted, last_line, flat_of, IsShowCause, IsAnswered, IsShown, capture_over, NamesAll, AppendsNames, KeepsUnread}
+use Rattle.nbd_explain.proofs.Common.{◌≡◌, ℕ, List, Bool, sym, ◌∙◌, subst, Option, Result, Ok, Err, IfOk, IfErr, IsErrAnd, OnOk, ◌⊎◌, inl, inr, Appends, Appends-trans, Profile, SessionFault, IsComplete, IsOfRun, SessionView, fault_at_end, fault_of, RunFault, IsOverText, LeavesLast, is_accepted, last_line, flat_of, IsShowCause, IsShown, capture_over, NamesAll, AppendsNames}
 use Rattle.nbd_files.specs.declared.fault.RunFault.TheVariants as faults
-use Rattle.std.specs.Result.{result_and}
 use Rattle.nbd_explain.proofs.LastLineLemmas.{shown}
 use Rattle.nbd_explain.proofs.OutcomeLemmas.{named_by_report}
 
@@ -61,38 +60,3 @@ named_of known r (Err fault) old new session names_all = tt
 pub cause_of : {profile : Profile} (known : Option (List ℕ)) (r : SessionView) (o : Result Bool RunFault) → IsOverText profile known r → IfErr o (λ fault. (p : Profile) (k : Option (List ℕ)) → IsOverText p k r → IsShowCause k fault) → IfErr o (IsShowCause known)
 cause_of known r (Ok b) session cause = tt
 cause_of {profile} known r (Err fault) session cause = cause profile known session
-
--- the answer of a session that is over
-pub answered : {A : Type 0} {profile : Profile} (known : Option (List ℕ)) (r : SessionView) (finished : Result A SessionFault) (o : Result Bool RunFault) → IsOverText profile known r → IsOfRun r → IsComplete r →
-    fault_of finished ≡ fault_at_end r → IfOk o (λ b. b ≡ is_accepted (fault_of finished)) → IfOk o (IsAnswered profile known)
-answered {profile = profile} known r finished (Ok b) session run complete same is = record {
-  chunks = session.chunks;
-  is_text = session.is_text;
-  messages = r.messages;
-  last = last_line (fault_of finished);
-  is_shown = subst (λ yes. IsShown profile (flat_of session.chunks) yes r.messages (last_line (fault_of finished))) (sym is)
-      (subst (λ ended. IsShown profile (flat_of session.chunks) (is_accepted ended) r.messages (last_line ended)) (sym same) (shown (flat_of session.chunks) r session.over run complete));
-}
-answered known r finished (Err fault) session run complete same is = tt
-
--- the fault of two results is that of the first, where only that may fail
-pub first_fault : {A B E : Type 0} (P : E → Type 0) (o : Result A E) (b : B) (fault : E) → Err fault ≡ result_and o (Ok b) → IfErr o P → P fault
-first_fault P (Ok a) b fault e holds = absurd (cc)
-first_fault P (Err other) b fault e holds = (let q : other ≡ fault = cc in subst P q holds)
-
--- what a fault of the writer or of memory says of the capture
-pub either_cause : {A : Type 0} {profile : Profile} (known : Option (List ℕ)) (r : SessionView) (o : Result A RunFault) → IsOverText profile known r → IfErr o (λ fault. (fault ≡ faults.Write) ⊎ (fault ≡ faults.Memory)) → IfErr o (IsShowCause known)
-either_cause known r (Ok a) session either = tt
-either_cause known r (Err f) session (inl e) = subst (IsShowCause known) (sym e) (capture_over known r session)
-either_cause known r (Err f) session (inr e) = subst (IsShowCause known) (sym e) tt
-
--- and of what stands written
-pub either_left : {A : Type 0} (old new : Option (List ℕ)) (o : Result A RunFault) → IfErr o (λ fault. (fault ≡ faults.Write) ⊎ (fault ≡ faults.Memory)) → IfErr o (KeepsUnread old new)
-either_left old new (Ok a) either = tt
-either_left old new (Err f) (inl e) = subst (KeepsUnread old new) (sym e) tt
-either_left old new (Err f) (inr e) = subst (KeepsUnread old new) (sym e) tt
-
-pub told_left : {A : Type 0} (old new : Option (List ℕ)) (o : Result A RunFault) (fault : RunFault) → IsErrAnd o (λ f. f ≡ fault) → (fault ≡ faults.Write) ⊎ (fault ≡ faults.Memory) → IfErr o (KeepsUnread old new)
-told_left old new (Ok a) fault is either = tt
-told_left old new (Err f) fault is (inl e) = subst (KeepsUnread old new) (sym (is ∙ e)) tt
-told_left old new (Err f) fault is (inr e) = subst (KeepsUnread old new) (sym (is ∙ e)) tt

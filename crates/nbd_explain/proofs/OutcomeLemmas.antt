@@ -1,5 +1,5 @@
 -- The report of a run states of each request what the messages behind it tell.
-use Rattle.nbd_explain.proofs.Common.{◌≡◌, ◌∙◌, ◌++◌, ◌∷◌, ◌+◌, ◌==◌, ◌&&◌, ◌||◌, not, ℕ, suc, List, [], Bool, true, false, Option, Some, None, is_some, codes, if◌then◌else◌, append_assoc, append-nil, length, map, refl, sym, ap, subst, arith, eqb-true, map-append, or-false, Message, Greeting, ClientFlags, Choice, Exported, Request, Simple, Chunk, ExtendedRequest, ExtendedChunk, Profile, Item, Byte, Starts, Completes, Serves, completed_messages, Exporting, Operation, any, ends_reply, is_failing, is_finished, outcome, Asked, asked_list, known_count, operations_of, report, IsRunBut, MayComplete, Obeys, after, complete, cookie_of, core_with_request, ends_at, reply_to, request_of_reply, target_of, Context, Core, Phase, State, Transmission, has_contexts, in_force, is_awaiting, start, start_of, target, target_from, with_reply, with_reply_at, outcome_of, Outcome, Failure, Pending, Success, AreDistinct, Free, both_true, distinct_complete, not_true_is_false, in_force_stays, transmission_stays, at_base, AreNamed, IsEnding, is_numbered, message_of, plain, other, request, AreLines, EndsWith, fate, fate_by, has_cookie, outcome_by, reply_in, named, none}
+use Rattle.nbd_explain.proofs.Common.{and_parts, not-true, ◌≡◌, ◌∙◌, ◌++◌, ◌∷◌, ◌+◌, ◌==◌, ◌&&◌, ◌||◌, not, ℕ, suc, List, [], Bool, true, false, Option, Some, None, is_some, codes, if◌then◌else◌, append_assoc, append-nil, length, map, refl, sym, ap, subst, arith, eqb-true, map-append, or-false, Message, Greeting, ClientFlags, Choice, Exported, Request, Simple, Chunk, ExtendedRequest, ExtendedChunk, Profile, Item, Byte, Starts, Completes, Serves, completed_messages, Exporting, Operation, any, ends_reply, is_failing, is_finished, outcome, Asked, asked_list, known_count, operations_of, report, IsRunBut, MayComplete, Obeys, after, complete, cookie_of, core_with_request, ends_at, reply_to, request_of_reply, target_of, Context, Core, Phase, State, Transmission, has_contexts, in_force, is_awaiting, start, start_of, target, target_from, with_reply, with_reply_at, outcome_of, Outcome, Failure, Pending, Success, AreDistinct, Free, distinct_complete, in_force_stays, transmission_stays, at_base, AreNamed, IsEnding, is_numbered, message_of, plain, other, request, AreLines, EndsWith, fate, fate_by, has_cookie, outcome_by, reply_in, named, none}
 use Rattle.nbd_wire.specs.declared.commands.TheConstants as commands
 use Rattle.nbd_wire.specs.declared.message.Message.TheVariants.{Answer}
 use Rattle.nbd_wire.specs.protocol.Operations as definitions
@@ -65,8 +65,8 @@ module _ (m : Message) (later : List Message) where
 
     awaiting : (e : Operation) → is_awaiting cookie e ≡ true → whole_reply later (with_reply e m) ≡ whole_reply (m ∷ later) e
     awaiting e h =
-        let w = both_true (e.cookie == cookie) (not (is_finished e)) h in
-        let still : is_finished e ≡ false = not_true_is_false (is_finished e) w.1 in
+        let w = and_parts (e.cookie == cookie) (not (is_finished e)) h in
+        let still : is_finished e ≡ false = not-true (is_finished e) w.1 in
         let hears : has_cookie e.cookie (cookie_of m) ≡ true = ap (has_cookie e.cookie) is ∙ w.0 in
         let rest : List Message = if ends_reply m then [] else reply_in e.cookie later in
         let behind : whole_reply later (with_reply e m) ≡ e.replies ++ (m ∷ rest) =
@@ -94,8 +94,8 @@ module _ (m : Message) (later : List Message) where
             (j : ℕ) × (k ≡ n + suc j) × (map (told later) (with_reply_at (suc j) m (e ∷ es)) ≡ map (told (m ∷ later)) (e ∷ es))
         go true q h ih =
             let is_next : suc n ≡ k = cc in
-            let w = both_true (e.cookie == cookie) (not (is_finished e)) q in
-            let free : Free cookie es = subst (λ c. Free c es) (eqb-true e.cookie cookie w.0) (d.0 (not_true_is_false (is_finished e) w.1)) in (
+            let w = and_parts (e.cookie == cookie) (not (is_finished e)) q in
+            let free : Free cookie es = subst (λ c. Free c es) (eqb-true e.cookie cookie w.0) (d.0 (not-true (is_finished e) w.1)) in (
               0,
               omega (arith, is_next),
               ap (λ r. (request_of e, outcome_with r) ∷ map (told later) es) (awaiting e q) ∙ ap (λ l. told (m ∷ later) e ∷ l) (sym (none_awaiting es free)),

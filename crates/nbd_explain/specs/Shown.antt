@@ -37,14 +37,6 @@ pub data IsShown (profile : Profile) (capture : List Pair) : Bool → List Messa
       → IsOfNoRunOf profile capture
       → IsShown profile capture false messages (line (Wire (length prefix) fault))
 
--- the answer to a capture: true where a run of the profile has exactly its bytes, false where no run of it has them
-pub record IsAnswered (profile : Profile) (known : Option (List ℕ)) (yes : Bool) : Type 0 where
-  pub chunks : List Chunk
-  pub is_text : IfSome known (λ text. IsCaptureText text chunks)
-  pub messages : List Message
-  pub last : List ℕ
-  pub is_shown : IsShown profile (flat_of chunks) yes messages last
-
 -- a capture's session of the profile was shown
 pub record WritesAll (profile : Profile) (known : Option (List ℕ)) (yes : Bool)
     (old new : Option (List ℕ)) : Type 0 where

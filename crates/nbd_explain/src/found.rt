@@ -17,10 +17,9 @@ pub fn found_explanation(
         Found::Order(entries) => text
             .found(sources.story.profile, entries)
             .amiss(sources.story),
-        Found::Unexplained(refutation) if is_wider => text
-            .refutation(&contest_of(refutation), &sources)
-            .explained_in_wide(),
-        Found::Unexplained(refutation) => text.refutation(&contest_of(refutation), &sources),
+        Found::Unexplained(refutation) => {
+            unexplained(alloc, text, refutation, &sources).wider_if(is_wider)
+        }
         Found::Image { image, size } => text.image(*image, *size),
         Found::NoneWhole => text.open(),
         Found::GaveUp { reason, .. } => with_limit(text.open(), *reason),
@@ -28,12 +27,30 @@ pub fn found_explanation(
     text.finish()
 }
 
-fn contest_of(refutation: &Refutation) -> Contest<'_> {
+// Why no order explains a session.
+fn unexplained(alloc: Global, text: Text, refutation: &Refutation, sources: &Sources<'_>) -> Text {
+    match states_of(alloc, refutation) {
+        Ok(states) => text.refutation(&contest_of(refutation, &states), sources),
+        Err(_) => text.refused_if(true),
+    }
+}
+
+fn contest_of<'a>(refutation: &'a Refutation, states: &'a [&'a [u64]]) -> Contest<'a> {
     Contest {
         reads: &refutation.reads,
         changes: &refutation.changes,
         offset: refutation.offset,
+        states,
     }
+}
+
+// What was served in each of its states.
+fn states_of(alloc: Global, refutation: &Refutation) -> Result<Vec<&[u64]>, AllocError> {
+    let mut states = Vec::new(alloc);
+    for state in &refutation.states {
+        states.push(state.served.as_slice())?;
+    }
+    Ok(states)
 }
 
 // How a search that gave up goes further, where it came to one of its limits.

@@ -4,7 +4,6 @@
 
 pub mod answer;
 mod arrival;
-mod as_objects;
 mod comparing;
 mod contents;
 mod explain;
@@ -22,11 +21,10 @@ mod writing;
 
 pub use answer::{Answer, explain_status};
 pub use arrival::{run_arrival, run_arrival_of};
-pub use as_objects::{run_names_as_objects, run_show_as_objects};
 pub use contents::run_contents;
 pub use explain::{run_explain, run_explain_of};
 pub use linting::{run_lint, write_rules};
 pub use listing::{run_names, run_names_of};
-pub use objects::objects_of;
+pub use objects::{Lines, Objects};
 pub use ordering::{Ordered, order_status, run_order, run_order_of};
 pub use show::{run_show, run_show_of};

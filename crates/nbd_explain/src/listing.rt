@@ -43,18 +43,19 @@ pub fn run_names<C: BufRead + Drop, W: Write>(
     ensures cause { IfErr result (IsShowCause (C.remaining capture)) }
     ensures left { IfErr result (KeepsUnread (W.contents out.old) (W.contents out.new)) }
 {
-    run_names_of(alloc, Profile::Base, capture, out)
+    run_names_of(alloc, Profile::Base, false, capture, out)
 }
 
 /// Reads a capture text to its end, and writes each message that its session of this profile accepts in words, a line each,
-/// in the order of their completion, and then `ok`, or where and why the session was refused. Answers true where it was
-/// accepted.
+/// in the order of their completion, and then `ok`, or where and why the session was refused; each number has its name where the
+/// text is marked, as `Objects` reads it. Answers true where it was accepted.
 ///
 /// An `Err` is a fault of the text, of its reader or of the writer, or out of memory. Nothing is written unless the capture
 /// was read whole and is well formed. After `Write` or `Memory` a prefix of the lines stands written, possibly nothing.
 pub fn run_names_of<C: BufRead + Drop, W: Write>(
     alloc: Global,
     profile: Profile,
+    is_marked: bool,
     capture: C,
     out: &mut W,
 ) -> Result<bool, RunFault>
@@ -65,7 +66,7 @@ pub fn run_names_of<C: BufRead + Drop, W: Write>(
     ensures cause { IfErr result (IsShowCause (C.remaining capture)) }
     ensures left { IfErr result (KeepsUnread (W.contents out.old) (W.contents out.new)) }
 {
-    let mut recorder = Recorder::of(alloc, profile, false);
+    let mut recorder = Recorder::of(alloc, profile, is_marked);
     write_recorded(alloc, profile, capture, &mut recorder, out)
 }
 
@@ -151,8 +152,8 @@ fn write_line<W: Write>(
     Ok(write_whole(out, line.as_bytes())?)
 }
 
-/// The line of a message: its words, and what became of it.
-pub fn line_of(
+// The line of a message: its words, and what became of it.
+fn line_of(
     alloc: Global,
     told: Option<&Told>,
     fate: Option<Outcome>,

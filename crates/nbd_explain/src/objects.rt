@@ -1,9 +1,17 @@
 //! What the commands print, as objects of JSON, a line each (docs/json.md). They are made of the lines that the commands print
 //! otherwise, in which nbd_story names the numbers.
 
+ghost use Rattle.std.specs.Prelude.{◌≡◌, ◌⊎◌, Err, IfErr, IfOk, Ok};
+ghost use Rattle.nbd_files.specs.declared.fault.RunFault.TheVariants.{Memory, Write};
+
+use memchr::memchr;
+use nbd_capture::{WriteFault, write_whole};
+use nbd_files::RunFault;
 use nbd_lint::Object;
 use nbd_story::{BEGUN, DIGITS, ENDED, NAMED};
 use std::alloc::{AllocError, Global};
+use std::io;
+use std::io::{ErrorKind, Write};
 
 /// Stands in the first object. A change that a reader of the objects would not bear raises it.
 const FORMAT: u64 = 1;
@@ -17,110 +25,168 @@ const OF_REQUESTS: &[&str] = &["Missing", "NotCovered"];
 /// The faults of a session that is not judged: nobody broke a rule.
 const OUTSIDE: &[&str] = &["OutOfProfile", "ExportTooLarge"];
 
-/// A form of a line: what is answered, what a no is about, and the line, with the names of its members in braces. Where nothing is
-/// answered it is an entry of an order, or a line of a contents text and what that says the export holds.
-type Form = (&'static str, &'static str, &'static str);
+/// The forms of lines: what is answered, what a no is about, and the line, with the names of its members in braces. Where nothing is
+/// answered it is an entry of an order, or a line of a contents text behind what that says the export holds. Of a line the first form
+/// counts that it has.
+const FORMS: &str = "\
+- - {request}
+- - {request} {offset} {length}
+- size size {size}
+- zero zero {offset} {length}
+- unknown unknown {offset} {length}
+- data data {offset} {bytes}
+ok - ok
+yes - yes requests {requests} answered {answered} improper {improper}
+no session no at byte {byte}: {fault}
+no image no image {image} size {size}
+no order no order entry {entry}: {fault}
+no content no content request {request} offset {offset} in any order
+no content no content request {request} offset {offset}
+no status no status request {request} offset {offset} in any order
+no status no status request {request} offset {offset}
+no requests no order explains requests {wrong} at offset {offset}
+agrees - agrees known {known} unknown {unknown}
+no against no against offset {offset}
+no against no against {image} size {size}
+no export no export
+open whole no order of whole requests found
+open search gave up: {reason} at request {request} offset {offset}";
 
-// The forms; of a line the first one counts that it has.
-const FORMS: &[Form] = &[
-    ("", "", "{request}"),
-    ("", "", "{request} {offset} {length}"),
-    ("", "size", "size {size}"),
-    ("", "zero", "zero {offset} {length}"),
-    ("", "unknown", "unknown {offset} {length}"),
-    ("", "data", "data {offset} {bytes}"),
-    ("ok", "", "ok"),
-    (
-        "yes",
-        "",
-        "yes requests {requests} answered {answered} improper {improper}",
-    ),
-    ("no", "session", "no at byte {byte}: {fault}"),
-    ("no", "image", "no image {image} size {size}"),
-    ("no", "order", "no order entry {entry}: {fault}"),
-    (
-        "no",
-        "content",
-        "no content request {request} offset {offset} in any order",
-    ),
-    (
-        "no",
-        "content",
-        "no content request {request} offset {offset}",
-    ),
-    (
-        "no",
-        "status",
-        "no status request {request} offset {offset} in any order",
-    ),
-    (
-        "no",
-        "status",
-        "no status request {request} offset {offset}",
-    ),
-    (
-        "no",
-        "requests",
-        "no order explains requests {wrong} at offset {offset}",
-    ),
-    ("agrees", "", "agrees known {known} unknown {unknown}"),
-    ("no", "against", "no against offset {offset}"),
-    ("no", "against", "no against {image} size {size}"),
-    ("no", "export", "no export"),
-    ("open", "whole", "no order of whole requests found"),
-    (
-        "open",
-        "search",
-        "gave up: {reason} at request {request} offset {offset}",
-    ),
-];
+/// What stands in a form for no word.
+const NONE: &str = "-";
 
-/// The objects of what `check`, `explain`, `order` and `contents` print.
-pub fn objects_of(alloc: Global, text: &str) -> Result<Vec<u8>, AllocError> {
-    let mut objects = Vec::new(alloc);
-    let mut is_first = true;
-    for line in text.lines() {
-        let mut object = begun(alloc, is_first);
-        tell_line(alloc, line, &mut object);
-        objects.extend_from_slice(&object.line()?)?;
-        is_first = false;
-    }
-    Ok(objects)
+/// Which lines are told as objects.
+#[derive(Clone, Copy, Drop)]
+pub enum Lines {
+    /// Those of `show`.
+    Messages,
+    /// Those of `show --names`.
+    Words,
+    /// Those of the other commands.
+    Others,
 }
 
-/// The object of a line that `show` prints.
-pub fn object_of_message(alloc: Global, line: &str, is_first: bool) -> Result<Vec<u8>, AllocError> {
-    let mut object = begun(alloc, is_first);
-    match side_of(line) {
-        Some((side, fields)) => {
-            object.text("side", side);
-            tell_fields(alloc, fields, &mut object);
+/// A writer of lines, which writes an object for each.
+#[derive(Drop)]
+pub struct Objects<W> {
+    alloc: Global,
+    writer: W,
+    lines: Lines,
+    /// The line that has begun.
+    line: Vec<u8>,
+    is_first: bool,
+    /// Memory was refused.
+    is_refused: bool,
+}
+
+impl<W: Write> Objects<W> {
+    /// One over this writer; takes no memory.
+    pub fn new(alloc: Global, writer: W, lines: Lines) -> Objects<W> {
+        Objects {
+            alloc,
+            writer,
+            lines,
+            line: Vec::new(alloc),
+            is_first: true,
+            is_refused: false,
         }
-        None => tell_line(alloc, line, &mut object),
     }
-    object.line()
-}
 
-/// The object of a line that `show --names` prints.
-pub fn object_of_words(alloc: Global, line: &str, is_first: bool) -> Result<Vec<u8>, AllocError> {
-    let mut object = begun(alloc, is_first);
-    match side_of(line) {
-        Some((side, words)) => {
-            object.text("side", side);
-            tell_words(alloc, words, &mut object);
+    /// The answer of what wrote the lines, once all that is buffered is written; where memory was refused for an object, that.
+    pub fn end<A: Drop>(&mut self, answer: Result<A, RunFault>) -> Result<A, RunFault>
+        ensures answer { IfOk result (λ given. answer ≡ Ok given) }
+        ensures fault { IfErr result (λ fault. (answer ≡ Err fault) ⊎ (fault ≡ Write) ⊎ (fault ≡ Memory)) }
+    {
+        match answer {
+            Ok(_) if self.writer.flush().is_err() => Err(RunFault::Write),
+            Err(_) if self.is_refused => Err(RunFault::Memory),
+            answer => answer,
         }
-        None => tell_line(alloc, line, &mut object),
     }
-    object.line()
+
+    // Takes more of a line.
+    fn add(&mut self, bytes: &[u8]) -> io::Result<()> {
+        match self.line.extend_from_slice(bytes) {
+            Ok(()) => Ok(()),
+            Err(refused) => self.refuse(refused),
+        }
+    }
+
+    // The object of the line that has come.
+    fn object(&self) -> Result<Vec<u8>, AllocError> {
+        let line = str::from_utf8(&self.line).unwrap_or("");
+        object_of(self.alloc, line, self.lines, self.is_first)
+    }
+
+    // Writes it.
+    fn put(&mut self) -> io::Result<()> {
+        match self.object() {
+            Ok(object) => {
+                self.line.clear();
+                self.is_first = false;
+                written(write_whole(&mut self.writer, &object))
+            }
+            Err(refused) => self.refuse(refused),
+        }
+    }
+
+    fn refuse(&mut self, _: AllocError) -> io::Result<()> {
+        self.is_refused = true;
+        Err(ErrorKind::OutOfMemory.into())
+    }
 }
 
-// An object, the first of which tells the format.
-fn begun(alloc: Global, is_first: bool) -> Object {
+impl<W: Write> Write for Objects<W> {
+    // (up to the end of a line)
+    fn write(&mut self, buf: &[u8]) -> io::Result<usize> {
+        match memchr(b'\n', buf) {
+            Some(place) => {
+                self.add(&buf[..place])?;
+                self.put()?;
+                Ok(place + 1)
+            }
+            None => {
+                self.add(buf)?;
+                Ok(buf.len())
+            }
+        }
+    }
+
+    fn flush(&mut self) -> io::Result<()> {
+        self.writer.flush()
+    }
+}
+
+fn written(whole: Result<(), WriteFault>) -> io::Result<()> {
+    match whole {
+        Ok(()) => Ok(()),
+        Err(_) => Err(ErrorKind::Other.into()),
+    }
+}
+
+// The object of a line; the first one tells the format.
+fn object_of(
+    alloc: Global,
+    line: &str,
+    lines: Lines,
+    is_first: bool,
+) -> Result<Vec<u8>, AllocError> {
     let mut object = Object::new(alloc);
     if is_first {
         object.number("format", FORMAT);
     }
-    object
+    match (lines, side_of(line)) {
+        (Lines::Messages, Some((side, fields))) => {
+            object.text("side", side);
+            tell_fields(alloc, fields, &mut object);
+        }
+        (Lines::Words, Some((side, words))) => {
+            object.text("side", side);
+            tell_words(alloc, words, &mut object);
+        }
+        _ => tell_line(alloc, line, &mut object),
+    }
+    object.line()
 }
 
 // The side of a message, and its line behind that.
@@ -134,31 +200,32 @@ fn side_of(line: &str) -> Option<(&'static str, &str)> {
 
 // A line of one of the forms, or a fact.
 fn tell_line(alloc: Global, line: &str, object: &mut Object) {
-    for form in FORMS {
-        if has_form(line, form.2) {
-            return tell_form(line, *form, object);
+    for row in FORMS.split("\n") {
+        let (verdict, behind) = row.split_once(" ").unwrap_or((row, ""));
+        let (kind, form) = behind.split_once(" ").unwrap_or((behind, ""));
+        if has_form(line, form) {
+            return tell_form(line, verdict, kind, form, object);
         }
     }
     tell_fact(alloc, line, object);
 }
 
-fn tell_form(line: &str, form: Form, object: &mut Object) {
-    let (verdict, kind, members) = form;
-    if verdict.is_empty() {
-        tell_unless_empty("holds", kind, object);
-        return tell_members(line, members, object);
+fn tell_form(line: &str, verdict: &str, kind: &str, form: &str, object: &mut Object) {
+    if verdict == NONE {
+        tell_word("holds", kind, object);
+        return tell_members(line, form, object);
     }
     object.text("line", line);
     object.text("verdict", verdict);
-    tell_unless_empty("kind", kind, object);
-    tell_members(line, members, object);
+    tell_word("kind", kind, object);
+    tell_members(line, form, object);
     // (of a session that is not judged nobody broke a rule)
     object.flag("judged", verdict != "open" && !ends_with_one(line, OUTSIDE));
 }
 
-fn tell_unless_empty(name: &str, value: &str, object: &mut Object) {
-    if !value.is_empty() {
-        object.text(name, value);
+fn tell_word(name: &str, word: &str, object: &mut Object) {
+    if word != NONE {
+        object.text(name, word);
     }
 }
 
@@ -171,26 +238,32 @@ fn ends_with_one(line: &str, faults: &[&str]) -> bool {
     false
 }
 
-// The next value of a line, up to the words behind it or to the end, and what is left of the line.
-fn value_before<'a>(line: &'a str, behind: &str) -> (&'a str, &'a str) {
-    if behind.is_empty() {
-        (line, "")
-    } else {
-        line.split_once(behind).unwrap_or((line, ""))
-    }
-}
-
 // The words before the first value of a form, and what stands behind its brace.
 fn front_of(form: &str) -> (&str, &str) {
     form.split_once("{").unwrap_or((form, ""))
 }
 
-// The name in a part of a form behind a brace, and the words behind it.
-fn named_in(part: &str) -> (&str, &str) {
-    part.split_once("}").unwrap_or((part, ""))
+// The name of a form behind a brace, its value in a line, and what is left of the line behind the words that follow, if that is so: the
+// value is a number, where the name is none of those of a text or a list.
+fn member_in<'a>(part: &'a str, line: &'a str) -> Option<(&'a str, &'a str, &'a str)> {
+    let (name, behind) = part.split_once("}").unwrap_or((part, ""));
+    let (value, left) = if behind.is_empty() {
+        (line, "")
+    } else {
+        line.split_once(behind)?
+    };
+    if is_value(name, value) {
+        Some((name, value, left))
+    } else {
+        None
+    }
 }
 
-// Whether a line has a form: each of its values is a number, where the name is none of those of a text or a list.
+fn is_value(name: &str, value: &str) -> bool {
+    matches!(name, "fault" | "reason" | "wrong" | "bytes") || value.parse::<u64>().is_ok()
+}
+
+// Whether a line has a form.
 fn has_form(line: &str, form: &str) -> bool {
     let (front, values) = front_of(form);
     if values.is_empty() || !line.starts_with(front) {
@@ -198,18 +271,12 @@ fn has_form(line: &str, form: &str) -> bool {
     }
     let mut rest = line.strip_prefix(front).unwrap_or("");
     for part in values.split("{") {
-        let (name, behind) = named_in(part);
-        let (value, left) = value_before(rest, behind);
-        if !rest.contains(behind) || !is_value(name, value) {
-            return false;
+        match member_in(part, rest) {
+            Some((_, _, left)) => rest = left,
+            None => return false,
         }
-        rest = left;
     }
     rest.is_empty()
-}
-
-fn is_value(name: &str, value: &str) -> bool {
-    matches!(name, "fault" | "reason" | "wrong" | "bytes") || value.parse::<u64>().is_ok()
 }
 
 // The members of a line of this form.
@@ -218,10 +285,10 @@ fn tell_members(line: &str, form: &str, object: &mut Object) {
     let (front, values) = front_of(form);
     let mut rest = line.strip_prefix(front).unwrap_or("");
     for part in values.split("{") {
-        let (name, behind) = named_in(part);
-        let (value, left) = value_before(rest, behind);
-        tell_member(name_for(name, is_of_request), value, object);
-        rest = left;
+        if let Some((name, value, left)) = member_in(part, rest) {
+            tell_member(name_for(name, is_of_request), value, object);
+            rest = left;
+        }
     }
     if form.ends_with(ANY) || form.starts_with("no order explains") {
         object.flag("any_order", true);
@@ -289,8 +356,7 @@ fn tell_cookie(alloc: Global, cookie: &str, object: &mut Object) {
 
 // The words of a message, and what became of a request.
 fn tell_words(alloc: Global, words: &str, object: &mut Object) {
-    tell_plain(alloc, "text", words, object);
-    tell_numbers(alloc, words, object);
+    tell_named_numbers(alloc, "text", words, object);
     if let Some(result) = result_in(words) {
         object.text("result", result);
     }
@@ -311,8 +377,7 @@ fn result_in(words: &str) -> Option<&'static str> {
 // A line of `explain` behind the first: what it is about, and its numbers.
 fn tell_fact(alloc: Global, line: &str, object: &mut Object) {
     object.text("fact", fact_of(line));
-    tell_plain(alloc, "line", line, object);
-    tell_numbers(alloc, line, object);
+    tell_named_numbers(alloc, "line", line, object);
 }
 
 // What a line is about: the words before its first colon or number, or the first word of a row of bytes.
@@ -323,25 +388,6 @@ fn fact_of(line: &str) -> &str {
     label.trim_end()
 }
 
-// Words without what names the numbers in them.
-fn tell_plain(alloc: Global, name: &str, words: &str, object: &mut Object) {
-    match plain(alloc, words) {
-        Ok(text) => object.text(name, text.as_str()),
-        Err(refused) => object.note(Err(refused)),
-    }
-}
-
-fn plain(alloc: Global, words: &str) -> Result<String, AllocError> {
-    let mut text = String::new(alloc);
-    for part in words.split(BEGUN) {
-        let (_, told) = part.split_once(NAMED).unwrap_or(("", part));
-        let (number, behind) = told.split_once(ENDED).unwrap_or((told, ""));
-        text.push_str(number)?;
-        text.push_str(behind)?;
-    }
-    Ok(text)
-}
-
 // A number in words: its name, whether it is told in hexadecimal, and its digits.
 #[derive(Clone, Copy)]
 struct Number<'a> {
@@ -350,28 +396,47 @@ struct Number<'a> {
     digits: &'a str,
 }
 
-// The numbers in words.
-fn numbers_in<'a>(alloc: Global, words: &'a str) -> Result<Vec<Number<'a>>, AllocError> {
-    let mut numbers = Vec::new(alloc);
-    for part in words.split(BEGUN) {
-        if let Some((name, told)) = part.split_once(NAMED) {
-            let (digits, _) = told.split_once(ENDED).unwrap_or((told, ""));
-            numbers.push(Number {
+// Words without what names the numbers in them, and these.
+#[derive(Drop)]
+struct Words<'a> {
+    text: String,
+    numbers: Vec<Number<'a>>,
+    is_refused: bool,
+}
+
+impl<'a> Words<'a> {
+    // Takes words with one number at most, whose name stands before it.
+    fn add(&mut self, words: &'a str) {
+        let (name, told) = words.split_once(NAMED).unwrap_or(("", words));
+        let (digits, behind) = told.split_once(ENDED).unwrap_or((told, ""));
+        self.is_refused |= self.text.push_str(digits).is_err();
+        self.is_refused |= self.text.push_str(behind).is_err();
+        if !name.is_empty() {
+            let number = Number {
                 name: name.strip_prefix(DIGITS).unwrap_or(name),
                 is_text: name.starts_with(DIGITS),
                 digits,
-            })?;
+            };
+            self.is_refused |= self.numbers.push(number).is_err();
         }
     }
-    Ok(numbers)
 }
 
-// The numbers in words: of those of one name a list, where there are several.
-fn tell_numbers(alloc: Global, words: &str, object: &mut Object) {
-    match numbers_in(alloc, words) {
-        Ok(numbers) => tell_all(numbers.as_slice(), object),
-        Err(refused) => object.note(Err(refused)),
+// Adds words under this name, and the numbers in them: of those of one name a list, where there are several.
+fn tell_named_numbers(alloc: Global, name: &str, words: &str, object: &mut Object) {
+    let mut parts = Words {
+        text: String::new(alloc),
+        numbers: Vec::new(alloc),
+        is_refused: false,
+    };
+    for part in words.split(BEGUN) {
+        parts.add(part);
     }
+    if parts.is_refused {
+        object.note(Err(AllocError));
+    }
+    object.text(name, parts.text.as_str());
+    tell_all(parts.numbers.as_slice(), object);
 }
 
 fn tell_all(numbers: &[Number<'_>], object: &mut Object) {

@@ -4,97 +4,40 @@ use crate::content::bringer;
 use crate::contexts::is_told;
 use crate::parts::outside;
 use crate::reading::number_in;
-use crate::requests::{Request, is_change, range};
+use crate::requests::{Request, range};
 use crate::story::Story;
 use crate::text::Text;
 use crate::told::{Form, Told};
-use nbd_state::{ends_by, has_range};
+use nbd_state::{ends_by, has_range, is_change};
 use nbd_wire::flags::{has, has_only};
+use nbd_wire::names::{Name, name_in};
 use nbd_wire::{
-    Part, Profile, RequestHead, chunks, command_flags, commands, read_as, transmission,
+    Part, Profile, RequestHead, chunks, command_flags, commands, flag_names, read_as, transmission,
 };
 
-/// Requests of these types.
-#[derive(Clone, Copy)]
-enum Whom {
-    All,
-    Only(u16),
-    AllBut(u16),
-}
+/// The types that an export offers by a flag of its own (proto.md, "Transmission flags").
+const OFFERED: &[(u16, u16)] = &[
+    (commands::FLUSH, transmission::SEND_FLUSH),
+    (commands::TRIM, transmission::SEND_TRIM),
+    (commands::WRITE_ZEROES, transmission::SEND_WRITE_ZEROES),
+];
 
-/// What a client does not send.
-#[derive(Clone, Copy)]
-struct Ban {
-    whom: Whom,
-    /// The flag that such a request carries; 0 where that does not count.
-    carries: u16,
-    /// The flag that the export lacks; 0 where that does not count.
-    lacks: u16,
-    reason: &'static str,
-}
-
-/// proto.md, "Request types", "Command flags", "Transmission flags".
-const BANS: &[Ban] = &[
-    Ban {
-        whom: Whom::Only(commands::FLUSH),
-        carries: 0,
-        lacks: transmission::SEND_FLUSH,
-        reason: "the export does not offer FLUSH: it lacks SEND_FLUSH",
-    },
-    Ban {
-        whom: Whom::Only(commands::TRIM),
-        carries: 0,
-        lacks: transmission::SEND_TRIM,
-        reason: "the export does not offer TRIM: it lacks SEND_TRIM",
-    },
-    Ban {
-        whom: Whom::Only(commands::WRITE_ZEROES),
-        carries: 0,
-        lacks: transmission::SEND_WRITE_ZEROES,
-        reason: "the export does not offer WRITE_ZEROES: it lacks SEND_WRITE_ZEROES",
-    },
-    Ban {
-        whom: Whom::All,
-        carries: command_flags::FUA,
-        lacks: transmission::SEND_FUA,
-        reason: "it carries FUA, and the export lacks SEND_FUA",
-    },
-    Ban {
-        whom: Whom::AllBut(commands::WRITE_ZEROES),
-        carries: command_flags::NO_HOLE,
-        lacks: 0,
-        reason: "it carries NO_HOLE, which only a WRITE_ZEROES may",
-    },
-    Ban {
-        whom: Whom::AllBut(commands::READ),
-        carries: command_flags::DF,
-        lacks: 0,
-        reason: "it carries DF, which only a READ may",
-    },
-    Ban {
-        whom: Whom::Only(commands::READ),
-        carries: command_flags::DF,
-        lacks: transmission::SEND_DF,
-        reason: "it carries DF, and the export lacks SEND_DF",
-    },
-    Ban {
-        whom: Whom::AllBut(commands::BLOCK_STATUS),
-        carries: command_flags::REQ_ONE,
-        lacks: 0,
-        reason: "it carries REQ_ONE, which only a BLOCK_STATUS may",
-    },
-    Ban {
-        whom: Whom::AllBut(commands::WRITE_ZEROES),
-        carries: command_flags::FAST_ZERO,
-        lacks: 0,
-        reason: "it carries FAST_ZERO, which only a WRITE_ZEROES may",
-    },
-    Ban {
-        whom: Whom::Only(commands::WRITE_ZEROES),
-        carries: command_flags::FAST_ZERO,
-        lacks: transmission::SEND_FAST_ZERO,
-        reason: "it carries FAST_ZERO, and the export lacks SEND_FAST_ZERO",
-    },
+/// A flag of requests, the type of those that may carry it, where not all may, and the flag of an export that allows it; 0 where none
+/// has to (proto.md, "Command flags", "Transmission flags").
+const CARRIED: &[(u16, Option<u16>, u16)] = &[
+    (command_flags::FUA, None, transmission::SEND_FUA),
+    (command_flags::NO_HOLE, Some(commands::WRITE_ZEROES), 0),
+    (
+        command_flags::DF,
+        Some(commands::READ),
+        transmission::SEND_DF,
+    ),
+    (command_flags::REQ_ONE, Some(commands::BLOCK_STATUS), 0),
+    (
+        command_flags::FAST_ZERO,
+        Some(commands::WRITE_ZEROES),
+        transmission::SEND_FAST_ZERO,
+    ),
 ];
 
 /// The flags of a request that proto.md has and nbdcheck follows.
@@ -115,18 +58,6 @@ fn flags_of(head: &RequestHead) -> u16 {
 
 /// Why a request of another type is not sent.
 const UNKNOWN_TYPE: &str = "its type is none of READ, WRITE, FLUSH, TRIM, CACHE and WRITE_ZEROES";
-
-impl Ban {
-    // Whether a request is one that it forbids, with an export that offers these flags.
-    fn forbids(&self, head: &RequestHead, offered: u16) -> bool {
-        let is_meant = match self.whom {
-            Whom::All => true,
-            Whom::Only(command) => head.command == command,
-            Whom::AllBut(command) => head.command != command,
-        };
-        is_meant && head.flags & self.carries == self.carries && offered & self.lacks == 0
-    }
-}
 
 impl Text {
     /// Adds what is wrong, where that is known: no words where it is not.
@@ -154,12 +85,51 @@ impl Text {
                 ),
             };
         }
-        let mut text = self.beyond(head, story.export.size);
-        for ban in BANS {
-            text = text.wrong_if(ban.forbids(head, story.export.flags), ban.reason);
-        }
-        text.wrong_type(head, has(story.export.flags, transmission::READ_ONLY))
+        self.beyond(head, story.export.size)
+            .not_offered(head.command, story.export.flags)
+            .wrong_flags(head, story.export.flags)
+            .wrong_type(head, has(story.export.flags, transmission::READ_ONLY))
             .wrong_payload(request, story)
+    }
+
+    // That an export with these flags does not offer the type, where that is so.
+    fn not_offered(self, command: u16, flags: u16) -> Text {
+        let mut text = self;
+        for (offered, by) in OFFERED {
+            if *offered == command && !has(flags, *by) {
+                text = text
+                    .say("wrong: the export does not offer ")
+                    .command(command)
+                    .line(": it lacks ", name_of(flag_names::TRANSMISSION, *by));
+            }
+        }
+        text
+    }
+
+    // Which flags a request carries that only others may, or that an export with these flags does not allow.
+    fn wrong_flags(self, head: &RequestHead, flags: u16) -> Text {
+        let mut text = self;
+        for (flag, by, needs) in CARRIED {
+            text = match *by {
+                _ if !has(head.flags, *flag) => text,
+                Some(command) if command != head.command => text
+                    .carries(*flag)
+                    .say(", which only a ")
+                    .command(command)
+                    .say(" may\n"),
+                _ if !has_only(u32::from(*needs), u32::from(flags)) => text.carries(*flag).line(
+                    ", and the export lacks ",
+                    name_of(flag_names::TRANSMISSION, *needs),
+                ),
+                _ => text,
+            };
+        }
+        text
+    }
+
+    fn carries(self, flag: u16) -> Text {
+        self.say("wrong: it carries ")
+            .say(name_of(flag_names::COMMAND, flag))
     }
 
     // Why no request with an extended header has PAYLOAD_LEN and this payload.
@@ -223,6 +193,11 @@ impl Text {
             None => text.number("more than {past} bytes\n", u64::MAX),
         }
     }
+}
+
+// The name of a flag.
+fn name_of(table: &[Name], flag: u16) -> &'static str {
+    name_in(table, u32::from(flag)).unwrap_or("")
 }
 
 /// Why a chunk has not the form of its type.

@@ -2,11 +2,12 @@
 
 use crate::explanation::{NO_PLACE, Sources};
 use crate::parts::{between, common, end_of, part_in};
-use crate::requests::{Request, is_change, range};
+use crate::requests::{Request, range};
 use crate::story::Story;
 use crate::told::{EMPTY, Told};
 use crate::zeroes::{called_zero, count_of, descriptor_in};
 use nbd_export::{Contents, Extents, HeldPart, Start};
+use nbd_state::is_change;
 use nbd_wire::{Entry, Part, Side, commands};
 use std::alloc::Global;
 use std::collections::BTreeMap;

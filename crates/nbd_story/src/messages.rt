@@ -81,8 +81,8 @@ impl Text {
         self.say(words).say("the ").command(request.head.command)
     }
 
-    // The type of a request: `READ`, and `command 9` of one without a name.
-    fn command(self, command: u16) -> Text {
+    /// The type of a request: `READ`, and `command 9` of one without a name.
+    pub fn command(self, command: u16) -> Text {
         let name = name_in(COMMANDS, u32::from(command));
         self.number(name.unwrap_or("command {command}"), u64::from(command))
     }

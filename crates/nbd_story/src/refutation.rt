@@ -14,6 +14,8 @@ pub struct Contest<'a> {
     pub reads: &'a [u64],
     pub changes: &'a [u64],
     pub offset: u64,
+    /// What of them can have been served so far, one after the other; each of these leads to others of them, and in none all were.
+    pub states: &'a [&'a [u64]],
 }
 
 impl Text {
@@ -26,7 +28,7 @@ impl Text {
                 .byte_of_start(contest.offset, sources)
                 .changes(contest.changes, contest.offset, sources)
                 .reads(contest.reads, contest.offset, sources.story)
-                .deduction(contest, sources)
+                .states(contest, sources)
                 .assumed(sources.story.profile),
         }
     }

@@ -2,7 +2,7 @@
 
 use crate::parts::has_offset;
 use crate::told::EMPTY;
-use nbd_state::has_range;
+use nbd_state::{has_range, is_change};
 use nbd_wire::{Part, RequestHead, commands};
 
 /// A numbered request.
@@ -96,14 +96,6 @@ impl Request {
     pub fn is_before(&self, other: &Request) -> bool {
         self.due != 0 && self.due < other.last
     }
-}
-
-/// Whether requests of this type change the export.
-pub fn is_change(command: u16) -> bool {
-    matches!(
-        command,
-        commands::WRITE | commands::TRIM | commands::WRITE_ZEROES
-    )
 }
 
 /// The part of the export that a request names.

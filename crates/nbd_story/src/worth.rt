@@ -40,9 +40,10 @@ impl Text {
         )
     }
 
-    /// Adds that an order explains the session in the profile `Wide`.
-    pub fn explained_in_wide(self) -> Text {
-        self.say(
+    /// Adds that an order explains the session in the profile `Wide`, where one does.
+    pub fn wider_if(self, is_wider: bool) -> Text {
+        self.say_if(
+            is_wider,
             "wide: an order explains the session in the profile wide, where each message of a READ's reply is served by itself; \
             try --profile wide\n",
         )

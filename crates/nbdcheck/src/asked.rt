@@ -4,7 +4,6 @@ ghost use Rattle.std.specs.Prelude.{◌≡◌, ◌↔◌, Some, None, IsTrue, co
 ghost use Rattle.nbd_order.specs.declared.finding.Wanted.TheVariants.{Any, Whole};
 ghost use Rattle.nbd_wire.specs.declared.profile.Profile.TheVariants.{Base, Wide};
 
-use crate::words::{USUAL_PROFILE, USUAL_START};
 use clap::ArgMatches;
 use nbd_files::{StartWord, start_of};
 use nbd_order::{Scope, Wanted, usual_limits};
@@ -57,10 +56,11 @@ pub struct Asked<'a> {
 impl<'a> Asked<'a> {
     /// What these words say, or what is wrong where one of them is malformed.
     pub fn of(words: &ArgMatches<'a>) -> Result<Asked<'a>, BadWord> {
-        let Some(start) = start_of(words.get_str("start").unwrap_or(USUAL_START)) else {
+        // (a command that does not have these words asks for nothing by them)
+        let Some(start) = start_of(words.get_str("start").unwrap_or("unknown")) else {
             return Err(BAD_START);
         };
-        let Some(profile) = profile_of(words.get_str("profile").unwrap_or(USUAL_PROFILE)) else {
+        let Some(profile) = profile_of(words.get_str("profile").unwrap_or("base")) else {
             return Err(BAD_PROFILE);
         };
         let Some(scope) = scope_in(words) else {

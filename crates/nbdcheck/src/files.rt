@@ -1,10 +1,9 @@
 //! What is written of the files of a run.
 
 use crate::asked::Asked;
-use nbd_capture::write_whole;
 use nbd_explain::{
-    Answer, Ordered, objects_of, run_arrival_of, run_contents, run_explain_of,
-    run_names_as_objects, run_names_of, run_order_of, run_show_as_objects, run_show_of,
+    Answer, Lines, Objects, Ordered, run_arrival_of, run_contents, run_explain_of, run_names_of,
+    run_order_of, run_show_of,
 };
 use nbd_files::{
     Files, FinalWriter, Opener, RunFault, StartFrom, open_inputs, open_start, terminal,
@@ -18,14 +17,16 @@ use std::fs::File;
 use std::io;
 use std::io::{BufReader, BufWriter, Write};
 
+/// What is written on standard output, first to a buffer.
+type Buffered<'a> = BufWriter<FinalWriter<io::Printer<'a, HostRuntime>>>;
+
 /// Opens the files in the order capture, order, image, and then checks the session.
 pub fn check_inputs(files: &mut Files<'_>, asked: &Asked<'_>) -> Result<bool, RunFault> {
     let rt = files.rt;
     if asked.is_json {
-        let mut text = Vec::new(rt.alloc());
-        let is_yes = check_into(files, asked, &mut text)?;
-        write_objects(rt, &text)?;
-        Ok(is_yes)
+        let mut out = Objects::new(rt.alloc(), buffered(rt)?, Lines::Others);
+        let answer = check_into(files, asked, &mut out);
+        out.end(answer)
     } else {
         check_into(files, asked, &mut io::writer(rt))
     }
@@ -40,15 +41,12 @@ fn check_into<W: Write>(
     check_files(files, asked.profile, asked.input, order, asked.start, out)
 }
 
-// Writes a text as objects on standard output.
-fn write_objects(rt: &HostRuntime, text: &[u8]) -> Result<(), RunFault> {
-    put_objects(rt.alloc(), text, &mut io::writer(rt))
-}
-
-// Writes a text as objects.
-fn put_objects<W: Write>(alloc: Global, text: &[u8], out: &mut W) -> Result<(), RunFault> {
-    let text = str::from_utf8(text).unwrap_or("");
-    Ok(write_whole(out, &objects_of(alloc, text)?)?)
+// Standard output, of which all is written when it is flushed.
+fn buffered<'a>(rt: &'a HostRuntime) -> Result<Buffered<'a>, RunFault> {
+    match BufWriter::new(rt.alloc(), FinalWriter::new(io::writer(rt))) {
+        Ok(out) => Ok(out),
+        Err(_) => Err(RunFault::Memory),
+    }
 }
 
 /// Opens the files in the order capture, order, image, where there are such, and then explains.
@@ -86,10 +84,9 @@ fn explain_over(
     start: StartFrom<File>,
 ) -> Result<Answer, RunFault> {
     if asked.is_json {
-        let mut text = Vec::new(rt.alloc());
-        let answer = explain_into(rt, asked, capture, order, start, &mut text)?;
-        write_objects(rt, &text)?;
-        Ok(answer)
+        let mut out = Objects::new(rt.alloc(), buffered(rt)?, Lines::Others);
+        let answer = explain_into(rt, asked, capture, order, start, &mut out);
+        out.end(answer)
     } else {
         explain_into(rt, asked, capture, order, start, &mut io::writer(rt))
     }
@@ -123,10 +120,9 @@ fn explain_into<W: Write>(
 pub fn order_files(files: &mut Files<'_>, asked: &Asked<'_>) -> Result<Ordered, RunFault> {
     let rt = files.rt;
     if asked.is_json {
-        let mut text = Vec::new(rt.alloc());
-        let answer = order_into(files, asked, &mut text)?;
-        write_objects(rt, &text)?;
-        Ok(answer)
+        let mut out = Objects::new(rt.alloc(), buffered(rt)?, Lines::Others);
+        let answer = order_into(files, asked, &mut out);
+        out.end(answer)
     } else {
         order_into(files, asked, &mut io::writer(rt))
     }
@@ -153,20 +149,20 @@ fn order_into<W: Write>(
 
 /// Opens the files in the order capture, order, start, image, where there are such, and then writes what the session leaves.
 pub fn contents_files(files: &mut Files<'_>, asked: &Asked<'_>) -> Result<bool, RunFault> {
-    let rt = files.rt;
+    let mut out = buffered(files.rt)?;
     if asked.is_json {
-        let mut text = Vec::new(rt.alloc());
-        let is_yes = contents_into(files, asked, &mut text)?;
-        write_objects(rt, &text)?;
-        return Ok(is_yes);
+        let mut out = Objects::new(files.rt.alloc(), out, Lines::Others);
+        let answer = contents_into(files, asked, &mut out);
+        return out.end(answer);
     }
-    let out = FinalWriter::new(io::writer(rt));
-    let Ok(mut out) = BufWriter::new(rt.alloc(), out) else {
-        return Err(RunFault::Memory);
-    };
     let is_yes = contents_into(files, asked, &mut out)?;
+    flushed(&mut out, is_yes)
+}
+
+// The answer, once all that is buffered is written.
+fn flushed(out: &mut Buffered<'_>, answer: bool) -> Result<bool, RunFault> {
     match out.flush() {
-        Ok(()) => Ok(is_yes),
+        Ok(()) => Ok(answer),
         Err(_) => Err(RunFault::Write),
     }
 }
@@ -243,49 +239,36 @@ fn write_buffered(
     output: Output,
     is_json: bool,
 ) -> Result<bool, RunFault> {
-    let out = FinalWriter::new(io::writer(rt));
-    let Ok(mut out) = BufWriter::new(rt.alloc(), out) else {
-        return Err(RunFault::Memory);
-    };
-    let is_accepted = if is_json {
-        write_as_objects(rt.alloc(), input, output, &mut out)?
-    } else {
-        write_to(rt.alloc(), input, output, &mut out)?
-    };
-    match out.flush() {
-        Ok(()) => Ok(is_accepted),
-        Err(_) => Err(RunFault::Write),
+    let mut out = buffered(rt)?;
+    if is_json {
+        let mut out = Objects::new(rt.alloc(), out, lines_of(output));
+        let answer = write_to(rt.alloc(), input, output, true, &mut out);
+        return out.end(answer);
+    }
+    let is_accepted = write_to(rt.alloc(), input, output, false, &mut out)?;
+    flushed(&mut out, is_accepted)
+}
+
+fn lines_of(output: Output) -> Lines {
+    match output {
+        Output::Lines(_) => Lines::Messages,
+        Output::Names(_) => Lines::Words,
+        Output::Numbers(_) | Output::Capture => Lines::Others,
     }
 }
 
+// Writes this of an input, with the names of numbers where it is marked.
 fn write_to<W: Write>(
     alloc: Global,
     input: BufReader<File>,
     output: Output,
+    is_marked: bool,
     out: &mut W,
 ) -> Result<bool, RunFault> {
     match output {
         Output::Numbers(profile) => run_arrival_of(alloc, profile, input, out),
         Output::Lines(profile) => run_show_of(alloc, profile, input, out),
-        Output::Names(profile) => run_names_of(alloc, profile, input, out),
+        Output::Names(profile) => run_names_of(alloc, profile, is_marked, input, out),
         Output::Capture => run_make(alloc, input, out).map(|()| true),
-    }
-}
-
-fn write_as_objects<W: Write>(
-    alloc: Global,
-    input: BufReader<File>,
-    output: Output,
-    out: &mut W,
-) -> Result<bool, RunFault> {
-    match output {
-        Output::Lines(profile) => run_show_as_objects(alloc, profile, input, out),
-        Output::Names(profile) => run_names_as_objects(alloc, profile, input, out),
-        _ => {
-            let mut text = Vec::new(alloc);
-            let is_accepted = write_to(alloc, input, output, &mut text)?;
-            put_objects(alloc, &text, out)?;
-            Ok(is_accepted)
-        }
     }
 }

@@ -1,7 +1,6 @@
 //! The command `lint`: what its words say, and what is written.
 
 use crate::asked::{Asked, BadWord};
-use crate::words::USUAL_LEVEL;
 use clap::ArgMatches;
 use nbd_explain::{run_lint, write_rules};
 use nbd_files::{Files, RunFault};
@@ -34,7 +33,7 @@ pub struct Linting {
 impl Linting {
     /// What these words say, or what is wrong where one of them is malformed.
     pub fn of(words: &ArgMatches<'_>) -> Result<Linting, BadWord> {
-        let Some(level) = Level::of(words.get_str("level").unwrap_or(USUAL_LEVEL)) else {
+        let Some(level) = Level::of(words.get_str("level").unwrap_or("")) else {
             return Err(BAD_LEVEL);
         };
         let is_list = words.get_flag("list");

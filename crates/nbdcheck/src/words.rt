@@ -3,277 +3,41 @@
 use clap::{Arg, ArgAction, Command};
 use std::alloc::{AllocError, Global};
 
-// A command.
-#[derive(Clone, Copy)]
-struct Told {
-    name: &'static str,
-    about: &'static str,
-    help: &'static str,
-    words: &'static [Word],
-}
+/// The commands, a line each: its name, the keys of the words behind it, and what it is about.
+const COMMANDS: &str = "\
+check | CAPTURE ORDER start profile json hints | Did both ends keep the protocol, and did every read return the right bytes?
+explain | CAPTURE ORDER? start profile states steps json hints | Why is the answer no?
+order | CAPTURE start profile whole arrival states steps json hints | Finds an order of service that explains a capture
+contents | CAPTURE ORDER? start profile against json hints | What does a session leave on the export?
+show | CAPTURE names profile json hints | Which messages does a capture hold?
+lint | CAPTURE? profile-of-lint level allow json list hints | Which sentences of proto.md does a session break, beside what 'check' says?
+make | SCRIPT hints | Makes a capture of the messages of a script";
 
-// A word behind a command.
-#[derive(Clone, Copy)]
-struct Word {
-    name: &'static str,
-    form: Form,
-    help: &'static str,
-    // The words beside which it has no meaning.
-    excludes: &'static [&'static str],
-}
+/// The words behind commands, a line each: its key and its name; what it takes, a flag nothing; what stands for that where it is not
+/// said; the words beside which it has no meaning; and what help says.
+const WORDS: &str = "\
+CAPTURE | CAPTURE | FILE | - | - | The file of the capture text
+CAPTURE? | CAPTURE | FILE? | - | - | The file of the capture text
+ORDER | ORDER | FILE | - | - | The file of the order text
+ORDER? | ORDER | FILE? | - | - | The file of the order text
+SCRIPT | SCRIPT | FILE | - | - | The file of the script
+start | start | START | unknown | - | What the export held at first: unknown, zero, image:PATH or contents:PATH
+profile | profile | PROFILE | base | - | What the session is held to: base, or wide, which also knows metadata contexts, block sizes, extended headers, error chunks of other types and READs that are served by chunk
+profile-of-lint | profile | PROFILE | wide | - | How far the session is read: as a session of the profile base, or of wide
+against | against | IMAGE | - | - | Compares with this file in place of printing
+whole | whole | - | - | - | Only an order that serves each request atomically
+arrival | arrival | - | - | start whole states steps | The order in which the requests came
+states | states | NUMBER | - | ORDER | How many states the search may hold for one range, 5000 where not said
+steps | steps | NUMBER | - | ORDER | How many steps the search may take, 10^9 where not said
+names | names | - | - | - | Tells the messages in words
+hints | hints | - | - | - | Says on standard error what it says on a terminal: why an input could not be read, what is wrong with a line
+level | level | LEVEL | should | - | Down to which level is told: must, should or hint
+allow | allow | RULE | - | - | A rule that may be broken; may stand more than once
+json | json | - | - | - | Prints an object of JSON a line
+list | list | - | - | CAPTURE allow json | Prints the rules: level, who is bound, name, and the lines of proto.md";
 
-// What stands for a word.
-#[derive(Clone, Copy)]
-enum Form {
-    // The name of a file, which may be left out or not.
-    File {
-        is_required: bool,
-    },
-    // An option alone.
-    Flag,
-    // An option and a number.
-    Number,
-    // An option and what is named so in help; which it is where it is not said.
-    Choice {
-        value: &'static str,
-        usual: &'static str,
-    },
-    // An option and what is named so in help.
-    Named {
-        value: &'static str,
-    },
-    // An option and what is named so in help, which may stand more than once.
-    Many {
-        value: &'static str,
-    },
-}
-
-/// What the export held at first, where it is not said.
-pub const USUAL_START: &str = "unknown";
-/// What the session is held to, where it is not said.
-pub const USUAL_PROFILE: &str = "base";
-/// How far a session is read to be judged by `lint`, where it is not said.
-const WIDEST_PROFILE: &str = "wide";
-/// Down to which level `lint` tells, where it is not said.
-pub const USUAL_LEVEL: &str = "should";
-
-const CAPTURE: Word = Word {
-    name: "CAPTURE",
-    form: Form::File { is_required: true },
-    help: "The file of the capture text",
-    excludes: &[],
-};
-
-const ORDER: Word = Word {
-    name: "ORDER",
-    form: Form::File { is_required: true },
-    help: "The file of the order text",
-    excludes: &[],
-};
-
-const ORDER_IF_ANY: Word = Word {
-    name: "ORDER",
-    form: Form::File { is_required: false },
-    help: "The file of the order text",
-    excludes: &[],
-};
-
-const START: Word = Word {
-    name: "start",
-    form: Form::Choice {
-        value: "START",
-        usual: USUAL_START,
-    },
-    help: "What the export held at first: unknown, zero, image:PATH or contents:PATH",
-    excludes: &[],
-};
-
-const AGAINST: Word = Word {
-    name: "against",
-    form: Form::Named { value: "IMAGE" },
-    help: "Compares with this file in place of printing",
-    excludes: &[],
-};
-
-const PROFILE: Word = Word {
-    name: "profile",
-    form: Form::Choice {
-        value: "PROFILE",
-        usual: USUAL_PROFILE,
-    },
-    help: "What the session is held to: base, or wide, which also knows metadata contexts, block sizes, extended headers, error chunks of other types and READs that are served by chunk",
-    excludes: &[],
-};
-
-const WHOLE: Word = Word {
-    name: "whole",
-    form: Form::Flag,
-    help: "Only an order that serves each request atomically",
-    excludes: &[],
-};
-
-const ARRIVAL: Word = Word {
-    name: "arrival",
-    form: Form::Flag,
-    help: "The order in which the requests came",
-    excludes: &["start", "whole", "states", "steps"],
-};
-
-const STATES: Word = Word {
-    name: "states",
-    form: Form::Number,
-    help: "How many states the search may hold for one range, 5000 where not said",
-    excludes: &["ORDER"],
-};
-
-const STEPS: Word = Word {
-    name: "steps",
-    form: Form::Number,
-    help: "How many steps the search may take, 10^9 where not said",
-    excludes: &["ORDER"],
-};
-
-const NAMES: Word = Word {
-    name: "names",
-    form: Form::Flag,
-    help: "Tells the messages in words",
-    excludes: &[],
-};
-
-const HINTS: Word = Word {
-    name: "hints",
-    form: Form::Flag,
-    help: "Says on standard error what it says on a terminal: why an input could not be read, what is wrong with a line",
-    excludes: &[],
-};
-
-const CAPTURE_OR_LIST: Word = Word {
-    name: "CAPTURE",
-    form: Form::File { is_required: false },
-    help: "The file of the capture text",
-    excludes: &[],
-};
-
-const LINT_PROFILE: Word = Word {
-    name: "profile",
-    form: Form::Choice {
-        value: "PROFILE",
-        usual: WIDEST_PROFILE,
-    },
-    help: "How far the session is read: as a session of the profile base, or of wide",
-    excludes: &[],
-};
-
-const LEVEL: Word = Word {
-    name: "level",
-    form: Form::Choice {
-        value: "LEVEL",
-        usual: USUAL_LEVEL,
-    },
-    help: "Down to which level is told: must, should or hint",
-    excludes: &[],
-};
-
-const ALLOW: Word = Word {
-    name: "allow",
-    form: Form::Many { value: "RULE" },
-    help: "A rule that may be broken; may stand more than once",
-    excludes: &[],
-};
-
-const JSON: Word = Word {
-    name: "json",
-    form: Form::Flag,
-    help: "Prints an object of JSON a line",
-    excludes: &[],
-};
-
-const LIST: Word = Word {
-    name: "list",
-    form: Form::Flag,
-    help: "Prints the rules: level, who is bound, name, and the lines of proto.md",
-    excludes: &["CAPTURE", "allow", "json"],
-};
-
-const SCRIPT: Word = Word {
-    name: "SCRIPT",
-    form: Form::File { is_required: true },
-    help: "The file of the script",
-    excludes: &[],
-};
-
-// The commands that judge a session.
-const JUDGING: &[Told] = &[
-    Told {
-        name: "check",
-        about: "Did both ends keep the protocol, and did every read return the right bytes?",
-        help: CHECK_HELP,
-        words: &[CAPTURE, ORDER, START, PROFILE, JSON, HINTS],
-    },
-    Told {
-        name: "explain",
-        about: "Why is the answer no?",
-        help: EXPLAIN_HELP,
-        words: &[
-            CAPTURE,
-            ORDER_IF_ANY,
-            START,
-            PROFILE,
-            STATES,
-            STEPS,
-            JSON,
-            HINTS,
-        ],
-    },
-];
-
-// The commands that say how a session was served, and what it leaves.
-const FINDING: &[Told] = &[
-    Told {
-        name: "order",
-        about: "Finds an order of service that explains a capture",
-        help: ORDER_HELP,
-        words: &[
-            CAPTURE, START, PROFILE, WHOLE, ARRIVAL, STATES, STEPS, JSON, HINTS,
-        ],
-    },
-    Told {
-        name: "contents",
-        about: "What does a session leave on the export?",
-        help: CONTENTS_HELP,
-        words: &[CAPTURE, ORDER_IF_ANY, START, PROFILE, AGAINST, JSON, HINTS],
-    },
-];
-
-// The commands that read a session or write one, and judge nothing of its order.
-const READING: &[Told] = &[
-    Told {
-        name: "show",
-        about: "Which messages does a capture hold?",
-        help: SHOW_HELP,
-        words: &[CAPTURE, NAMES, PROFILE, JSON, HINTS],
-    },
-    Told {
-        name: "lint",
-        about: "Which sentences of proto.md does a session break, beside what 'check' says?",
-        help: LINT_HELP,
-        words: &[
-            CAPTURE_OR_LIST,
-            LINT_PROFILE,
-            LEVEL,
-            ALLOW,
-            JSON,
-            LIST,
-            HINTS,
-        ],
-    },
-    Told {
-        name: "make",
-        about: "Makes a capture of the messages of a script",
-        help: MAKE_HELP,
-        words: &[SCRIPT, HINTS],
-    },
-];
+/// What stands in a line where there is nothing.
+const NONE: &str = "-";
 
 const CHECK_HELP: &str = "\
 Example:
@@ -410,36 +174,12 @@ Exit status:
 
 /// The command line: the program's commands with their words.
 pub fn command<'a>(alloc: Global) -> Result<Command<'a>, AllocError> {
-    let command = Command::new(alloc, "nbdcheck")
+    let mut command = Command::new(alloc, "nbdcheck")
         .about("Checks recorded sessions between an NBD client and an NBD server")
         .version("0.1.0")
         .subcommand_required(true);
-    let command = with_commands(alloc, command, judging())?;
-    let command = with_commands(alloc, command, finding())?;
-    with_commands(alloc, command, reading())
-}
-
-fn judging() -> &'static [Told] {
-    JUDGING
-}
-
-fn finding() -> &'static [Told] {
-    FINDING
-}
-
-fn reading() -> &'static [Told] {
-    READING
-}
-
-// The command with these of its own.
-fn with_commands<'a>(
-    alloc: Global,
-    command: Command<'a>,
-    commands: &'static [Told],
-) -> Result<Command<'a>, AllocError> {
-    let mut command = command;
-    for told in commands {
-        command = with_command(command, with_words(alloc, *told))?;
+    for line in COMMANDS.split("\n") {
+        command = with_command(command, of_line(alloc, line))?;
     }
     Ok(command)
 }
@@ -452,15 +192,44 @@ fn with_command<'a>(
     command.subcommand(other?)
 }
 
-// A command with its words.
-fn with_words<'a>(alloc: Global, told: Told) -> Result<Command<'a>, AllocError> {
-    let mut command = Command::new(alloc, told.name)
-        .about(told.about)
-        .after_help(told.help);
-    for word in told.words {
-        command = with_word(command, argument(alloc, *word))?;
+// The command of a line, with its words.
+fn of_line<'a>(alloc: Global, line: &'static str) -> Result<Command<'a>, AllocError> {
+    let name = column(line, 0);
+    let mut command = Command::new(alloc, name)
+        .about(column(line, 2))
+        .after_help(help_of(name));
+    for key in column(line, 1).split(" ") {
+        command = with_word(command, argument(alloc, word(key)))?;
     }
     Ok(command)
+}
+
+// What a line has in this column, from 0.
+fn column(line: &'static str, number: usize) -> &'static str {
+    line.split(" | ").nth(number).unwrap_or(NONE)
+}
+
+// The line of the word with this key.
+fn word(key: &str) -> &'static str {
+    for line in WORDS.split("\n") {
+        if column(line, 0) == key {
+            return line;
+        }
+    }
+    ""
+}
+
+// What help says of a command behind its words.
+fn help_of(command: &str) -> &'static str {
+    match command {
+        "check" => CHECK_HELP,
+        "explain" => EXPLAIN_HELP,
+        "order" => ORDER_HELP,
+        "contents" => CONTENTS_HELP,
+        "show" => SHOW_HELP,
+        "lint" => LINT_HELP,
+        _ => MAKE_HELP,
+    }
 }
 
 // The command with one more word.
@@ -472,23 +241,42 @@ fn with_word<'a>(
 }
 
 // A word as clap takes it.
-fn argument<'a>(alloc: Global, word: Word) -> Result<Arg<'a>, AllocError> {
-    formed(Arg::new(alloc, word.name).help(word.help), word).conflicts_with_all(word.excludes)
+fn argument<'a>(alloc: Global, word: &'static str) -> Result<Arg<'a>, AllocError> {
+    let name = column(word, 1);
+    let argument = formed(Arg::new(alloc, name), name, column(word, 2)).help(column(word, 5));
+    excluding(with_usual(argument, column(word, 3)), column(word, 4))
 }
 
-// The argument in the form of its word.
-fn formed<'a>(argument: Arg<'a>, word: Word) -> Arg<'a> {
-    match word.form {
-        Form::File { is_required } => argument.required(is_required),
-        Form::Flag => argument.long(word.name).action(ArgAction::SetTrue),
-        Form::Number => named(argument, word.name, "NUMBER"),
-        Form::Choice { value, usual } => named(argument, word.name, value).default_value(usual),
-        Form::Named { value } => named(argument, word.name, value),
-        Form::Many { value } => named(argument, word.name, value).action(ArgAction::Append),
+// The argument with what stands for it where it is not said, if something does.
+fn with_usual<'a>(argument: Arg<'a>, usual: &'static str) -> Arg<'a> {
+    if usual == NONE {
+        argument
+    } else {
+        argument.default_value(usual)
     }
 }
 
-// An option of this name, and what help calls that which stands behind it.
-fn named<'a>(argument: Arg<'a>, name: &'a str, value: &'a str) -> Arg<'a> {
-    argument.long(name).value_name(value)
+// The argument, which has no meaning beside these words, if there are some.
+fn excluding<'a>(argument: Arg<'a>, others: &'static str) -> Result<Arg<'a>, AllocError> {
+    let mut argument = argument;
+    for other in others.split(" ") {
+        if other != NONE {
+            argument = argument.conflicts_with(other)?;
+        }
+    }
+    Ok(argument)
+}
+
+// The argument in the form of what it takes.
+fn formed<'a>(argument: Arg<'a>, name: &'a str, takes: &'static str) -> Arg<'a> {
+    match takes {
+        "FILE" => argument.required(true),
+        "FILE?" => argument,
+        NONE => argument.long(name).action(ArgAction::SetTrue),
+        "RULE" => argument
+            .long(name)
+            .value_name(takes)
+            .action(ArgAction::Append),
+        _ => argument.long(name).value_name(takes),
+    }
 }
