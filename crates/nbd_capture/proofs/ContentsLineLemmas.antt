@@ -1,10 +1,10 @@
 -- The lines of a contents text, taken apart: a line tells one thing, or none.
-use Rattle.nbd_capture.proofs.Common.{◌≡◌, ℕ, ◌^◌, ◌<◌, ◌≤◌, List, [], ◌∷◌, ◌++◌, ◌⊎◌, inl, inr, length, get_or, refl, sym, ap, ◌∙◌, subst, arith, length-append, codes, Result, Ok, Err, IfOk, Option, Some, None, MatchOption, Bool, IsTrue, true, false, not, nat_eq, and_parts, eq-eqb, eqb-true, slice_index, IsNumber, hash, space, IsLaid, up_to, word_text, Held, IsContentsLine, IsValue, Piece, Told, held_from, known, nothing, part, told, unknown, word, zeroes, blank-line, comment-line, piece-line, size-line}
+use Rattle.nbd_capture.proofs.Common.{◌≡◌, ℕ, ◌^◌, ◌<◌, ◌≤◌, List, [], ◌∷◌, ◌++◌, ◌⊎◌, inl, inr, length, get_or, refl, sym, ap, ◌∙◌, subst, arith, length-append, codes, Result, Ok, Err, IfOk, Option, Some, None, MatchOption, Bool, IsTrue, true, false, not, nat_eq, eq-eqb, eqb-true, slice_index, IsNumber, hash, space, IsLaid, up_to, word_text, Held, IsContentsLine, IsValue, Piece, Told, held_from, known, nothing, part, told, unknown, word, zeroes, blank-line, comment-line, piece-line, size-line}
 use Rattle.nbd_export.specs.Extents.{byte_of, size_of}
 use Rattle.nbd_export.specs.declared.extents.Extents.{Extents}
 use Rattle.nbd_capture.specs.declared.contents_line.Word.{Word}
 use Rattle.nbd_capture.specs.declared.contents_line.Word.TheVariants as words
-use Rattle.std.specs.Cmp.Lexicographic.{pointwise}
+use Rattle.std.specs.Cmp.Lexicographic.{pointwise, same_text}
 use Rattle.nbd_capture.proofs.FormLemmas.{IsSilent, same_bytes}
 use Rattle.nbd_export.proofs.HeldLemmas.{length-held_from}
 use Rattle.nbd_capture.proofs.OrderLineLemmas.{IsWord, digits_word, first_words, one_word}
@@ -35,28 +35,20 @@ pub forms : (before : Told) (line : List ℕ) (after : Told) → IsContentsLine 
 forms before line after (blank-line _) = inl (inl refl, refl)
 forms before line after (comment-line _ anything) = inl (inr (anything, refl), refl)
 forms before line after (size-line digits n number fits) = inr (inl (record { digits = digits; n = n; number = number; fits = fits; start = refl; whole = refl; all = refl }))
-forms before line after (piece-line n bytes p offset value number is_value fits) =
-    inr (inr (record { n = n; bytes = bytes; p = p; offset = offset; value = value; number = number; is_value = is_value; fits = fits; start = refl; whole = refl; all = refl }))
+forms before line after (piece-line n bytes p offset value number is_value fits) = grind arith
 
 -- the first byte tells the silent lines from the others
 first_silent : (line : List ℕ) → IsSilent line → get_or line 0 0 ≤ 35
-first_silent line (inl none) = rw none (omega arith)
-first_silent line (inr remark) = rw remark.1 (omega arith)
+first_silent line h = grind arith
 
 first_word : (p : Piece) (rest : List ℕ) → 35 < get_or (word p ++ rest) 0 0
-first_word (unknown n) rest = omega arith
-first_word (zeroes n) rest = omega arith
-first_word (known bytes) rest = omega arith
+first_word p rest = grind arith
 
 pub silent_sizes : (before : Told) (line : List ℕ) (after : Told) → IsSilent line → Sizes before line after → ⊥
 silent_sizes before line after s z = let low = first_silent line s in let high : get_or line 0 0 ≡ 115 = ap (λ l. get_or l 0 0) z.whole in omega arith
 
 pub silent_pieces : (before : Told) (line : List ℕ) (after : Told) → IsSilent line → Pieces before line after → ⊥
-silent_pieces before line after s z =
-    let low = first_silent line s in
-    let high = first_word z.p (space ∷ (z.offset ++ space ∷ z.value)) in
-    let same : get_or line 0 0 ≡ get_or (word z.p ++ space ∷ (z.offset ++ space ∷ z.value)) 0 0 = ap (λ l. get_or l 0 0) z.whole in
-    omega arith
+silent_pieces before line after s z = grind (arith, first_silent, first_word)
 
 -- what a silent line is behind one beginning it is behind each
 pub silent_there : (before : Told) (line : List ℕ) → IsSilent line → IsContentsLine before line before
@@ -64,17 +56,11 @@ silent_there before line (inl none) = subst (λ l. IsContentsLine before l befor
 silent_there before line (inr remark) = subst (λ l. IsContentsLine before l before) (sym remark.1) (comment-line before remark.0)
 
 pub is_silent : (line : List ℕ) → IsContentsLine nothing line nothing → IsSilent line
-is_silent line f = elim (forms nothing line nothing f) [
-  | inl s ↦ s.0
-  | inr (inl z) ↦ absurd (cc z.all)
-  | inr (inr z) ↦ absurd (cc z.start)
-]
+is_silent line f = grind (arith, forms)
 
 -- the words of the lines have no space
 pub is_word : (p : Piece) → IsWord (word p)
-is_word (unknown n) = (omega arith, (omega arith, (omega arith, (omega arith, (omega arith, (omega arith, (omega arith, tt)))))))
-is_word (zeroes n) = (omega arith, (omega arith, (omega arith, (omega arith, tt))))
-is_word (known bytes) = (omega arith, (omega arith, (omega arith, (omega arith, tt))))
+is_word p = grind arith
 
 -- a word is that of one kind of piece
 abbrev pub IsOne : Piece → Piece → Type 0
@@ -87,73 +73,40 @@ other_word : {P : Type 0} (m n : ℕ) (a b : List ℕ) → m ∷ a ≡ n ∷ b �
 other_word m n a b e ne = absurd (ne (cc e))
 
 pub one_kind : (p q : Piece) → word p ≡ word q → IsOne p q
-one_kind (unknown m) (unknown n) e = tt
-one_kind (unknown m) (zeroes n) e = other_word _ _ _ _ e (λ h. omega arith)
-one_kind (unknown m) (known b) e = other_word _ _ _ _ e (λ h. omega arith)
-one_kind (zeroes m) (unknown n) e = other_word _ _ _ _ e (λ h. omega arith)
-one_kind (zeroes m) (zeroes n) e = tt
-one_kind (zeroes m) (known b) e = other_word _ _ _ _ e (λ h. omega arith)
-one_kind (known a) (unknown n) e = other_word _ _ _ _ e (λ h. omega arith)
-one_kind (known a) (zeroes n) e = other_word _ _ _ _ e (λ h. omega arith)
-one_kind (known a) (known b) e = tt
+one_kind p q e = grind (arith, other_word)
 
 -- a value is that of one piece of a kind
 pub one_value : (p q : Piece) (value : List ℕ) → IsOne p q → IsValue p value → IsValue q value → p ≡ q
-one_value (unknown m) (unknown n) value k a b = ap unknown (a.0.3 ∙ sym b.0.3)
-one_value (unknown m) (zeroes n) value k a b = absurd k
-one_value (unknown m) (known d) value k a b = absurd k
-one_value (zeroes m) (unknown n) value k a b = absurd k
-one_value (zeroes m) (zeroes n) value k a b = ap zeroes (a.0.3 ∙ sym b.0.3)
-one_value (zeroes m) (known d) value k a b = absurd k
-one_value (known c) (unknown n) value k a b = absurd k
-one_value (known c) (zeroes n) value k a b = absurd k
-one_value (known c) (known d) value k a b = ap known (same_bytes value value c d refl a.0 b.0)
+one_value p q value k a b = grind (arith, same_bytes)
 
 -- the words of a line are its own
 pub one_split : (v w : List ℕ) (o q x y : List ℕ) → IsWord v → IsWord w → IsWord o → IsWord q
     → v ++ space ∷ (o ++ space ∷ x) ≡ w ++ space ∷ (q ++ space ∷ y) → (v ≡ w) × (o ≡ q) × (x ≡ y)
-one_split v w o q x y uv uw uo uq e =
-    let first = first_words v w (o ++ space ∷ x) (q ++ space ∷ y) uv uw e in
-    let second = first_words o q x y uo uq first.1 in
-    (first.0, second.0, second.1)
+one_split v w o q x y uv uw uo uq e = grind (arith, first_words)
 
 pub number_word : (digits : List ℕ) (n : ℕ) → IsNumber digits n → IsWord digits
 number_word digits n h = digits_word digits h.0.1
 
+same_sizes : (before : Told) (line : List ℕ) (a b : Told) → Sizes before line a → Sizes before line b → a ≡ b
+same_sizes before line a b y z = let digits : y.digits ≡ z.digits = cc (y.whole, z.whole) in grind (arith, digits)
+
+same_pieces : (before : Told) (line : List ℕ) (a b : Told) → Pieces before line a → Pieces before line b → a ≡ b
+same_pieces before line a b y z =
+    let w = one_split (word y.p) (word z.p) y.offset z.offset y.value z.value (is_word y.p) (is_word z.p) (number_word y.offset _ y.number) (number_word z.offset _ z.number) (sym y.whole ∙ z.whole) in
+    let p : y.p ≡ z.p = one_value y.p z.p z.value (one_kind y.p z.p w.0) (subst (IsValue y.p) w.2 y.is_value) z.is_value in
+    grind (arith, p)
+
 -- a line tells one thing behind others
 pub one_line : (before : Told) (line : List ℕ) (a b : Told) → IsContentsLine before line a → IsContentsLine before line b → a ≡ b
 one_line before line a b fa fb = elim (forms before line a fa) [
-  | inl s ↦ elim (forms before line b fb) [
-    | inl t ↦ s.1 ∙ sym t.1
-    | inr (inl z) ↦ absurd (silent_sizes before line b s.0 z)
-    | inr (inr z) ↦ absurd (silent_pieces before line b s.0 z)
-  ]
-  | inr (inl z) ↦ elim (forms before line b fb) [
-    | inl t ↦ absurd (silent_sizes before line a t.0 z)
-    | inr (inl y) ↦ (let digits : z.digits ≡ y.digits = cc (z.whole, y.whole) in
-        let n : z.n ≡ y.n = (subst (λ d. IsNumber d z.n) digits z.number).3 ∙ sym y.number.3 in
-        z.all ∙ ap (λ m. part m []) n ∙ sym y.all)
-    | inr (inr y) ↦ absurd (let h = z.start in let g = y.start in cc)
-  ]
-  | inr (inr z) ↦ elim (forms before line b fb) [
-    | inl t ↦ absurd (silent_pieces before line a t.0 z)
-    | inr (inl y) ↦ absurd (let h = z.start in let g = y.start in cc)
-    | inr (inr y) ↦ (let w = one_split (word z.p) (word y.p) z.offset y.offset z.value y.value (is_word z.p) (is_word y.p) (number_word z.offset _ z.number) (number_word y.offset _ y.number) (sym z.whole ∙ y.whole) in
-        let p : z.p ≡ y.p = one_value z.p y.p y.value (one_kind z.p y.p w.0) (subst (IsValue z.p) w.2 z.is_value) y.is_value in
-        let s : part z.n z.bytes ≡ part y.n y.bytes = sym z.start ∙ y.start in
-        let n : z.n ≡ y.n = cc in
-        let bytes : z.bytes ≡ y.bytes = cc in
-        z.all ∙ ap (λ m. part m (z.bytes ++ told z.p)) n ∙ ap (λ l. part y.n (l ++ told z.p)) bytes ∙ ap (λ q. part y.n (y.bytes ++ told q)) p ∙ sym y.all)
-  ]
+  | inl s ↦ grind (arith, forms before line b fb, silent_sizes, silent_pieces)
+  | inr (inl z) ↦ grind (arith, forms before line b fb, silent_sizes, same_sizes before line a b z)
+  | inr (inr z) ↦ grind (arith, forms before line b fb, silent_pieces, same_pieces before line a b z)
 ]
 
 -- a line with a piece's word is not silent
 pub silent_word : (line : List ℕ) (p : Piece) (rest : List ℕ) → IsSilent line → line ≡ word p ++ rest → ⊥
-silent_word line p rest s e =
-    let low = first_silent line s in
-    let high = first_word p rest in
-    let same : get_or line 0 0 ≡ get_or (word p ++ rest) 0 0 = ap (λ l. get_or l 0 0) e in
-    omega arith
+silent_word line p rest s e = grind (arith, first_silent, first_word)
 
 -- the test of a line's first byte says whether it is silent
 pub silent_nil : (line : List ℕ) → length line < 1 → (IsTrue true → IsContentsLine nothing line nothing) × (IsContentsLine nothing line nothing → IsTrue true)
@@ -177,26 +130,16 @@ pub size_digits : (line w digits : List ℕ) (n : ℕ) → IsWord w → line ≡
     → (w ≡ codes "size") × IsNumber digits n × (n < 2 ^ 63)
 size_digits line w digits n u e f = elim (forms nothing line (part n []) f) [
   | inl s ↦ absurd (cc s.1)
-  | inr (inl z) ↦ (let both = first_words (codes "size") w z.digits digits (omega arith, (omega arith, (omega arith, (omega arith, tt)))) u (sym z.whole ∙ e) in
-      let same : n ≡ z.n = cc z.all in
-      (sym both.0, subst (λ m. IsNumber digits m) (sym same) (subst (λ d. IsNumber d z.n) both.1 z.number), subst (λ m. m < 2 ^ 63) (sym same) z.fits))
+  | inr (inl z) ↦ (let both = first_words (codes "size") w z.digits digits (omega arith, (omega arith, (omega arith, (omega arith, tt)))) u (sym z.whole ∙ e) in grind (arith, both))
   | inr (inr z) ↦ absurd (cc z.start)
 ]
 
 pub no_size : (line : List ℕ) (n : ℕ) → IsWord line → IsContentsLine nothing line (part n []) → ⊥
-no_size line n u f = elim (forms nothing line (part n []) f) [
-  | inl s ↦ cc s.1
-  | inr (inl z) ↦ one_word (codes "size") line z.digits u z.whole
-  | inr (inr z) ↦ absurd (cc z.start)
-]
+no_size line n u f = grind (arith, forms, one_word)
 
 -- a line that is neither silent nor that of a size is none at the beginning
 pub no_beginning : (line : List ℕ) → (IsContentsLine nothing line nothing → ⊥) → ((n : ℕ) → IsContentsLine nothing line (part n []) → ⊥) → (more : Told) → IsContentsLine nothing line more → ⊥
-no_beginning line loud none more f = elim (forms nothing line more f) [
-  | inl s ↦ loud (silent_there nothing line s.0)
-  | inr (inl z) ↦ none z.n (subst (λ m. IsContentsLine nothing line m) z.all f)
-  | inr (inr z) ↦ absurd (cc z.start)
-]
+no_beginning line loud none more f = grind (arith, forms, silent_there)
 
 -- ---- a line that tells of bytes
 
@@ -237,19 +180,13 @@ taken shape w kind old new at line offset value (Some end) size number whole lai
     (laid.2, subst (λ l. IsContentsLine (up_to old at) l (up_to new end)) line_is (subst (IsContentsLine (up_to old at) (word (shape x) ++ space ∷ (offset ++ space ∷ value))) after form))
 
 zeroes_only : (p : Piece) → word p ≡ codes "zero" → (n : ℕ) × (p ≡ zeroes n)
-zeroes_only (unknown n) e = other_word _ _ _ _ e (λ h. omega arith)
-zeroes_only (zeroes n) e = (n, refl)
-zeroes_only (known bytes) e = other_word _ _ _ _ e (λ h. omega arith)
+zeroes_only p e = grind (arith, other_word)
 
 unknown_only : (p : Piece) → word p ≡ codes "unknown" → (n : ℕ) × (p ≡ unknown n)
-unknown_only (unknown n) e = (n, refl)
-unknown_only (zeroes n) e = other_word _ _ _ _ e (λ h. omega arith)
-unknown_only (known bytes) e = other_word _ _ _ _ e (λ h. omega arith)
+unknown_only p e = grind (arith, other_word)
 
 known_only : (p : Piece) → word p ≡ codes "data" → (bytes : List ℕ) × (p ≡ known bytes)
-known_only (unknown n) e = other_word _ _ _ _ e (λ h. omega arith)
-known_only (zeroes n) e = other_word _ _ _ _ e (λ h. omega arith)
-known_only (known bytes) e = (bytes, refl)
+known_only p e = grind (arith, other_word)
 
 pub zeroes_kind : Kind zeroes (codes "zero")
 zeroes_kind = record { sample = zeroes 0; is_word = refl; has = λ n. refl; only = zeroes_only }
@@ -264,13 +201,7 @@ known_kind = record { sample = known []; is_word = refl; has = λ bytes. refl; o
 pub no_piece : (old : Extents) (at : ℕ) (line : List ℕ) → (IsContentsLine nothing line nothing → ⊥)
     → ((p : Piece) (offset value : List ℕ) → IsNumber offset at → line ≡ word p ++ space ∷ (offset ++ space ∷ value) → ⊥)
     → (more : Told) → IsContentsLine (up_to old at) line more → ⊥
-no_piece old at line loud none more f = elim (forms (up_to old at) line more f) [
-  | inl s ↦ loud (silent_there nothing line s.0)
-  | inr (inl z) ↦ absurd (cc z.start)
-  | inr (inr z) ↦ (let bytes : held_from (byte_of old) 0 at ≡ z.bytes = cc z.start in
-      let begun : length z.bytes ≡ at = ap length (sym bytes) ∙ length-held_from (byte_of old) 0 at in
-      none z.p z.offset z.value (subst (IsNumber z.offset) begun z.number) z.whole)
-]
+no_piece old at line loud none more f = grind (arith, forms, silent_there, length-held_from)
 
 -- a piece's line, by its words
 pub piece_words : (line first rest offset value : List ℕ) (at : ℕ) → IsWord first → line ≡ first ++ space ∷ rest → IsWord offset → rest ≡ offset ++ space ∷ value
@@ -281,9 +212,7 @@ piece_words line first rest offset value at uf e uo g p o v number whole =
 
 pub no_second : (line first rest : List ℕ) (at : ℕ) → IsWord first → line ≡ first ++ space ∷ rest → IsWord rest
     → (p : Piece) (o v : List ℕ) → IsNumber o at → line ≡ word p ++ space ∷ (o ++ space ∷ v) → ⊥
-no_second line first rest at uf e ur p o v number whole =
-    let parts = first_words first (word p) rest (o ++ space ∷ v) uf (is_word p) (sym e ∙ whole) in
-    one_word o rest v ur parts.1
+no_second line first rest at uf e ur p o v number whole = grind (arith, first_words, is_word, one_word)
 
 -- the words of the program are those of pieces
 pub word_of : (p : Piece) → (w : Word) × (word p ≡ word_text w)
@@ -292,32 +221,15 @@ word_of (zeroes n) = (words.Zero, refl)
 word_of (known bytes) = (words.Data, refl)
 
 -- what a comparison of two texts says
-pointwise-same : (a b : List ℕ) → pointwise nat_eq a b ≡ true → a ≡ b
-pointwise-same [] [] h = refl
-pointwise-same [] (b ∷ bs) h = cc h
-pointwise-same (a ∷ prefix) [] h = cc h
-pointwise-same (a ∷ prefix) (b ∷ bs) h =
-    let p = and_parts (nat_eq a b) (pointwise nat_eq prefix bs) h in
-    let first : a ≡ b = eqb-true a b p.0 in
-    let more : prefix ≡ bs = pointwise-same prefix bs p.1 in
-    cc
-
-pointwise-refl : (a : List ℕ) → pointwise nat_eq a a ≡ true
+pub pointwise-refl : (a : List ℕ) → pointwise nat_eq a a ≡ true
 pointwise-refl [] = refl
 pointwise-refl (a ∷ prefix) = rw (eq-eqb a a refl) (pointwise-refl prefix)
 
-not_false : (b : Bool) → false ≡ not b → b ≡ true
-not_false true e = refl
-not_false false e = cc e
-
 pub same_bytes-ne : (a b : List ℕ) → true ≡ not (pointwise nat_eq a b) → a ≡ b → ⊥
-same_bytes-ne a b e same =
-    let h : pointwise nat_eq a b ≡ true = ap (λ l. pointwise nat_eq l b) same ∙ pointwise-refl b in
-    let f : true ≡ not true = e ∙ ap not h in
-    cc f
+same_bytes-ne a b e same = grind (arith, nat_eq, pointwise-refl)
 
 pub same_bytes-eq : (a b : List ℕ) → false ≡ not (pointwise nat_eq a b) → a ≡ b
-same_bytes-eq a b e = pointwise-same a b (not_false (pointwise nat_eq a b) e)
+same_bytes-eq a b e = grind (arith, same_text, nat_eq)
 
 -- the same where memory may be refused
 pub taken_or_refused : {X E : Type 0} (shape : X → Piece) (w : List ℕ) → Kind shape w → (old new : Extents) (at : ℕ) (line offset value : List ℕ) (r : Result (Option ℕ) E)
@@ -328,9 +240,7 @@ taken_or_refused shape w kind old new at line offset value (Err e) size number w
 
 -- a line that is not silent, by the test
 pub loud : (b : Bool) (line : List ℕ) → b ≡ false → (IsTrue b → IsContentsLine nothing line nothing) × (IsContentsLine nothing line nothing → IsTrue b) → IsContentsLine nothing line nothing → ⊥
-loud true line e h f = cc e
-loud false line e h f = cc (h.1 f)
+loud b line e h f = grind arith
 
 pub silent : (b : Bool) (line : List ℕ) (before : Told) → b ≡ true → (IsTrue b → IsContentsLine nothing line nothing) × (IsContentsLine nothing line nothing → IsTrue b) → IsContentsLine before line before
-silent true line before e h = silent_there before line (is_silent line (h.0 refl))
-silent false line before e h = cc e
+silent b line before e h = grind (arith, silent_there, is_silent)

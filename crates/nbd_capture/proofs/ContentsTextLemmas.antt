@@ -1,18 +1,13 @@
 -- Contents texts: one reading at most, none where a line is bad, and how far a text was read.
-use Rattle.nbd_capture.proofs.Common.{◌≡◌, ℕ, ◌+◌, ◌≤◌, List, [], ◌∷◌, ◌++◌, ◌⊎◌, inl, inr, length, refl, sym, ap, ◌∙◌, subst, arith, append_assoc, append-nil, length-append, true, false, eqb-true, ◌==◌, IsUnbroken, line_feed, lines_ended, AreContentsLines, Held, IsContentsLine, IsContentsText, IsFirstBadContentsLine, IsContentsFault, Told, next-line, no-line, nothing, part, Seen, held_from, up_to}
+use Rattle.nbd_capture.proofs.Common.{◌≡◌, ℕ, ◌+◌, ◌≤◌, List, [], ◌∷◌, ◌++◌, ◌⊎◌, inl, inr, length, refl, sym, ap, ◌∙◌, subst, arith, append_assoc, append-nil, length-append, true, false, eqb-true, ◌==◌, IsUnbroken, line_feed, lines_ended, AreContentsLines, Held, IsContentsLine, IsContentsText, IsFirstBadContentsLine, IsContentsFault, Told, next-line, no-line, nothing, part, Seen, up_to}
 use Rattle.nbd_capture.specs.declared.contents.ContentsFault.{ContentsFault}
 use Rattle.nbd_capture.specs.declared.contents.ContentsFault.TheVariants as contents_faults
-use Rattle.nbd_capture.proofs.ReadingLemmas.{first_lines}
+use Rattle.nbd_capture.proofs.ReadingLemmas.{broken, first_lines, not_empty}
 use Rattle.nbd_capture.proofs.ReadingStepLemmas.{ended-append, none_ended}
 use Rattle.nbd_capture.proofs.ContentsLineLemmas.{one_line}
 use Rattle.nbd_export.proofs.HeldLemmas.{length-held_from}
-use Rattle.nbd_export.specs.Extents.{byte_of, size_of}
+use Rattle.nbd_export.specs.Extents.{size_of}
 use Rattle.nbd_export.specs.declared.extents.Extents.{Extents}
-
--- no text is empty and has a line
-not_empty : (a x : List ℕ) → [] ≡ a ++ line_feed ∷ x → ⊥
-not_empty [] x e = cc
-not_empty (a ∷ prefix) x e = cc
 
 -- the first of some lines, and the others
 pub record Next (before : Told) (text : List ℕ) (after : Told) : Type 0 where
@@ -25,9 +20,7 @@ pub record Next (before : Told) (text : List ℕ) (after : Told) : Type 0 where
   pub others : AreContentsLines with_it rest after
 
 pub parts : (before : Told) (text : List ℕ) (after : Told) → AreContentsLines before text after → ((text ≡ []) × (after ≡ before)) ⊎ Next before text after
-parts before text after (no-line _) = inl (refl, refl)
-parts before text after (next-line _ bytes with_it rest _ u f r) =
-    inr (record { bytes = bytes; with_it = with_it; rest = rest; unbroken = u; whole = refl; first = f; others = r })
+parts before text after h = grind arith
 
 -- a line more
 pub one_more : (before : Told) (text : List ℕ) (mid : Told) (bytes : List ℕ) (after : Told)
@@ -108,11 +101,7 @@ same_end before good s bad other t worse (next-line _ bytes with_it rest _ u f m
 
 -- a text has one first bad line
 pub one_first_bad : (text : List ℕ) (m n : ℕ) → IsFirstBadContentsLine text m → IsFirstBadContentsLine text n → m ≡ n
-one_first_bad text m n a b =
-    let same = same_end nothing a.good a.so_far a.bad b.good b.so_far b.bad a.lines a.ends b.lines b.ends (sym a.whole ∙ b.whole) in
-    let x = a.number in
-    let y = b.number in
-    omega (arith, same, x, y)
+one_first_bad text m n a b = grind (arith, same_end)
 
 -- ---- how far a text was read
 
@@ -121,64 +110,25 @@ none_seen text = record { good = []; whole = refl; lines = no-line nothing; coun
 
 pub line_seen : (text rest bytes behind : List ℕ) (number : ℕ) (so_far more : Told) → Seen text rest number so_far
     → IsUnbroken bytes → rest ≡ bytes ++ line_feed ∷ behind → IsContentsLine so_far bytes more → Seen text behind (number + 1) more
-line_seen text rest bytes behind number so_far more past u whole f = record {
-  good = past.good ++ (bytes ++ line_feed ∷ []);
-  whole = past.whole ∙ ap (λ l. past.good ++ l) (whole ∙ sym (append_assoc bytes (line_feed ∷ []) behind)) ∙ sym (append_assoc past.good (bytes ++ line_feed ∷ []) behind);
-  lines = one_more nothing past.good so_far bytes more past.lines u f;
-  count =
-      let both = ended-append past.good (bytes ++ line_feed ∷ []) in
-      let one = ended_line bytes [] u in
-      let c = past.count in
-      omega (arith, both, one, c);
-}
+line_seen text rest bytes behind number so_far more past u whole f = grind (arith, append_assoc, one_more, ended-append, ended_line)
 
 -- a line that is none there is the first bad one
 pub bad_line : (text rest bytes behind : List ℕ) (number : ℕ) (so_far : Told) → Seen text rest number so_far
     → IsUnbroken bytes → rest ≡ bytes ++ line_feed ∷ behind → ((more : Told) → IsContentsLine so_far bytes more → ⊥) → IsFirstBadContentsLine text (number + 1)
-bad_line text rest bytes behind number so_far past u whole none = record {
-  good = past.good;
-  bad = rest;
-  so_far = so_far;
-  whole = past.whole;
-  lines = past.lines;
-  number = ap (λ n. n + 1) past.count;
-  ends = λ other after more v e f.
-      let first = first_lines other bytes after behind v u (sym e ∙ whole) in
-      none more (subst (λ l. IsContentsLine so_far l more) first.0 f);
-  lacks = λ held e is. not_empty bytes behind (sym e ∙ whole);
-}
-
--- no LF is among bytes that have none
-broken : (a b x : List ℕ) → IsUnbroken b → b ≡ a ++ line_feed ∷ x → ⊥
-broken [] [] x u e = cc
-broken [] (b ∷ bs) x u e = u.0 cc
-broken (a ∷ prefix) [] x u e = cc
-broken (a ∷ prefix) (b ∷ bs) x u e = let tails : bs ≡ prefix ++ line_feed ∷ x = cc in broken prefix bs x u.1 tails
+bad_line text rest bytes behind number so_far past u whole none = grind (arith, first_lines, not_empty)
 
 -- bytes with no LF, or none where more has to be told, are the first bad line
 pub short_text : (text rest : List ℕ) (number : ℕ) (so_far : Told) → Seen text rest number so_far → IsUnbroken rest
     → ((bytes : Held) → rest ≡ [] → so_far ≡ part (length bytes) bytes → ⊥) → IsFirstBadContentsLine text (number + 1)
-short_text text rest number so_far past u none = record {
-  good = past.good;
-  bad = rest;
-  so_far = so_far;
-  whole = past.whole;
-  lines = past.lines;
-  number = ap (λ n. n + 1) past.count;
-  ends = λ other after more v e f. broken other rest after u e;
-  lacks = none;
-}
+short_text text rest number so_far past u none = grind (arith, broken)
 
 -- a text that was read to its end
 pub whole_text : (text rest : List ℕ) (number : ℕ) (bytes : Held) (n : ℕ) → Seen text rest number (part n bytes) → rest ≡ [] → n ≡ length bytes → IsContentsText text bytes
-whole_text text rest number bytes n past none is =
-    let all : text ≡ past.good = past.whole ∙ ap (λ l. past.good ++ l) none ∙ append-nil past.good in
-    subst (λ t. AreContentsLines nothing t (part (length bytes) bytes)) (sym all) (subst (λ m. AreContentsLines nothing past.good (part m bytes)) is past.lines)
+whole_text text rest number bytes n past none is = grind (arith, append-nil)
 
 -- where the text is one, the only fault is out of memory
 pub only_memory : (text : List ℕ) (fault : ContentsFault) → IsContentsFault text fault → (bytes : Held) → IsContentsText text bytes → fault ≡ contents_faults.Memory
-only_memory text (contents_faults.Line n) is bytes read = absurd (no_reading text n bytes is read)
-only_memory text contents_faults.Memory is bytes read = refl
+only_memory text fault is bytes read = grind (arith, no_reading)
 
 -- a line makes what is left shorter
 pub shorter : (rest bytes behind : List ℕ) → rest ≡ bytes ++ line_feed ∷ behind → length behind + 1 ≤ length rest
@@ -194,7 +144,4 @@ some_rest rest e none = let h : false ≡ (length {A = ℕ} [] == 0) = e ∙ ap 
 
 -- where all is told, the bytes go up to the size
 pub told_all : (contents : Extents) (at : ℕ) (bytes : Held) → up_to contents at ≡ part (length bytes) bytes → at ≡ size_of contents
-told_all contents at bytes is =
-    let size : size_of contents ≡ length bytes = cc is in
-    let same : held_from (byte_of contents) 0 at ≡ bytes = cc is in
-    sym (length-held_from (byte_of contents) 0 at) ∙ ap length same ∙ sym size
+told_all contents at bytes is = grind (arith, length-held_from)

@@ -1,5 +1,5 @@
 -- Digits and the bytes that they spell, next to what `hex` says of its calls.
-use Rattle.nbd_capture.proofs.Common.{◌≡◌, ℕ, zero, suc, ◌+◌, ◌*◌, ◌%◌, ◌<◌, ◌≤◌, ◌==◌, Bool, true, ◌&&◌, nat_lt, ◌⊎◌, inl, inr, List, [], ◌∷◌, length, slice_index, Some, None, Result, Ok, Err, refl, sym, ap, ◌∙◌, arith, subst, and_parts, cases_lt, nat_tests, if◌then◌else◌, decode_of, decode_pairs, digit_or_error, hex_digit_value, lower_digits, pair_value, upper_digits, value_at, ◌>>=◌, FromHexError, cons_byte, decode_pairs-ok_pair, IsDigits-lower_digits, IsDigits-upper_digits, decode_of-even, decode_of-ok, IsDigit, AreDigits, none, byte}
+use Rattle.nbd_capture.proofs.Common.{◌≡◌, ℕ, zero, suc, ◌+◌, ◌*◌, ◌%◌, ◌<◌, ◌≤◌, ◌==◌, Bool, true, ◌&&◌, nat_lt, ◌⊎◌, inl, inr, List, [], ◌∷◌, length, slice_index, Some, Result, Ok, refl, sym, ap, ◌∙◌, arith, subst, and_parts, cases_lt, nat_tests, if◌then◌else◌, decode_of, decode_pairs, digit_or_error, hex_digit_value, lower_digits, pair_value, upper_digits, value_at, ◌>>=◌, FromHexError, cons_byte, decode_pairs-ok_pair, decode_of-even, decode_of-ok, IsDigit, AreDigits, none, byte}
 use Rattle.std.proofs.Common.{Option}
 
 -- what stands at a place of both tables
@@ -12,12 +12,7 @@ right_below (suc n) = right_at n && right_below n
 
 right_below-at : (n k : ℕ) → right_below n ≡ true → k < n → right_at k ≡ true
 right_below-at zero k h lt = absurd (omega arith)
-right_below-at (suc n) k h lt =
-    let halves = and_parts (right_at n) (right_below n) h in
-    elim (cases_lt k n) [
-      | inl below ↦ right_below-at n k halves.1 below
-      | inr top ↦ let e : k ≡ n = omega arith in rw e halves.0
-    ]
+right_below-at (suc n) k h lt = grind (arith, and_parts, cases_lt, right_below-at n k)
 
 right : (v : ℕ) → v < 16 → right_at v ≡ true
 right v fits = right_below-at 16 v refl fits
@@ -50,11 +45,7 @@ digit_of_value c v e =
 
 -- a digit is read by hex
 pub value_of_digit : (c v : ℕ) → IsDigit c v → hex_digit_value c ≡ Some v
-value_of_digit c v d =
-    elim d.1 [
-      | inl lower ↦ ap hex_digit_value lower ∙ IsDigits-lower_digits v d.0
-      | inr upper ↦ ap hex_digit_value upper ∙ IsDigits-upper_digits v d.0
-    ]
+value_of_digit c v d = grind arith
 
 -- digits are pairs
 pub even : (digits bytes : List ℕ) → AreDigits digits bytes → length digits % 2 ≡ 0
@@ -77,13 +68,11 @@ decodes digits bytes d = decode_of-even digits (even digits bytes d) ∙ decodes
 -- what an `Ok` after `>>=` shows
 bind_ok : {A B : Type 0} (r : Result A FromHexError) (f : A → Result B FromHexError) (y : B)
     → (r >>= f) ≡ Ok y → (x : A) × (r ≡ Ok x) × (f x ≡ Ok y)
-bind_ok (Ok x) f y h = (x, refl, h)
-bind_ok (Err e) f y h = cc h
+bind_ok r f y h = grind arith
 
 -- the value of a digit that was read
 read_value : (c i : ℕ) (o : Option ℕ) (v : ℕ) → digit_or_error c i o ≡ Ok v → o ≡ Some v
-read_value c i (Some w) v h = cc
-read_value c i None v h = cc h
+read_value c i o v h = grind arith
 
 digit_read : (c i v : ℕ) → value_at c i ≡ Ok v → IsDigit c v
 digit_read c i v h = digit_of_value c v (read_value c i (hex_digit_value c) v h)
@@ -105,14 +94,8 @@ spelled_pairs i (a ∷ b ∷ rest) bytes h =
 
 -- what decodes is digits
 pub spelled : (digits bytes : List ℕ) → decode_of digits ≡ Ok bytes → AreDigits digits bytes
-spelled digits bytes h =
-    let ok = decode_of-ok digits bytes h in
-    spelled_pairs 0 digits bytes (sym (decode_of-even digits ok.0) ∙ h)
+spelled digits bytes h = grind (arith, decode_of-ok, spelled_pairs, decode_of-even)
 
 -- the digits stand between `0` and `f`
 pub lower_below : (v : ℕ) → v < 16 → (48 ≤ slice_index lower_digits v) × (slice_index lower_digits v ≤ 102)
-lower_below v fits =
-    elim (cases_lt v 10) [
-      | inl small ↦ let e = lower_small v small in (omega (arith, e), omega (arith, e))
-      | inr large ↦ let e = lower_large v large fits in (omega (arith, e), omega (arith, e))
-    ]
+lower_below v fits = grind (arith, cases_lt, lower_small, lower_large)

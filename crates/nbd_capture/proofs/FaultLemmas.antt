@@ -1,5 +1,5 @@
 -- The faults of one line, as faults of the whole text.
-use Rattle.nbd_capture.proofs.Common.{◌≡◌, ℕ, List, refl, Result, Ok, Err, IfErr, IfOk, MatchResult, Entry, OrderTextFault, IsOrderLine, IsOrderText, IsOrderTextFault}
+use Rattle.nbd_capture.proofs.Common.{arith, ◌≡◌, ℕ, List, Result, IfErr, IfOk, MatchResult, Entry, OrderTextFault, IsOrderText, IsOrderTextFault}
 use Rattle.nbd_capture.specs.declared.order.OrderTextFault.TheVariants as order_faults
 use Rattle.nbd_capture.proofs.OrderLineLemmas.{one_entry}
 use Rattle.nbd_capture.proofs.ReadingLemmas.{no_reading, one_reading}
@@ -7,6 +7,4 @@ use Rattle.nbd_capture.proofs.ReadingLemmas.{no_reading, one_reading}
 -- where the text has a reading as an order, what was found is that, or out of memory
 pub only_entries : {T : Type 0} (items : T → List Entry) (text : List ℕ) (r : Result T OrderTextFault) → IfOk r (λ found. IsOrderText text (items found))
     → IfErr r (IsOrderTextFault text) → (entries : List Entry) → IsOrderText text entries → MatchResult r (λ found. items found ≡ entries) (λ e. e ≡ order_faults.Memory)
-only_entries items text (Ok found) is fault entries read = one_reading IsOrderLine one_entry text (items found) entries is read
-only_entries items text (Err (order_faults.Line n)) is fault entries read = absurd (no_reading IsOrderLine text n entries fault read)
-only_entries items text (Err order_faults.Memory) is fault entries read = refl
+only_entries items text r is fault entries read = grind (arith, one_reading, one_entry, no_reading)

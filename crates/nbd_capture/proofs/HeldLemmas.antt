@@ -7,17 +7,6 @@ use Rattle.nbd_export.specs.Ranges.{AreSameBelow, overlay}
 use Rattle.std.proofs.lemmas.List.{get_or-map, get_or-replicate, length-map, length-replicate}
 use Rattle.std.proofs.lemmas.Option.{slice_get-get_or}
 
--- bytes that were laid behind the first ones
-pub laid_behind : (new old f : ℕ → Option ℕ) (size at : ℕ) (said : Held) → at + length said ≤ size
-    → AreSameBelow size new (overlay at (length said) f old) → ((i : ℕ) → i < length said → f (at + i) ≡ get_or said i None)
-    → held_from new 0 (at + length said) ≡ held_from old 0 at ++ said
-laid_behind new old f size at said fits same bytes =
-    let z : 0 + at ≡ at = omega arith in
-    held_from-append new 0 at (length said)
-    ∙ ap (λ l. l ++ held_from new (0 + at) (length said)) (held_from-same new old 0 at (λ x lo hi. same x (omega arith) ∙ changed_before at (length said) x f old (omega arith)))
-    ∙ ap (λ l. held_from old 0 at ++ l) (ap (λ o. held_from new o (length said)) z
-    ∙ held_from-list new at said (λ i lt. same (at + i) (omega arith) ∙ changed_inside at (length said) (at + i) f old (omega arith) (omega arith) ∙ bytes i lt))
-
 -- how many bytes a piece has
 pub length-unknown : (n : ℕ) → length (told (unknown n)) ≡ n
 length-unknown n = length-replicate n None
@@ -46,6 +35,4 @@ known_at at bytes i lt =
 pub laid_here : (new old f : ℕ → Option ℕ) (size at len : ℕ) (said : Held) → length said ≡ len → at + len ≤ size
     → AreSameBelow size new (overlay at len f old) → ((i : ℕ) → i < length said → f (at + i) ≡ get_or said i None)
     → held_from new 0 (at + len) ≡ held_from old 0 at ++ said
-laid_here new old f size at len said is fits same bytes =
-    ap (λ n. held_from new 0 (at + n)) (sym is)
-    ∙ laid_behind new old f size at said (omega (arith, is, fits)) (λ x l. same x l ∙ ap (λ n. overlay at n f old x) (sym is)) bytes
+laid_here new old f size at len said is fits same bytes = grind (arith, held_from-append, held_from-same, changed_before, held_from-list, changed_inside)

@@ -7,6 +7,7 @@ pub mod FormLemmas
 pub mod HeldLemmas
 pub mod NumeralLemmas
 pub mod OrderLineLemmas
+pub mod PartingLemmas
 pub mod PieceLemmas
 pub mod ProgressLemmas
 pub mod ReadToEndLemmas

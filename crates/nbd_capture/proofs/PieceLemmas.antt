@@ -1,16 +1,10 @@
 -- What one look at a reader's bytes gives of a line.
-use Rattle.nbd_capture.proofs.Common.{◌≡◌, ℕ, Bool, true, true≢false, Ok, Err, refl, IsTrue, ◌+◌, ◌-◌, ◌<◌, ◌≤◌, List, [], ◌∷◌, ◌++◌, length, take, sym, ap, subst, ◌∙◌, arith, ◌==◌, false, take-take, length-take-le, Some, None, IfSome, OnSome, Option, StartsWith, Consumes, IsAtEnd, Keeps, DropsConsumable, Consumes_shown, length-append, append_assoc, append-nil, take-append-add, IsUnbroken, line_feed, CaptureFault, Line, Memory, Read, LineFeed, Text, Last, Chunk, IsCaptureLine, IsReaderFault, Reading, Reads, Refuses, Takes, IsChunkFault, Adds, IsKept, IsPartOf, Kept, IsLine, IsPiece}
+use Rattle.nbd_capture.proofs.Common.{◌≡◌, ℕ, Bool, true, true≢false, Ok, Err, refl, IsTrue, ◌+◌, ◌-◌, ◌<◌, ◌≤◌, List, [], ◌∷◌, ◌++◌, length, take, sym, ap, subst, ◌∙◌, arith, ◌==◌, false, take-take, length-take-le, IfSome, Option, StartsWith, Consumes, Keeps, DropsConsumable, Consumes_shown, length-append, append_assoc, append-nil, take-append-add, IsUnbroken, line_feed, CaptureFault, Line, Memory, Read, LineFeed, Text, Last, Chunk, IsCaptureLine, IsReaderFault, Reading, Reads, Refuses, Takes, IsChunkFault, Adds, IsKept, IsPartOf, Kept, IsLine, IsPiece}
 use Rattle.nbd_capture.specs.declared.source.Piece.TheVariants.{End, Part}
 use Rattle.nbd_capture.proofs.ReadingStepLemmas.{none_ended, one_ended, reads-append, reads_line, refuses_chunk, refuses_end, still_known, stops, takes-append, unbroken-append}
 
-pub at_end : (a b : Option (List ℕ)) (shown : List ℕ) → length shown ≡ 0 → IfSome a (λ xs. length shown ≡ 0 → xs ≡ []) → Keeps a b → OnSome a (IsAtEnd b)
-at_end None b shown none end kept = tt
-at_end (Some x) None shown none end kept = absurd kept
-at_end (Some x) (Some y) shown none end kept = kept ∙ end none
-
 pub some_left : (bytes : List ℕ) → false ≡ (length bytes == 0) → 0 < length bytes
-some_left [] some = cc
-some_left (b ∷ bs) some = omega arith
+some_left bytes some = grind arith
 
 -- what a look at a reader showed, and what consuming from it does then
 pub record Look (a b c : Option (List ℕ)) (buffered : Option ℕ) (shown : List ℕ) (n : ℕ) : Type 0 where
@@ -50,18 +44,7 @@ takes_last old new b buffered shown part m n before after look within fits (rest
 pub takes_part : (old new : Reading) (b : Option (List ℕ)) (buffered : Option ℕ) (shown part : List ℕ) (m n : ℕ) (before after : Kept)
     → Look old.rest b new.rest buffered shown n → m ≤ length shown → m ≤ old.room → IsPartOf (take m shown) part n false → 0 < length (take m shown) → Adds before after part
     → new.room ≡ old.room - n → new.lines ≡ old.lines → IsPiece old new before after (Ok Part)
-takes_part old new b buffered shown part m n before after look within fits (same, u, count) some adds room lines =
-    let size : length (take m shown) ≡ m = length-take-le m shown within in (
-      part,
-      record {
-        consumed = consumed old.rest b new.rest buffered shown part n look (omega (arith, count, size, within)) (ap (λ k. take k shown) (count ∙ size) ∙ same);
-        fits = let long = ap length same in omega (arith, count, room, size, fits, long);
-        counted = let none = none_ended part u in omega (arith, none, lines);
-      },
-      u,
-      subst (λ l. 0 < length l) same some,
-      adds,
-    )
+takes_part old new b buffered shown part m n before after look within fits h some adds room lines = grind (arith, length-take-le, consumed, none_ended)
 
 -- of a line these bytes were taken, and they are kept
 pub record Begins (old new : Reading) (kept : Kept) : Type 0 where
@@ -92,13 +75,10 @@ no_more : (start now next : Reading) (before : Kept) (b : Begins start now befor
 no_more start now next before b takes = subst (Takes start next) (append-nil b.bytes) (takes-append start now next b.bytes [] b.takes takes)
 
 pub begins_last : (start now next : Reading) (before after : Kept) → Begins start now before → IsPiece now next before after (Ok End) → IsLine start next after (Ok Text)
-begins_last start now next before after b (takes, end, same) =
-    (b.bytes, no_more start now next before b takes, b.unbroken, subst (λ k. IsKept k b.bytes) (sym same) b.is_kept, still_known start.rest now.rest _ b.bytes b.takes.consumed end)
+begins_last start now next before after b h = grind (arith, no_more, still_known, consumed)
 
 pub begins_fault : (start now next : Reading) (before after : Kept) (fault : CaptureFault) → Begins start now before → IsPiece now next before after (Err fault) → IsLine start next after (Err fault)
-begins_fault start now next before after (Line n) b h = absurd h
-begins_fault start now next before after Read b takes = (b.bytes, no_more start now next before b takes, b.unbroken)
-begins_fault start now next before after Memory b takes = (b.bytes, no_more start now next before b takes, b.unbroken)
+begins_fault start now next before after fault b h = grind (arith, no_more)
 
 -- a line that could not be read whole, after lines that give no chunk
 pub no_line : (a b c : Reading) (kept : Kept) (fault : CaptureFault) → Reads a b [] → IsLine b c kept (Err fault) → IsReaderFault a c fault

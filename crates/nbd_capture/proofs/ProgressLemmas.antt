@@ -8,9 +8,6 @@ pub record Progress {V : Type 0} (Form : List ℕ → List V → Type 0) (text r
   pub count : number + length rest ≤ length text
 
 module _ {V : Type 0} (Form : List ℕ → List V → Type 0) where
-  pub start : (text : List ℕ) → Progress Form text text [] 0
-  start text = record { reads = λ after r. r; bad = λ n b. let e : 0 + suc n ≡ suc n = omega arith in rw e b; count = omega arith }
-
   pub advance : (text rest bytes behind : List ℕ) (values said : List V) (number : ℕ) → Progress Form text rest values number
       → IsUnbroken bytes → rest ≡ bytes ++ line_feed ∷ behind → Form bytes said → Progress Form text behind (values ++ said) (number + 1)
   advance text rest bytes behind values said number past u whole form = record {

@@ -1,28 +1,15 @@
 -- Texts of lines: what a text's first line is, that a text has one reading at most, and none where a line is bad.
-use Rattle.nbd_capture.proofs.Common.{◌≡◌, ℕ, suc, List, [], ◌∷◌, ◌++◌, ◌⊎◌, inl, inr, refl, sym, ap, ◌∙◌, subst, append_assoc, line_feed, IsUnbroken, IsText, IsFirstBadLine, empty, line, formless, unended, later}
+use Rattle.nbd_capture.proofs.Common.{arith, ◌≡◌, ℕ, suc, List, [], ◌∷◌, ◌++◌, ◌⊎◌, inl, inr, refl, sym, ap, ◌∙◌, subst, append_assoc, line_feed, IsUnbroken, IsText, IsFirstBadLine, empty, line, formless, unended, later}
+use Rattle.nbd_capture.proofs.PartingLemmas.{first_parts, none_parted}
 
--- the first line feed ends the first line
 pub first_lines : (a b x y : List ℕ) → IsUnbroken a → IsUnbroken b → a ++ line_feed ∷ x ≡ b ++ line_feed ∷ y → (a ≡ b) × (x ≡ y)
-first_lines [] [] x y ua ub e = (refl, cc)
-first_lines [] (b ∷ bs) x y ua ub e = absurd (ub.0 (cc))
-first_lines (a ∷ prefix) [] x y ua ub e = absurd (ua.0 (cc))
-first_lines (a ∷ prefix) (b ∷ bs) x y ua ub e =
-    let tails : prefix ++ line_feed ∷ x ≡ bs ++ line_feed ∷ y = cc in
-    let parts = first_lines prefix bs x y ua.1 ub.1 tails in
-    let heads : a ≡ b = cc in
-    let lines : prefix ≡ bs = parts.0 in
-    (cc, parts.1)
+first_lines a b x y = first_parts line_feed a b x y
 
--- a line feed breaks the bytes
-broken : (a b x : List ℕ) → IsUnbroken b → b ≡ a ++ line_feed ∷ x → ⊥
-broken [] [] x u e = cc
-broken [] (b ∷ bs) x u e = u.0 cc
-broken (a ∷ prefix) [] x u e = cc
-broken (a ∷ prefix) (b ∷ bs) x u e = let tails : bs ≡ prefix ++ line_feed ∷ x = cc in broken prefix bs x u.1 tails
+pub broken : (a b x : List ℕ) → IsUnbroken b → b ≡ a ++ line_feed ∷ x → ⊥
+broken a b x = none_parted line_feed a b x
 
-not_empty : (a x : List ℕ) → [] ≡ a ++ line_feed ∷ x → ⊥
-not_empty [] x e = cc
-not_empty (a ∷ prefix) x e = cc
+pub not_empty : (a x : List ℕ) → [] ≡ a ++ line_feed ∷ x → ⊥
+not_empty a x e = broken a [] x tt e
 
 -- each line stands for one list of values at most
 abbrev pub IsFunctional : {V : Type 0} → (List ℕ → List V → Type 0) → Type 0
@@ -45,9 +32,7 @@ module _ {V : Type 0} (Form : List ℕ → List V → Type 0) where
     pub all : values ≡ said ++ after
 
   pub parts : (text : List ℕ) (values : List V) → IsText Form text values → ((text ≡ []) × (values ≡ [])) ⊎ Step text values
-  parts text values empty = inl (refl, refl)
-  parts text values (line bytes said rest after u f r) =
-      inr (record { bytes = bytes; said = said; rest = rest; after = after; begins = record { unbroken = u; whole = refl }; form = f; reads = r; all = refl })
+  parts text values h = grind arith
 
   pub same_first : (text a b x y : List ℕ) → Begins text a x → Begins text b y → (a ≡ b) × (x ≡ y)
   same_first text a b x y p q = first_lines a b x y p.unbroken q.unbroken (sym p.whole ∙ q.whole)
@@ -115,10 +100,7 @@ module _ {V : Type 0} (Form : List ℕ → List V → Type 0) where
     none : (said : List V) → Form bytes said → ⊥
 
   bad_parts : (text : List ℕ) (n : ℕ) → IsFirstBadLine Form text n → ((n ≡ 1) × (Bad text ⊎ IsUnbroken text)) ⊎ Good text n
-  bad_parts text n (formless bytes rest u none) = inl (refl, inl (record { bytes = bytes; rest = rest; begins = record { unbroken = u; whole = refl }; none = none }))
-  bad_parts text n (unended byte bytes u) = inl (refl, inr u)
-  bad_parts text n (later bytes said rest m u f bad) =
-      inr (record { bytes = bytes; said = said; rest = rest; m = m; begins = record { unbroken = u; whole = refl }; form = f; bad = bad; count = refl })
+  bad_parts text n h = grind arith
 
   not_both : (text : List ℕ) (n : ℕ) → Bad text ⊎ IsUnbroken text → Good text n → ⊥
   not_both text n (inl bad) good =

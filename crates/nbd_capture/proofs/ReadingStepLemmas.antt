@@ -1,5 +1,5 @@
 -- Steps of a reader of captures: what pieces, lines and chunks that were read one after another are together.
-use Rattle.nbd_capture.proofs.Common.{◌≡◌, ℕ, ◌+◌, List, [], ◌∷◌, ◌++◌, refl, sym, ap, subst, arith, append_assoc, append-nil, Some, None, OnSome, Option, Consumes, IsAtEnd, Keeps, Consumes-nil, Consumes-kept, Consumes-trans, Keeps-refl, ne_eqb, length-append, sum_by-append, CaptureFault, Line, Memory, Read, IsUnbroken, IsText, line_feed, empty, line, formless, unended, Chunk, IsCaptureLine, IsCaptureText, IsReaderFault, Reading, Reads, Refuses, StopsWithin, Takes, lines_ended, IsChunkFault}
+use Rattle.nbd_capture.proofs.Common.{◌≡◌, ℕ, ◌+◌, List, [], ◌∷◌, ◌++◌, refl, sym, ap, subst, arith, append_assoc, append-nil, OnSome, Option, Consumes, IsAtEnd, Keeps, Consumes-trans, Keeps-refl, ne_eqb, length-append, sum_by-append, CaptureFault, Line, Memory, Read, IsUnbroken, IsText, line_feed, empty, line, formless, unended, Chunk, IsCaptureLine, IsCaptureText, IsReaderFault, Reading, Reads, Refuses, StopsWithin, Takes, lines_ended, IsChunkFault}
 
 -- ---- line feeds
 
@@ -24,24 +24,14 @@ ended_breaks (b ∷ bs) u = ended_breaks bs u.1
 -- ---- bytes that were taken
 
 pub takes_none : (old new : Reading) → Keeps old.rest new.rest → new.room ≡ old.room → new.lines ≡ old.lines → Takes old new []
-takes_none old new kept room lines = record {
-  consumed = Consumes-kept _ _ _ [] (Consumes-nil _) kept;
-  fits = omega (arith, room);
-  counted = omega (arith, lines);
-}
+takes_none old new kept room lines = grind arith
 
 pub takes-append : (a b c : Reading) (xs ys : List ℕ) → Takes a b xs → Takes b c ys → Takes a c (xs ++ ys)
-takes-append a b c xs ys p q = record {
-  consumed = Consumes-trans a.rest b.rest c.rest xs ys p.consumed q.consumed;
-  fits = let all = length-append xs ys in omega (arith, all, p.fits, q.fits);
-  counted = let all = ended-append xs ys in omega (arith, all, p.counted, q.counted);
-}
+takes-append a b c xs ys p q = grind (arith, Consumes-trans, length-append, ended-append)
 
 -- what holds where the bytes are known still holds where some of them were taken
 pub still_known : (a b : Option (List ℕ)) (P : Type 0) (bytes : List ℕ) → Consumes a b bytes → OnSome b P → OnSome a P
-still_known None b P bytes taken h = tt
-still_known (Some x) None P bytes taken h = absurd taken
-still_known (Some x) (Some y) P bytes taken h = h
+still_known a b P bytes taken h = grind arith
 
 -- ---- lines
 

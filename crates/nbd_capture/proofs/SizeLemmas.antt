@@ -1,5 +1,5 @@
 -- A chunk has fewer bytes than the lines that were read for it.
-use Rattle.nbd_capture.proofs.Common.{◌≡◌, ℕ, ◌+◌, ◌<◌, ◌≤◌, List, [], ◌∷◌, ◌++◌, length, arith, length-append, line_feed, empty, line, AreDigits, Chunk, IsCaptureLine, IsCaptureText, none, byte, chunk, blank, comment, Reading, Reads}
+use Rattle.nbd_capture.proofs.Common.{◌≡◌, ℕ, ◌+◌, ◌<◌, ◌≤◌, List, [], ◌∷◌, ◌++◌, length, arith, length-append, empty, line, AreDigits, Chunk, IsCaptureLine, IsCaptureText, none, byte, Reading, Reads}
 
 -- the chunks' bytes, and one more for each chunk
 size : List Chunk → ℕ
@@ -17,19 +17,12 @@ digits_longer digits bytes (byte first second high low ds bs f s more) = let lon
 
 line_longer : (bytes : List ℕ) (said : List Chunk) → IsCaptureLine bytes said → size said ≤ length bytes
 unfolding size
-line_longer bytes said (chunk side digits sent d) = let longer = digits_longer digits sent d in omega (arith, longer)
-line_longer bytes said blank = omega arith
-line_longer bytes said (comment anything) = omega arith
+line_longer bytes said h = grind (arith, digits_longer)
 
 text_longer : (text : List ℕ) (chunks : List Chunk) → IsCaptureText text chunks → size chunks ≤ length text
 unfolding size
 text_longer text chunks empty = omega arith
-text_longer text chunks (line bytes said rest values u f r) =
-    let first = line_longer bytes said f in
-    let more = text_longer rest values r in
-    let all = length-append bytes (line_feed ∷ rest) in
-    let parts = size-append said values in
-    omega (arith, first, more, all, parts)
+text_longer text chunks (line bytes said rest values u f r) = grind (arith, line_longer, length-append, size-append, text_longer rest values r)
 
 pub chunk_shrinks : (old new : Reading) (c : Chunk) → Reads old new (c ∷ []) → length c.bytes + new.room < old.room
 unfolding size

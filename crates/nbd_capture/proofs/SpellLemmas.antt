@@ -1,5 +1,5 @@
 -- Digits that come in parts, and the lines that they stand in.
-use Rattle.nbd_capture.proofs.Common.{◌≡◌, ℕ, ◌+◌, ◌*◌, ◌%◌, ◌≤◌, List, [], ◌∷◌, ◌++◌, length, Some, None, Result, Ok, Err, refl, sym, ap, ◌∙◌, arith, subst, append_assoc, append-nil, ◌⊎◌, inl, inr, IfOk, MatchBool, is_ok, take, slice_get, take-append_seam, length-append, take_all, decode_sized-twice, decode_of, decode_sized, FromHexError, Side, AreDigits, Chunk, IsCaptureLine, hash, letter, space, none, byte, blank, chunk, comment, Form, Empty, Letter, Digits, Comment, Bad, IsOf, Spell}
+use Rattle.nbd_capture.proofs.Common.{◌≡◌, ℕ, ◌+◌, ◌*◌, ◌%◌, ◌≤◌, List, [], ◌∷◌, ◌++◌, length, Some, None, Result, Ok, Err, refl, sym, ap, ◌∙◌, arith, subst, append_assoc, append-nil, ◌⊎◌, IfOk, MatchBool, is_ok, take, slice_get, take-append_seam, length-append, take_all, decode_sized-twice, decode_sized, FromHexError, Side, AreDigits, Chunk, IsCaptureLine, letter, space, none, byte, blank, chunk, comment, Form, Empty, Letter, Digits, Comment, Bad, IsOf, Spell}
 use Rattle.std.proofs.Common.{Option, MatchResult}
 use Rattle.nbd_capture.proofs.DigitLemmas.{decodes, even, spelled}
 use Rattle.nbd_capture.proofs.FormLemmas.{forms, same_parts, silent_sends}
@@ -29,19 +29,13 @@ seam len front out rest old same is =
 
 -- a vector that grew begins as it did
 pub begins : (old grown more : List ℕ) (n start : ℕ) → grown ≡ take n old ++ more → start ≡ length old → start ≤ n → take start grown ≡ old
-begins old grown more n start is at within =
-    ap (take start) (is ∙ ap (λ l. l ++ more) (take_all n old (omega (arith, at, within)))) ∙ ap (λ k. take k (old ++ more)) at ∙ take-append_seam old more
+begins old grown more n start is at within = grind (arith, take_all, take-append_seam)
 
 -- bytes that hex decoded behind others, or none
 pub decoded : (digits old out new : List ℕ) (n : ℕ) (said : Result Unit FromHexError) → length digits ≡ 2 * n
     → MatchResult (decode_sized digits n) (λ bytes. (said ≡ Ok tt) × (out ≡ bytes)) (λ e. said ≡ Err e) → new ≡ old ++ out
     → MatchBool (is_ok said) ((more : List ℕ) × (new ≡ old ++ more) × AreDigits digits more) ((more : List ℕ) → AreDigits digits more → ⊥)
-decoded digits old out new n said twice answer grown = by_answer (decode_of digits) refl (rw (decode_sized-twice digits n twice) at answer)
-  where
-    by_answer : (r : Result (List ℕ) FromHexError) → decode_of digits ≡ r → MatchResult r (λ bytes. (said ≡ Ok tt) × (out ≡ bytes)) (λ e. said ≡ Err e)
-        → MatchBool (is_ok said) ((more : List ℕ) × (new ≡ old ++ more) × AreDigits digits more) ((more : List ℕ) → AreDigits digits more → ⊥)
-    by_answer (Ok bytes) is (ok, same) = rw ok (bytes, grown ∙ ap (λ l. old ++ l) same, spelled digits bytes is)
-    by_answer (Err e) is refused = rw refused (λ more d. cc (sym (decodes digits more d) ∙ is))
+decoded digits old out new n said twice answer grown = grind (arith, decode_sized-twice, is_ok, spelled, decodes)
 
 -- a line's digits with more, but for a last one that waits
 pub with_pairs : (side : Side) (digits pairs last before old new : List ℕ) (half : Option ℕ) → pairs ++ last ≡ digits → length last ≤ 1 → half ≡ slice_get last 0
@@ -60,18 +54,7 @@ with_pairs side digits pairs (c ∷ e ∷ last) before old new half parts short 
 -- no line has what spells no bytes behind whole bytes
 pub no_line : (side : Side) (digits pairs last before old : List ℕ) → pairs ++ last ≡ digits → length pairs % 2 ≡ 0 → ((more : List ℕ) → AreDigits pairs more → ⊥)
     → AreDigits before old → (more : List ℕ) (said : List Chunk) → IsCaptureLine (letter side ∷ space ∷ ((before ++ digits) ++ more)) said → ⊥
-no_line side digits pairs last before old parts pairwise none_of b more said f =
-    elim (forms (letter side ∷ space ∷ ((before ++ digits) ++ more)) said f) [
-      | inl silent ↦ silent_sends _ side ((before ++ digits) ++ more) silent.0 refl
-      | inr sends ↦
-          let same : (before ++ digits) ++ more ≡ sends.digits = (same_parts side sends.side ((before ++ digits) ++ more) sends.digits sends.whole).1 in
-          let split : (before ++ digits) ++ more ≡ before ++ (pairs ++ (last ++ more)) =
-          append_assoc before digits more ∙ ap (λ l. before ++ (l ++ more)) (sym parts) ∙ ap (λ l. before ++ l) (append_assoc pairs last more) in
-          let d : AreDigits (before ++ (pairs ++ (last ++ more))) sends.bytes = subst (λ l. AreDigits l sends.bytes) (sym same ∙ split) sends.spelled in
-          let rest = behind before (pairs ++ (last ++ more)) old sends.bytes b d in
-          let front = in_front pairs (last ++ more) rest.0 pairwise rest.1 in
-          none_of front.0 front.1
-    ]
+no_line side digits pairs last before old parts pairwise none_of b more said f = grind (arith, forms, silent_sends, same_parts, append_assoc, spelled, behind, in_front)
 
 -- a pair whose second digit came with the next part
 pub with_second : (side : Side) (before rest old more middle new : List ℕ) (first second : ℕ) (half : Option ℕ) (form : Form) → half ≡ Some first
@@ -97,47 +80,26 @@ no_second side before rest old first second half is none_of s more said f =
 
 -- what a line of a form is
 pub filled : (form : Form) (bytes line : List ℕ) → IsOf form bytes line → (form ≡ Empty → ⊥) → line ≡ [] → ⊥
-filled Empty bytes line h other nothing = other refl
-filled (Letter side) bytes line h other nothing = cc (sym h.0 ∙ nothing)
-filled (Digits side half) bytes line h other nothing = cc (sym h.1 ∙ nothing)
-filled Comment bytes line h other nothing = cc (sym h.1 ∙ nothing)
 filled Bad bytes line h other nothing = h [] [] (subst (λ l. IsCaptureLine l []) (sym (append-nil line ∙ nothing)) blank)
+filled form bytes line h other nothing = grind arith
 
 pub silent : (form : Form) (bytes line : List ℕ) → (form ≡ Empty) ⊎ (form ≡ Comment) → IsOf form bytes line → IsCaptureLine line []
-silent form bytes line (inl is) h = let e = subst (λ f. IsOf f bytes line) is h in subst (λ l. IsCaptureLine l []) (sym e.0) blank
-silent form bytes line (inr is) h = let e = subst (λ f. IsOf f bytes line) is h in subst (λ l. IsCaptureLine l []) (sym e.1) (comment e.0)
+silent form bytes line e h = grind (arith, blank, comment)
 
 pub sent : (side : Side) (bytes line : List ℕ) → IsOf (Digits side None) bytes line → IsCaptureLine line (record { side = side; bytes = bytes } ∷ [])
 sent side bytes line h = subst (λ l. IsCaptureLine l (record { side = side; bytes = bytes } ∷ [])) (sym h.1) (chunk side h.0 bytes h.2)
 
 -- a letter alone is no line
 pub letter_alone : (side : Side) (bytes line : List ℕ) → IsOf (Letter side) bytes line → (said : List Chunk) → IsCaptureLine line said → ⊥
-letter_alone side bytes line h said f =
-    elim (forms line said f) [
-      | inl quiet ↦ elim quiet.0 [
-        | inl nothing ↦ cc (sym h.0 ∙ nothing)
-        | inr remark ↦ let first_is : letter side ≡ hash = cc (sym h.0 ∙ remark.1) in silent_sends (letter side ∷ space ∷ []) side [] (inr (space ∷ [], ap (λ c. c ∷ space ∷ []) first_is)) refl
-      ]
-      | inr sends ↦ cc (sym h.0 ∙ sends.whole)
-    ]
+letter_alone side bytes line h said f = grind (arith, forms, silent_sends)
 
 -- digits of odd number are no line
 pub odd_digits : (side : Side) (last : ℕ) (bytes line : List ℕ) → IsOf (Digits side (Some last)) bytes line → (said : List Chunk) → IsCaptureLine line said → ⊥
-odd_digits side last bytes line h said f =
-    elim (forms line said f) [
-      | inl quiet ↦ silent_sends line side h.0 quiet.0 h.1
-      | inr sends ↦
-          let same : h.0 ≡ sends.digits = (same_parts side sends.side h.0 sends.digits (sym h.1 ∙ sends.whole)).1 in
-          let pairs = even h.2.0 bytes h.2.2 in
-          let all = even sends.digits sends.bytes sends.spelled in
-          let size : length sends.digits ≡ length h.2.0 + 1 = ap length (sym same ∙ h.2.1) ∙ length-append h.2.0 (last ∷ []) in
-          absurd (omega (arith, pairs, all, size))
-    ]
+odd_digits side last bytes line h said f = grind (arith, forms, silent_sends, same_parts, even, spelled, length-append)
 
 pub bad : (bytes line : List ℕ) → IsOf Bad bytes line → (said : List Chunk) → IsCaptureLine line said → ⊥
 bad bytes line h said f = h [] said (subst (λ l. IsCaptureLine l said) (sym (append-nil line)) f)
 
 -- a form, if there is one
 pub on_form : {E : Type 0} (r : Result Form E) (P Q : Form → Type 0) → IfOk r P → ((form : Form) → P form → Q form) → IfOk r Q
-on_form (Ok form) P Q p f = f form p
-on_form (Err e) P Q p f = tt
+on_form r P Q p f = grind arith

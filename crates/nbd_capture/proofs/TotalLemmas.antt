@@ -3,9 +3,10 @@ use Rattle.nbd_capture.proofs.Common.{◌≡◌, ◌≢◌, ℕ, ◌^◌, ◌<�
 use Rattle.nbd_capture.proofs.TotalTextLemmas.{Decided}
 use Rattle.nbd_capture.proofs.DigitLemmas.{spelled}
 use Rattle.nbd_capture.proofs.FormLemmas.{forms, undecodable}
-use Rattle.nbd_capture.proofs.OrderLineLemmas.{no_number, no_numbers, no_part, no_parted, split}
+use Rattle.nbd_capture.proofs.PartingLemmas.{parted}
+use Rattle.nbd_capture.proofs.OrderLineLemmas.{no_number, no_numbers, no_part, no_parted}
 
-abbrev Either : Type 0 → Type 0
+abbrev pub Either : Type 0 → Type 0
 Either P = P ⊎ (P → ⊥)
 
 -- ---- capture lines
@@ -37,20 +38,8 @@ sent side bytes a =
       | inr bad ↦ inr (undecodable bytes side a.0 bad.0 a.1 bad.1)
     ]
 
-by_side : (side : Side) (bytes : List ℕ) → (Addressed Client bytes → ⊥) → (Addressed Server bytes → ⊥) → Addressed side bytes → ⊥
-by_side Client bytes c s a = c a
-by_side Server bytes c s a = s a
-
 unsent : (b : ℕ) (bs : List ℕ) → b ≢ hash → (Addressed Client (b ∷ bs) → ⊥) → (Addressed Server (b ∷ bs) → ⊥) → (said : List Chunk) → IsCaptureLine (b ∷ bs) said → ⊥
-unsent b bs other client server said f =
-    elim (forms (b ∷ bs) said f) [
-      | inl silent ↦
-          elim silent.0 [
-            | inl none ↦ cc none
-            | inr remark ↦ other (cc remark.1)
-          ]
-      | inr sends ↦ by_side sends.side (b ∷ bs) client server (sends.digits, sends.whole)
-    ]
+unsent b bs other client server said f = grind (arith, forms)
 
 pub decide_capture : (bytes : List ℕ) → Decided IsCaptureLine bytes
 decide_capture [] = inl ([], blank)
@@ -70,39 +59,21 @@ decide_capture (b ∷ bs) =
 
 -- ---- order lines
 
-both : {P Q : Type 0} → Either P → Either Q → Either (P × Q)
-both (inl p) (inl q) = inl (p, q)
-both (inl p) (inr q) = inr (λ h. q h.1)
-both (inr p) q = inr (λ h. p h.0)
+pub both : {P Q : Type 0} → Either P → Either Q → Either (P × Q)
+both h q = grind arith
 
-less : (m n : ℕ) → Either (m < n)
-less m n =
-    elim (cases_lt m n) [
-      | inl lt ↦ inl lt
-      | inr le ↦ inr (λ h. omega arith)
-    ]
+pub less : (m n : ℕ) → Either (m < n)
+less m n = grind (arith, cases_lt)
 
 all_digits : (ds : List ℕ) → Either (AllDigits 10 ds)
 all_digits [] = inl tt
 all_digits (d ∷ ds) = both (less (digit_value d) 10) (all_digits ds)
 
 single : (first len : ℕ) → Either (first ≡ 48 → len ≡ 1)
-single first len =
-    elim (cases_eq len 1) [
-      | inl one ↦ inl (λ _. one)
-      | inr more ↦
-          elim (cases_eq first 48) [
-            | inl same ↦ inr (λ h. more (h same))
-            | inr other ↦ inl (λ same. absurd (other same))
-          ]
-    ]
+single first len = grind (arith, cases_eq)
 
-at_most : (m n : ℕ) → Either (m ≤ n)
-at_most m n =
-    elim (cases_lt n m) [
-      | inl lt ↦ inr (λ h. omega arith)
-      | inr le ↦ inl le
-    ]
+pub at_most : (m n : ℕ) → Either (m ≤ n)
+at_most m n = grind (arith, cases_lt)
 
 decide_number : (digits : List ℕ) → ((n : ℕ) × IsNumber digits n) ⊎ ((n : ℕ) → IsNumber digits n → ⊥)
 decide_number digits =
@@ -115,7 +86,7 @@ decide_number digits =
     ]
 
 decide_part : (text : List ℕ) → ((p : Part) × IsPart text p) ⊎ ((p : Part) → IsPart text p → ⊥)
-decide_part text = elim (split text) [
+decide_part text = elim (parted space text) [
   | inl word ↦ inr (no_part text word)
   | inr s ↦ elim (decide_number s.0) [
     | inl m ↦ elim (decide_number s.1) [
@@ -127,7 +98,7 @@ decide_part text = elim (split text) [
 ]
 
 pub decide_order : (bytes : List ℕ) → Decided IsOrderLine bytes
-decide_order bytes = elim (split bytes) [
+decide_order bytes = elim (parted space bytes) [
   | inl word ↦ elim (decide_number bytes) [
     | inl n ↦ inl (whole n.0 ∷ [], atomically bytes n.0 n.1)
     | inr none ↦ inr (no_number bytes word none)

@@ -1,27 +1,10 @@
 -- Each text has a reading or a first bad line, where each line has a form or none.
-use Rattle.nbd_capture.proofs.Common.{◌≡◌, ℕ, zero, suc, ◌≤◌, List, [], ◌∷◌, ◌++◌, length, ◌⊎◌, inl, inr, sym, ap, subst, arith, cases_eq, length-append, line_feed, IsUnbroken, IsText, IsFirstBadLine, empty, line, formless, unended, later}
+use Rattle.nbd_capture.proofs.Common.{ℕ, zero, suc, ◌≤◌, List, [], ◌∷◌, ◌++◌, length, ◌⊎◌, inl, inr, sym, ap, subst, arith, length-append, line_feed, IsUnbroken, IsText, IsFirstBadLine, empty, line, formless, unended, later}
+use Rattle.nbd_capture.proofs.PartingLemmas.{parted}
 
 -- a line has a form, or none
 abbrev pub Decided : {V : Type 0} → (List ℕ → List V → Type 0) → List ℕ → Type 0
 Decided {V} Form bytes = ((said : List V) × Form bytes said) ⊎ ((said : List V) → Form bytes said → ⊥)
-
-record First (text : List ℕ) : Type 0 where
-  bytes : List ℕ
-  rest : List ℕ
-  unbroken : IsUnbroken bytes
-  whole : text ≡ bytes ++ line_feed ∷ rest
-
-first_of : (text : List ℕ) → IsUnbroken text ⊎ First text
-first_of [] = inl tt
-first_of (b ∷ bs) =
-    elim (cases_eq b line_feed) [
-      | inl same ↦ inr (record { bytes = []; rest = bs; unbroken = tt; whole = ap (λ x. x ∷ bs) same })
-      | inr other ↦
-          elim (first_of bs) [
-            | inl none ↦ inl (other, none)
-            | inr more ↦ inr (record { bytes = b ∷ more.bytes; rest = more.rest; unbroken = (other, more.unbroken); whole = ap (λ l. b ∷ l) more.whole })
-          ]
-    ]
 
 none_short : (text : List ℕ) → length text ≤ 0 → IsUnbroken text
 none_short [] short = tt
@@ -42,16 +25,16 @@ module _ {V : Type 0} (Form : List ℕ → List V → Type 0) where
   told_within : ((bytes : List ℕ) → Decided Form bytes) → (n : ℕ) (text : List ℕ) → length text ≤ n → Told text
   told_within decide zero text short = told_unended text (none_short text short)
   told_within decide (suc n) text short =
-      elim (first_of text) [
+      elim (parted line_feed text) [
         | inl none ↦ told_unended text none
         | inr first ↦
-            subst Told (sym first.whole)
-            (elim (decide first.bytes) [
+            subst Told (sym first.3)
+            (elim (decide first.0) [
               | inl form ↦
-                  let len = length-append first.bytes (line_feed ∷ first.rest) in
-                  let same = ap length first.whole in
-                  told_next first.bytes first.rest form.0 first.unbroken form.1 (told_within decide n first.rest (omega (arith, len, same, short)))
-              | inr none ↦ inr (1, formless first.bytes first.rest first.unbroken none)
+                  let len = length-append first.0 (line_feed ∷ first.1) in
+                  let same = ap length first.3 in
+                  told_next first.0 first.1 form.0 first.2 form.1 (told_within decide n first.1 (omega (arith, len, same, short)))
+              | inr none ↦ inr (1, formless first.0 first.1 first.2 none)
             ])
       ]
 

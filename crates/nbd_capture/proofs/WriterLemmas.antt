@@ -1,5 +1,5 @@
 -- How far a writer has come, and what it holds after one more step or a fault.
-use Rattle.nbd_capture.proofs.Common.{◌≡◌, ℕ, List, [], ◌∷◌, ◌++◌, refl, sym, ap, ◌∙◌, append_assoc, subst, ◌/◌, ◌%◌, slice_index, encode_lower, encode_with, lower_digits, Option, Appends, Appends-nil, Appends-trans, AppendsPrefix}
+use Rattle.nbd_capture.proofs.Common.{arith, ◌≡◌, ℕ, List, [], ◌∷◌, ◌++◌, refl, sym, ap, ◌∙◌, append_assoc, subst, ◌/◌, ◌%◌, slice_index, encode_lower, encode_with, lower_digits, Option, Appends, Appends-nil, Appends-trans, AppendsPrefix}
 
 -- all but the rest stands written, where a written prefix has these bytes
 pub record Wrote (spelling : List ℕ → List ℕ) (old new : Option (List ℕ)) (all rest : List ℕ) : Type 0 where
@@ -30,22 +30,11 @@ module _ (spelling : List ℕ → List ℕ) (spells : Spells spelling) where
 
   pub one_more : (old mid new : Option (List ℕ)) (all rest piece behind : List ℕ) → Wrote spelling old mid all rest
       → rest ≡ piece ++ behind → Appends mid new (spelling piece) → Wrote spelling old new all behind
-  one_more old mid new all rest piece behind past e grown = record {
-    prefix = past.prefix ++ piece;
-    whole = past.whole ∙ ap (λ l. past.prefix ++ l) e ∙ sym (append_assoc past.prefix piece behind);
-    grown = subst (Appends old new) (sym (spells.split past.prefix piece)) (Appends-trans old mid new (spelling past.prefix) (spelling piece) past.grown grown);
-  }
+  one_more old mid new all rest piece behind past e grown = grind (arith, append_assoc, Appends-trans)
 
   pub broken_off : (old mid new : Option (List ℕ)) (all rest piece behind : List ℕ) → Wrote spelling old mid all rest
       → rest ≡ piece ++ behind → AppendsPrefix mid new (spelling piece) → AppendsPrefix old new (spelling all)
-  broken_off old mid new all rest piece behind past e more =
-      let joined : spelling all ≡ spelling past.prefix ++ (spelling piece ++ spelling behind) =
-      ap spelling past.whole ∙ spells.split past.prefix rest ∙ ap (λ l. spelling past.prefix ++ l) (ap spelling e ∙ spells.split piece behind) in (
-        spelling past.prefix ++ more.0,
-        more.1 ++ spelling behind,
-        joined ∙ ap (λ l. spelling past.prefix ++ (l ++ spelling behind)) more.2 ∙ ap (λ l. spelling past.prefix ++ l) (append_assoc more.0 more.1 (spelling behind)) ∙ sym (append_assoc (spelling past.prefix) more.0 (more.1 ++ spelling behind)),
-        Appends-trans old mid new (spelling past.prefix) more.0 past.grown more.3,
-      )
+  broken_off old mid new all rest piece behind past e more = grind (arith, append_assoc)
 
 -- after a whole first part, a prefix of the second is a prefix of both
 pub then_prefix : (old mid new : Option (List ℕ)) (first second : List ℕ) → Appends old mid first → AppendsPrefix mid new second → AppendsPrefix old new (first ++ second)

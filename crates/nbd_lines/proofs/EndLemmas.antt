@@ -1,5 +1,5 @@
 -- Ends of lines, next to what `hex` says of its calls.
-use Rattle.nbd_lines.proofs.Common.{◌≡◌, ℕ, Bool, true, false, List, [], ◌∷◌, ◌++◌, Ok, Err, length, refl, sym, ap, ◌∙◌, subst, arith, ◌==◌, eqb-true, append_cancel_left, decode_of, FromHexError, decodes, spelled, IsEnd, payload_words, nothing, payload}
+use Rattle.nbd_lines.proofs.Common.{◌≡◌, ℕ, Bool, true, false, List, [], ◌∷◌, ◌++◌, Ok, Err, length, refl, sym, subst, arith, ◌==◌, eqb-true, append_cancel_left, decode_of, FromHexError, decodes, spelled, IsEnd, payload_words, nothing, payload}
 use Rattle.nbd_lines.proofs.MessageLineLemmas.{Carries, EndsSo, ends_so}
 
 pub nothing_at : (p : Bool) (bytes end : List ℕ) → p ≡ false → bytes ≡ [] → end ≡ [] → IsEnd p bytes end
@@ -21,11 +21,7 @@ no_payload p end e none bytes i = let c : Carries bytes end = ends_at p true byt
 
 pub bad_digits_are_no_end : (p : Bool) (digits end : List ℕ) (fault : FromHexError) → p ≡ true → end ≡ payload_words ++ digits → decode_of digits ≡ Err fault → (bytes : List ℕ) → IsEnd p bytes end → ⊥
 unfolding EndsSo
-bad_digits_are_no_end p digits end fault e w bad bytes i =
-    let c : Carries bytes end = ends_at p true bytes end e i in
-    let same : c.digits ≡ digits = append_cancel_left payload_words c.digits digits (sym c.whole ∙ w) in
-    let good : decode_of digits ≡ Ok bytes = ap decode_of (sym same) ∙ decodes c.digits bytes c.spelled in
-    cc
+bad_digits_are_no_end p digits end fault e w bad bytes i = grind (arith, ends_at, append_cancel_left, decodes, spelled)
 
 pub empty : (xs : List ℕ) → true ≡ (length xs == 0) → xs ≡ []
 empty [] e = refl

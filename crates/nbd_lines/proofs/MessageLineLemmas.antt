@@ -1,5 +1,5 @@
 -- Message lines: a line stands for one message at most.
-use Rattle.nbd_lines.proofs.Common.{◌≡◌, ℕ, zero, suc, ◌^◌, ◌<◌, Bool, true, false, List, [], ◌++◌, drop, get_or, refl, sym, ap, ◌∙◌, subst, arith, Ok, nat_eq, ◌==◌, if◌then◌else◌, AllByRecursion, append_cancel_left, decode_of, Message, FitsItsHead, AreDigits, decodes, Field, Form, Greeting, ClientFlags, Choice, Answer, Exported, Request, Simple, Chunk, ExtendedRequest, ExtendedChunk, IsEnd, IsMessageLine, numbers_text, payload_words, nothing, payload, BeginsNumbers, EndsWord, ReadsNumbers, payload_of, fields, has_payload, line_form, numbers, words}
+use Rattle.nbd_lines.proofs.Common.{◌≡◌, ℕ, zero, suc, ◌^◌, ◌<◌, Bool, true, false, List, [], ◌++◌, drop, get_or, refl, sym, ◌∙◌, subst, arith, nat_eq, ◌==◌, if◌then◌else◌, AllByRecursion, append_cancel_left, Message, FitsItsHead, AreDigits, decodes, Field, Form, Greeting, ClientFlags, Choice, Answer, Exported, Request, Simple, Chunk, ExtendedRequest, ExtendedChunk, IsEnd, IsMessageLine, numbers_text, payload_words, BeginsNumbers, EndsWord, ReadsNumbers, payload_of, fields, has_payload, line_form, numbers, words}
 use Rattle.nbd_wire.specs.declared.message.Message.TheVariants as messages
 use Rattle.nbd_lines.proofs.NumberLemmas.{one_list}
 
@@ -12,26 +12,14 @@ form_by text =
 
 pub form_by-words : (f : Form) (rest : List ℕ) → form_by (words f ++ rest) ≡ f
 unfolding form_by
-form_by-words Greeting rest = refl
-form_by-words ClientFlags rest = refl
-form_by-words Choice rest = refl
-form_by-words Answer rest = refl
-form_by-words Exported rest = refl
-form_by-words Request rest = refl
-form_by-words Simple rest = refl
-form_by-words Chunk rest = refl
-form_by-words ExtendedRequest rest = refl
-form_by-words ExtendedChunk rest = refl
+form_by-words f rest = grind arith
 
 -- a line begins with the words of one form
 pub one_form : (f g : Form) (x y : List ℕ) → words f ++ x ≡ words g ++ y → (f ≡ g) × (x ≡ y)
-one_form f g x y e =
-    let same : f ≡ g = sym (form_by-words f x) ∙ ap form_by e ∙ form_by-words g y in
-    (same, append_cancel_left (words f) x y (e ∙ ap (λ h. words h ++ y) (sym same)))
+one_form f g x y e = grind (arith, form_by-words, append_cancel_left)
 
 pub end_ends : (p : Bool) (bytes end : List ℕ) → IsEnd p bytes end → EndsWord end
-end_ends _ _ _ nothing = tt
-end_ends _ _ _ (payload digits bytes d) = refl
+end_ends p bytes end h = grind arith
 
 -- an end, taken apart
 pub record Carries (bytes end : List ℕ) : Type 0 where
@@ -45,24 +33,12 @@ EndsSo false bytes end = (bytes ≡ []) × (end ≡ [])
 
 pub ends_so : (p : Bool) (bytes end : List ℕ) → IsEnd p bytes end → EndsSo p bytes end
 unfolding EndsSo
-ends_so _ _ _ nothing = (refl, refl)
-ends_so _ _ _ (payload digits bytes d) = record { digits = digits; spelled = d; whole = refl }
-
-same_bytes : (digits other a b : List ℕ) → digits ≡ other → AreDigits digits a → AreDigits other b → a ≡ b
-same_bytes digits other a b e da db =
-    let first = decodes digits a da in
-    let second = decodes other b db in
-    let both : decode_of digits ≡ Ok b = ap decode_of e ∙ second in
-    cc
-
-same_end : (p : Bool) (a b end : List ℕ) → EndsSo p a end → EndsSo p b end → a ≡ b
-unfolding EndsSo
-same_end true a b end x y = same_bytes x.digits y.digits a b (append_cancel_left payload_words x.digits y.digits (sym x.whole ∙ y.whole)) x.spelled y.spelled
-same_end false a b end x y = x.0 ∙ sym y.0
+ends_so p bytes end h = grind arith
 
 -- an end spells one payload
 pub one_payload : (p : Bool) (a b end : List ℕ) → IsEnd p a end → IsEnd p b end → a ≡ b
-one_payload p a b end x y = same_end p a b end (ends_so p a end x) (ends_so p b end y)
+unfolding EndsSo
+one_payload p a b end x y = grind (arith, decodes, append_cancel_left, ends_so)
 
 -- the numbers of a list, from its beginning
 abbrev pub nth : ℕ → List ℕ → ℕ
@@ -82,39 +58,13 @@ built Chunk ns bytes = messages.Chunk (nth 0 ns) (nth 1 ns) (nth 2 ns) bytes
 built ExtendedRequest ns bytes = messages.ExtendedRequest (nth 0 ns) (nth 1 ns) (nth 2 ns) (nth 3 ns) (nth 4 ns) bytes
 built ExtendedChunk ns bytes = messages.ExtendedChunk (nth 0 ns) (nth 1 ns) (nth 2 ns) (nth 3 ns) bytes
 
-built-parts : (m : Message) → built (line_form m) (numbers m) (payload_of m) ≡ m
-unfolding built
-built-parts (messages.Greeting flags) = refl
-built-parts (messages.ClientFlags flags) = refl
-built-parts (messages.Choice id bytes) = refl
-built-parts (messages.Answer option kind bytes) = refl
-built-parts (messages.Exported size flags true) = refl
-built-parts (messages.Exported size flags false) = refl
-built-parts (messages.Request flags command cookie offset len bytes) = refl
-built-parts (messages.Simple error cookie bytes) = refl
-built-parts (messages.Chunk flags kind cookie bytes) = refl
-built-parts (messages.ExtendedRequest flags command cookie offset len bytes) = refl
-built-parts (messages.ExtendedChunk flags kind cookie offset bytes) = refl
-
 -- messages are their parts
 pub same_message : (a b : Message) → line_form a ≡ line_form b → numbers a ≡ numbers b → payload_of a ≡ payload_of b → a ≡ b
-same_message a b f n p =
-    let left = built-parts a in
-    let right = built-parts b in
-    let parts : built (line_form a) (numbers a) (payload_of a) ≡ built (line_form b) (numbers b) (payload_of b) = cc in
-    sym left ∙ parts ∙ right
+unfolding built
+same_message a b f n p = grind arith
 
 pub fields_small : (f : Form) → AllByRecursion (λ (g : Field). g.most < 2 ^ 64) (fields f)
-fields_small Greeting = (omega arith, tt)
-fields_small ClientFlags = (omega arith, tt)
-fields_small Choice = (omega arith, tt)
-fields_small Answer = (omega arith, (omega arith, tt))
-fields_small Exported = (omega arith, (omega arith, (omega arith, tt)))
-fields_small Request = (omega arith, (omega arith, (omega arith, (omega arith, (omega arith, tt)))))
-fields_small Simple = (omega arith, (omega arith, tt))
-fields_small Chunk = (omega arith, (omega arith, (omega arith, tt)))
-fields_small ExtendedRequest = (omega arith, (omega arith, (omega arith, (omega arith, (omega arith, tt)))))
-fields_small ExtendedChunk = (omega arith, (omega arith, (omega arith, (omega arith, tt))))
+fields_small f = grind arith
 
 -- a line as its parts: a form, its numbers and its payload
 pub record Spells (line : List ℕ) (f : Form) (ns bytes : List ℕ) : Type 0 where
@@ -124,20 +74,11 @@ pub record Spells (line : List ℕ) (f : Form) (ns bytes : List ℕ) : Type 0 wh
   pub whole : line ≡ words f ++ (numbers_text (fields f) ns ++ end)
 
 spells : (line : List ℕ) (m : Message) (f : Form) → line_form m ≡ f → IsMessageLine line m → Spells line f (numbers m) (payload_of m)
-spells line m f e h =
-    let own : Spells line (line_form m) (numbers m) (payload_of m) = record {
-      end = h.end;
-      begins = record { within = h.within; whole = refl };
-      is_end = h.is_end;
-      whole = h.whole;
-    } in
-    subst (λ g. Spells line g (numbers m) (payload_of m)) e own
+spells line m f e h = grind arith
 
 -- a line that begins with the words of a form is of this form
 spells_rest : (line rest : List ℕ) (f : Form) (m : Message) → line ≡ words f ++ rest → IsMessageLine line m → Spells line f (numbers m) (payload_of m)
-spells_rest line rest f m e h =
-    let same = one_form f (line_form m) rest _ (sym e ∙ h.whole) in
-    spells line m f (sym same.0) h
+spells_rest line rest f m e h = grind (arith, one_form, spells)
 
 rest_of : (line rest : List ℕ) (f : Form) (ns bytes : List ℕ) (e : line ≡ words f ++ rest) (s : Spells line f ns bytes) → BeginsNumbers (fields f) ns rest s.end
 rest_of line rest f ns bytes e s = record { within = s.begins.within; whole = append_cancel_left (words f) rest _ (sym e ∙ s.whole) }
@@ -161,15 +102,7 @@ no_end line rest end f ns e reads none m h =
 -- the message of the parts that were read has the line
 pub from_parts : (line rest end : List ℕ) (f : Form) (ns bytes : List ℕ) (m : Message) → line ≡ words f ++ rest → ReadsNumbers (fields f) ns rest end
     → IsEnd (has_payload f) bytes end → line_form m ≡ f → numbers m ≡ ns → payload_of m ≡ bytes → IsMessageLine line m
-from_parts line rest end f ns bytes m e reads is_end ef en ec =
-    let s : Spells line f ns bytes = record {
-      end = end;
-      begins = record { within = reads.begins.within; whole = refl };
-      is_end = is_end;
-      whole = e ∙ ap (λ l. words f ++ l) reads.begins.whole;
-    } in
-    let own : Spells line (line_form m) (numbers m) (payload_of m) = rw (ef, en, ec) s in
-    record { end = own.end; within = own.begins.within; is_end = own.is_end; whole = own.whole }
+from_parts line rest end f ns bytes m e reads is_end ef en ec = grind arith
 
 -- a line stands for one message
 pub one_message : (line : List ℕ) (a b : Message) → IsMessageLine line a → IsMessageLine line b → a ≡ b

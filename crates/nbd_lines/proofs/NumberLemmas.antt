@@ -10,13 +10,7 @@ number_split f n behind = ap (λ l. space ∷ l) (append_assoc (field_name f.nam
 -- the first word after a field's name is the number's digits
 pub number_word : (f : Field) (n : ℕ) (text behind word rest : List ℕ) → f.most < 2 ^ 64 → BeginsNumber f n text behind
     → text ≡ space ∷ (field_name f.name ++ equals ∷ (word ++ rest)) → IsSpaceless word → EndsWord rest → (word ≡ decimal n) × (rest ≡ behind)
-number_word f n text behind word rest most b e s w =
-    let fits : n < 2 ^ 64 = let h = b.within in omega arith in
-    let both : space ∷ (field_name f.name ++ equals ∷ (word ++ rest)) ≡ space ∷ (field_name f.name ++ equals ∷ (decimal n ++ behind)) = sym e ∙ b.whole ∙ number_split f n behind in
-    let tails : field_name f.name ++ equals ∷ (word ++ rest) ≡ field_name f.name ++ equals ∷ (decimal n ++ behind) = cc in
-    let values : equals ∷ (word ++ rest) ≡ equals ∷ (decimal n ++ behind) = append_cancel_left (field_name f.name) _ _ tails in
-    let words : word ++ rest ≡ decimal n ++ behind = cc in
-    same_word word (decimal n) rest behind s (decimal_is_spaceless n fits) w b.ends words
+number_word f n text behind word rest most b e s w = grind (arith, number_split, append_cancel_left, same_word, decimal_is_spaceless)
 
 -- a text begins with one number in a field
 pub one_number : (f : Field) (m n : ℕ) (text x y : List ℕ) → f.most < 2 ^ 64 → BeginsNumber f m text x → BeginsNumber f n text y → (m ≡ n) × (x ≡ y)
@@ -52,24 +46,10 @@ pub record Split (f : Field) (fs : List Field) (ns text behind : List ℕ) : Typ
   pub goes_on : AreWithin fs others
 
 pub split_first : (f : Field) (fs : List Field) (ns text behind : List ℕ) → EndsWord behind → BeginsNumbers (f ∷ fs) ns text behind → Split f fs ns text behind
-split_first f fs [] text behind e b = absurd b.within
-split_first f fs (n ∷ ns) text behind e b = record {
-  first = n;
-  others = ns;
-  all = refl;
-  begins = record {
-    within = b.within.0;
-    whole = b.whole ∙ append_assoc (number_text f n) (numbers_text fs ns) behind;
-    ends = numbers_end fs ns behind e;
-  };
-  goes_on = b.within.1;
-}
+split_first f fs ns text behind e b = grind (arith, append_assoc, numbers_end)
 
 pub put_first : (f : Field) (fs : List Field) (n : ℕ) (ns text mid behind : List ℕ) → BeginsNumber f n text mid → BeginsNumbers fs ns mid behind → BeginsNumbers (f ∷ fs) (n ∷ ns) text behind
-put_first f fs n ns text mid behind a b = record {
-  within = (a.within, b.within);
-  whole = a.whole ∙ ap (λ l. number_text f n ++ l) b.whole ∙ sym (append_assoc (number_text f n) (numbers_text fs ns) behind);
-}
+put_first f fs n ns text mid behind a b = grind (arith, append_assoc)
 
 -- what the rest of a text is, after some numbers of it were read
 pub record Past (fs : List Field) (text : List ℕ) (k : ℕ) (values rest : List ℕ) : Type 0 where
@@ -99,8 +79,7 @@ one_past fs text k values rest f n behind hf hv past read =
     }
 
 pub no_more : (more rest behind : List ℕ) → BeginsNumbers [] more rest behind → (more ≡ []) × (rest ≡ behind)
-no_more [] rest behind b = (refl, b.whole)
-no_more (m ∷ ms) rest behind b = absurd b.within
+no_more more rest behind b = grind arith
 
 pub all_past : (fs : List Field) (text : List ℕ) (k : ℕ) (values rest : List ℕ) → k ≡ length fs → Past fs text k values rest → ReadsNumbers fs (take (length fs) values) text rest
 all_past fs text k values rest e past =
@@ -126,10 +105,7 @@ none_ahead fs text k values rest f hf past none ns behind e b =
 -- a text begins with one list of numbers in these fields
 pub one_list : (fs : List Field) → AllByRecursion (λ (f : Field). f.most < 2 ^ 64) fs → (ms ns text x y : List ℕ) → EndsWord x → EndsWord y
     → BeginsNumbers fs ms text x → BeginsNumbers fs ns text y → (ms ≡ ns) × (x ≡ y)
-one_list [] small ms ns text x y ex ey a b =
-    let first = no_more ms text x a in
-    let second = no_more ns text y b in
-    (first.0 ∙ sym second.0, sym first.1 ∙ second.1)
+one_list [] small ms ns text x y ex ey a b = grind (arith, no_more)
 one_list (f ∷ fs) small ms ns text x y ex ey a b =
     let first = split_first f fs ms text x ex a in
     let second = split_first f fs ns text y ey b in

@@ -1,5 +1,5 @@
 -- What is printed of contents is read again.
-use Rattle.nbd_lines.proofs.Common.{◌≡◌, ℕ, zero, suc, ◌+◌, ◌%◌, ◌==◌, ◌^◌, ◌<◌, ◌≤◌, Bool, true, false, if◌then◌else◌, List, [], ◌∷◌, ◌++◌, length, refl, sym, ap, ◌∙◌, subst, arith, append_assoc, append-nil, length-append, codes, decimal, decode_of-encode_lower, eqb-true, Option, Some, None, IsBytes, IsNumber, encode_lower, IsUnbroken, line_feed, space, AreContentsLines, AreHeld, Held, blank-line, comment-line, held, held_from, IsContentsLine, IsContentsText, IsValue, Piece, Told, are_zeroes, before_pieces, cut, join, joined, known, next-line, no-line, part, piece-line, piece_line, piece_lines, printed, shown, size-line, unknown, value_text, word, zeroes}
+use Rattle.nbd_lines.proofs.Common.{◌≡◌, ℕ, zero, suc, ◌+◌, ◌%◌, ◌==◌, ◌^◌, ◌<◌, ◌≤◌, Bool, true, false, if◌then◌else◌, List, [], ◌∷◌, ◌++◌, length, refl, sym, ap, ◌∙◌, subst, arith, append_assoc, append-nil, length-append, codes, decimal, decode_of-encode_lower, eqb-true, Option, Some, None, IsBytes, IsNumber, encode_lower, IsUnbroken, line_feed, space, AreContentsLines, AreHeld, Held, held, IsContentsLine, IsContentsText, IsValue, Piece, Told, are_zeroes, before_pieces, cut, join, joined, known, next-line, no-line, part, piece-line, piece_line, piece_lines, printed, shown, size-line, unknown, value_text, word, zeroes}
 use Rattle.nbd_capture.specs.Contents.Told.{nothing}
 use Rattle.nbd_capture.specs.Contents.{told}
 use Rattle.nbd_capture.proofs.ContentsTextLemmas.{one_reading}
@@ -9,10 +9,11 @@ use Rattle.nbd_export.specs.Ranges.{AreSameBelow}
 use Rattle.nbd_export.specs.declared.extents.Extents.{Extents}
 use Rattle.nbd_export.proofs.HeldLemmas.{held_from-same}
 use Rattle.nbd_capture.proofs.HeldLemmas.{length-unknown, length-zeroes}
-use Rattle.nbd_lines.proofs.WrittenLemmas.{printed_number, unbroken_append, unbroken_digits, unbroken_number}
+use Rattle.nbd_lines.proofs.WrittenLemmas.{printed_number, unbroken_digits, unbroken_number}
 use Rattle.std.proofs.Common.{map, replicate}
 use Rattle.std.proofs.lemmas.List.{replicate-append-replicate}
 use Rattle.std.specs.List.{AllByRecursion}
+use Rattle.nbd_capture.proofs.ReadingStepLemmas.{unbroken-append}
 
 -- ---- what pieces tell
 
@@ -22,12 +23,7 @@ all_told (p ∷ pieces) = told p ++ all_told pieces
 
 told_join : (p : Piece) (pieces : List Piece) → all_told (join p pieces) ≡ told p ++ all_told pieces
 unfolding all_told
-told_join p [] = first p
-  where
-    first : (p : Piece) → all_told (join p []) ≡ told p ++ []
-    first (unknown n) = refl
-    first (zeroes n) = refl
-    first (known bytes) = refl
+told_join p [] = grind (arith, all_told)
 told_join (unknown m) (unknown n ∷ pieces) = ap (λ l. l ++ all_told pieces) (sym (replicate-append-replicate {A = Option ℕ} m n None)) ∙ append_assoc (told (unknown m)) (told (unknown n)) (all_told pieces)
 told_join (unknown m) (zeroes n ∷ pieces) = refl
 told_join (unknown m) (known bytes ∷ pieces) = refl
@@ -38,21 +34,14 @@ told_join (known bytes) (p ∷ pieces) = refl
 
 map_zeroes_more : (b : ℕ) (bytes : List ℕ) (t : Bool) → (b == 0) ≡ t → (are_zeroes bytes ≡ true → replicate (length bytes) (Some 0) ≡ map Some bytes)
     → (if t then are_zeroes bytes else false) ≡ true → replicate (length (b ∷ bytes)) (Some 0) ≡ map Some (b ∷ bytes)
-map_zeroes_more b bytes true is more e = ap (λ l. Some 0 ∷ l) (more e) ∙ ap (λ x. Some x ∷ map Some bytes) (sym (eqb-true b 0 is))
-map_zeroes_more b bytes false is more e = cc e
+map_zeroes_more b bytes t is more e = grind (arith, eqb-true)
 
 map_zeroes : (bytes : List ℕ) → are_zeroes bytes ≡ true → replicate (length bytes) (Some 0) ≡ map Some bytes
 map_zeroes [] e = refl
 map_zeroes (b ∷ bytes) e = map_zeroes_more b bytes (b == 0) refl (map_zeroes bytes) e
 
-told_known : (bytes : List ℕ) (t : Bool) → are_zeroes bytes ≡ t → told (if t then zeroes (length bytes) else known bytes) ≡ told (known bytes)
-told_known bytes true e = map_zeroes bytes e
-told_known bytes false e = refl
-
 told_shown : (p : Piece) → told (shown p) ≡ told p
-told_shown (unknown n) = refl
-told_shown (zeroes n) = refl
-told_shown (known bytes) = told_known bytes (are_zeroes bytes) refl
+told_shown p = grind (arith, map_zeroes)
 
 told_joined : (pieces : List Piece) → all_told (joined pieces) ≡ all_told pieces
 unfolding all_told
@@ -61,12 +50,7 @@ told_joined (p ∷ pieces) = told_join (shown p) (joined pieces) ∙ ap (λ l. l
 
 told_before : (byte : ℕ) (t : Bool) (pieces : List Piece) → all_told (before_pieces byte t pieces) ≡ Some byte ∷ all_told pieces
 unfolding all_told
-told_before byte true [] = refl
-told_before byte true (p ∷ pieces) = refl
-told_before byte false [] = refl
-told_before byte false (unknown n ∷ pieces) = refl
-told_before byte false (zeroes n ∷ pieces) = refl
-told_before byte false (known bytes ∷ pieces) = refl
+told_before byte t pieces = grind arith
 
 told_cut : (offset : ℕ) (bytes : Held) → all_told (cut offset bytes) ≡ bytes
 unfolding all_told cut
@@ -85,37 +69,17 @@ abbrev AreFine : List Piece → Type 0
 AreFine pieces = AllByRecursion IsFine pieces
 
 fine_join : (p : Piece) (pieces : List Piece) → IsFine p → AreFine pieces → AreFine (join p pieces)
-fine_join (unknown m) [] f fs = (f, tt)
-fine_join (zeroes m) [] f fs = (f, tt)
-fine_join (known bytes) [] f fs = (f, tt)
-fine_join (unknown m) (unknown n ∷ pieces) f fs = (omega (arith, f), fs.1)
-fine_join (unknown m) (zeroes n ∷ pieces) f fs = (f, fs)
-fine_join (unknown m) (known bytes ∷ pieces) f fs = (f, fs)
-fine_join (zeroes m) (unknown n ∷ pieces) f fs = (f, fs)
-fine_join (zeroes m) (zeroes n ∷ pieces) f fs = (omega (arith, f), fs.1)
-fine_join (zeroes m) (known bytes ∷ pieces) f fs = (f, fs)
-fine_join (known bytes) (p ∷ pieces) f fs = (f, fs)
-
-fine_known : (bytes : List ℕ) (t : Bool) → IsFine (known bytes) → IsFine (if t then zeroes (length bytes) else known bytes)
-fine_known bytes true f = f.0
-fine_known bytes false f = f
+fine_join p pieces f fs = grind arith
 
 fine_shown : (p : Piece) → IsFine p → IsFine (shown p)
-fine_shown (unknown n) f = f
-fine_shown (zeroes n) f = f
-fine_shown (known bytes) f = fine_known bytes (are_zeroes bytes) f
+fine_shown p f = grind arith
 
 fine_joined : (pieces : List Piece) → AreFine pieces → AreFine (joined pieces)
 fine_joined [] fs = tt
 fine_joined (p ∷ pieces) fs = fine_join (shown p) (joined pieces) (fine_shown p fs.0) (fine_joined pieces fs.1)
 
 fine_before : (byte : ℕ) (t : Bool) (pieces : List Piece) → byte < 256 → AreFine pieces → AreFine (before_pieces byte t pieces)
-fine_before byte true [] small fs = ((omega arith, (small, tt)), tt)
-fine_before byte true (p ∷ pieces) small fs = ((omega arith, (small, tt)), fs)
-fine_before byte false [] small fs = ((omega arith, (small, tt)), tt)
-fine_before byte false (unknown n ∷ pieces) small fs = ((omega arith, (small, tt)), fs)
-fine_before byte false (zeroes n ∷ pieces) small fs = ((omega arith, (small, tt)), fs)
-fine_before byte false (known bytes ∷ pieces) small fs = ((omega arith, (small, fs.0.1)), fs.1)
+fine_before byte t pieces small fs = grind arith
 
 fine_cut : (offset : ℕ) (bytes : Held) → AreHeld bytes → AreFine (cut offset bytes)
 unfolding cut
@@ -141,16 +105,10 @@ unbroken_value (zeroes n) f fits = unbroken_number n (let l = length-zeroes n in
 unbroken_value (known bytes) f fits = unbroken_digits bytes (are_bytes bytes f.1)
 
 unbroken_word : (p : Piece) → IsUnbroken (word p)
-unbroken_word (unknown n) = (omega arith, (omega arith, (omega arith, (omega arith, (omega arith, (omega arith, (omega arith, tt)))))))
-unbroken_word (zeroes n) = (omega arith, (omega arith, (omega arith, (omega arith, tt))))
-unbroken_word (known bytes) = (omega arith, (omega arith, (omega arith, (omega arith, tt))))
+unbroken_word p = grind arith
 
 line_text : (p : Piece) (offset : ℕ) (rest : List ℕ) → piece_line offset p ++ rest ≡ (word p ++ space ∷ (decimal offset ++ space ∷ value_text p)) ++ line_feed ∷ rest
-line_text p offset rest =
-    append_assoc (word p) (space ∷ (decimal offset ++ space ∷ (value_text p ++ line_feed ∷ []))) rest
-    ∙ ap (λ l. word p ++ space ∷ l) (append_assoc (decimal offset) (space ∷ (value_text p ++ line_feed ∷ [])) rest ∙ ap (λ l. decimal offset ++ space ∷ l) (append_assoc (value_text p) (line_feed ∷ []) rest)
-    ∙ sym (append_assoc (decimal offset) (space ∷ value_text p) (line_feed ∷ rest)))
-    ∙ sym (append_assoc (word p) (space ∷ (decimal offset ++ space ∷ value_text p)) (line_feed ∷ rest))
+line_text p offset rest = grind (arith, append_assoc)
 
 lines_read : (n : ℕ) (before : Held) (offset : ℕ) (pieces : List Piece) → offset ≡ length before → AreFine pieces → length (before ++ all_told pieces) ≤ n → n < 2 ^ 63
     → AreContentsLines (part n before) (piece_lines offset pieces) (part n (before ++ all_told pieces))
@@ -164,7 +122,7 @@ lines_read n before offset (p ∷ pieces) is fs fits small =
     let form : IsContentsLine (part n before) (word p ++ space ∷ (decimal offset ++ space ∷ value_text p)) (part n (before ++ told p)) =
     piece-line n before p (decimal offset) (value_text p) number (value_read p fs.0 (omega (arith, all, both, fits, small))) (omega (arith, all, both, first, fits)) in
     let unbroken : IsUnbroken (word p ++ space ∷ (decimal offset ++ space ∷ value_text p)) =
-    unbroken_append (word p) _ (unbroken_word p) (omega arith, unbroken_append (decimal offset) _ (unbroken_number offset (omega (arith, is, all, fits, small))) (omega arith, unbroken_value p fs.0 (omega (arith, all, both, fits, small)))) in
+    unbroken-append (word p) _ (unbroken_word p) (omega arith, unbroken-append (decimal offset) _ (unbroken_number offset (omega (arith, is, all, fits, small))) (omega arith, unbroken_value p fs.0 (omega (arith, all, both, fits, small)))) in
     let joined_up : (before ++ told p) ++ all_told pieces ≡ before ++ (told p ++ all_told pieces) = append_assoc before (told p) (all_told pieces) in
     let len : length ((before ++ told p) ++ all_told pieces) ≤ n = omega (arith, ap length joined_up, fits) in
     let more = lines_read n (before ++ told p) (offset + length (told p)) pieces (omega (arith, first, is)) fs.1 len small in
@@ -198,10 +156,7 @@ sized (part n bytes) = n < 2 ^ 63
 
 sized_line : (before : Told) (line : List ℕ) (after : Told) → IsContentsLine before line after → sized before → sized after
 unfolding sized
-sized_line before line after (blank-line _) h = h
-sized_line before line after (comment-line _ anything) h = h
-sized_line before line after (size-line digits n number fits) h = fits
-sized_line before line after (piece-line n bytes p offset value number is_value fits) h = h
+sized_line before line after h k = grind arith
 
 sized_lines : (before : Told) (text : List ℕ) (after : Told) → AreContentsLines before text after → sized before → sized after
 sized_lines before text after (no-line _) h = h
@@ -213,5 +168,4 @@ small_size text bytes r = sized_lines nothing text (part (length bytes) bytes) r
 
 -- the same bytes print the same
 pub same_print : (e f : Extents) → size_of e ≡ size_of f → AreSameBelow (size_of e) (byte_of e) (byte_of f) → printed (held e) ≡ printed (held f)
-same_print e f size same =
-    ap printed (held_from-same (byte_of e) (byte_of f) 0 (size_of e) (λ x lo hi. same x (omega (arith, hi))) ∙ ap (held_from (byte_of f) 0) size)
+same_print e f size same = grind (arith, held_from-same)

@@ -1,8 +1,5 @@
 -- What is printed, part by part.
-use Rattle.nbd_lines.proofs.Common.{◌≡◌, ℕ, ◌+◌, ◌<◌, ◌≤◌, List, [], ◌∷◌, ◌++◌, length, take, drop, get_or, refl, sym, ap, ◌∙◌, append_assoc, append-nil, drop-cons, add-one, drop_all, Field, encode_lower, Message, end_text, message_line, payload_words, number_text, numbers_text, payload_of, fields, has_payload, line_form, numbers, words, AddsPrefix}
-
-pub adds_nothing : (old : List ℕ) → AddsPrefix old old
-adds_nothing old = record { prefix = []; whole = sym (append-nil old) }
+use Rattle.nbd_lines.proofs.Common.{arith, ◌≡◌, ℕ, ◌+◌, ◌<◌, ◌≤◌, List, [], ◌∷◌, ◌++◌, length, take, drop, get_or, refl, sym, ap, ◌∙◌, append_assoc, append-nil, drop-cons, add-one, drop_all, Field, encode_lower, Message, end_text, message_line, payload_words, number_text, numbers_text, payload_of, fields, has_payload, line_form, numbers, words, AddsPrefix}
 
 pub adds_more : (old mid new more : List ℕ) → AddsPrefix old mid → new ≡ mid ++ more → AddsPrefix old new
 adds_more old mid new more h e = record { prefix = h.prefix ++ more; whole = e ∙ ap (λ l. l ++ more) h.whole ∙ append_assoc old h.prefix more }
@@ -13,7 +10,7 @@ pub record Printing (fs : List Field) (ns : List ℕ) (k : ℕ) (old out : List 
   pub added : AddsPrefix old out
 
 pub none_printed : (fs : List Field) (ns : List ℕ) (old : List ℕ) → Printing fs ns 0 old old
-none_printed fs ns old = record { rest = refl; added = adds_nothing old }
+none_printed fs ns old = grind (arith, append-nil)
 
 pub one_printed : (fs : List Field) (ns : List ℕ) (k : ℕ) (old out new : List ℕ) (f : Field) (n : ℕ) → k < length fs → k < length ns
     → Printing fs ns k old out → new ≡ out ++ number_text (get_or fs k f) (get_or ns k n) → Printing fs ns (k + 1) old new
@@ -28,9 +25,7 @@ one_printed fs ns k old out new f n hf hn past e = record {
 }
 
 pub all_printed : (fs : List Field) (ns : List ℕ) (k : ℕ) (old out : List ℕ) → length fs ≤ k → Printing fs ns k old out → out ≡ old ++ numbers_text fs ns
-all_printed fs ns k old out h past =
-    let none : drop k fs ≡ [] = drop_all k fs h in
-    sym (append-nil out) ∙ sym (ap (λ l. out ++ numbers_text l (drop k ns)) none) ∙ past.rest
+all_printed fs ns k old out h past = grind (arith, drop_all, append-nil)
 
 pub adds_again : (old mid new : List ℕ) → AddsPrefix old mid → AddsPrefix mid new → AddsPrefix old new
 adds_again old mid new h more = adds_more old mid new more.prefix h more.whole
@@ -44,13 +39,7 @@ numbers_text-take (f ∷ fs) (n ∷ ns) = ap (λ l. number_text f n ++ l) (numbe
 pub line_printed : (m : Message) (ns old first second third : List ℕ) → take (length (fields (line_form m))) ns ≡ numbers m
     → first ≡ old ++ words (line_form m) → second ≡ first ++ numbers_text (fields (line_form m)) ns
     → third ≡ second ++ end_text (has_payload (line_form m)) (payload_of m) → third ≡ old ++ message_line m
-line_printed m ns old first second third same a b c =
-    let fs : List Field = fields (line_form m) in
-    let end : List ℕ = end_text (has_payload (line_form m)) (payload_of m) in
-    let own : numbers_text fs ns ≡ numbers_text fs (numbers m) = sym (numbers_text-take fs ns) ∙ ap (numbers_text fs) same in
-    c ∙ ap (λ l. l ++ end) (b ∙ ap (λ l. l ++ numbers_text fs ns) a ∙ ap (λ l. (old ++ words (line_form m)) ++ l) own)
-    ∙ append_assoc (old ++ words (line_form m)) (numbers_text fs (numbers m)) end
-    ∙ append_assoc old (words (line_form m)) (numbers_text fs (numbers m) ++ end)
+line_printed m ns old first second third same a b c = grind (arith, numbers_text-take, append_assoc)
 
 -- the words before a payload, and its digits
 pub end_printed : (old first second digits bytes : List ℕ) → first ≡ old ++ payload_words → digits ≡ encode_lower bytes → second ≡ first ++ digits → second ≡ old ++ (payload_words ++ encode_lower bytes)

@@ -1,5 +1,5 @@
 -- The pieces of what an export holds, from an offset on, as the program finds them.
-use Rattle.nbd_lines.proofs.Common.{◌≡◌, ℕ, zero, suc, ◌+◌, ◌-◌, ◌%◌, ◌<◌, ◌≤◌, Bool, true, false, ◌⊎◌, inl, inr, List, ◌∷◌, ◌++◌, length, get_or, refl, sym, ap, ◌∙◌, subst, arith, ne_eqb, eq-eqb, cases_lt, length-take-le, slice_index, take, if◌then◌else◌, Option, Some, None, Held, Piece, are_zeroes, cut, held_from, join, joined, known, shown, unknown, zeroes}
+use Rattle.nbd_lines.proofs.Common.{◌≡◌, ℕ, zero, suc, ◌+◌, ◌-◌, ◌%◌, ◌<◌, ◌≤◌, Bool, true, false, ◌⊎◌, List, ◌++◌, length, get_or, sym, ap, ◌∙◌, subst, arith, ne_eqb, eq-eqb, cases_lt, length-take-le, slice_index, take, Option, Some, None, Held, Piece, are_zeroes, cut, held_from, join, joined, known, shown, unknown, zeroes}
 use Rattle.nbd_export.proofs.HeldLemmas.{held_from-append, held_from-list}
 use Rattle.nbd_lines.proofs.PieceTextLemmas.{IsCut, cut_at_end, cut_at_multiple, cut_at_unknown, cut_known, cut_unknown, cut_zeroes}
 use Rattle.nbd_lines.specs.internal.Showing.{piece_of}
@@ -27,13 +27,7 @@ module _ (f : ℕ → Option ℕ) (size at end : ℕ) (behind : at < end) (withi
   -- no known piece goes on across an offset that is a multiple of 32, or the size, or unknown
   pub is_cut : ((end % 32) ≡ 0) ⊎ ((end ≡ size) ⊎ (f end ≡ None)) → IsCut end (held_from f end (size - end))
   unfolding held_from
-  is_cut (inl multiple) = cut_at_multiple end (held_from f end (size - end)) (eq-eqb (end % 32) 0 multiple)
-  is_cut (inr (inl all)) = (let n : size - end ≡ 0 = omega arith in subst (λ m. IsCut end (held_from f end m)) (sym n) (cut_at_end end))
-  is_cut (inr (inr none)) = go (size - end) refl
-    where
-      go : (n : ℕ) → size - end ≡ n → IsCut end (held_from f end (size - end))
-      go zero e = subst (λ m. IsCut end (held_from f end m)) (sym e) (cut_at_end end)
-      go (suc n) e = subst (λ m. IsCut end (held_from f end m)) (sym e) (subst (λ o. IsCut end (o ∷ held_from f (end + 1) n)) (sym none) (cut_at_unknown end (held_from f (end + 1) n)))
+  is_cut h = grind (arith, cut_at_multiple, eq-eqb, cut_at_end, cut_at_unknown)
 
   -- a number of bytes that is not 0
   counted : (P : ℕ → Type 0) → ((n : ℕ) → at + suc n ≡ end → P (suc n)) → P (end - at)
@@ -51,7 +45,7 @@ module _ (f : ℕ → Option ℕ) (size at end : ℕ) (behind : at < end) (withi
       let rest = held_from f end (size - end) in
       ap (λ l. joined (cut at l)) (split ∙ ap (λ l. l ++ rest) (same_from (replicate (end - at) (Some 0)) (length-replicate (end - at) (Some 0))
       (λ i lt. h (at + i) (omega arith) (omega arith) ∙ sym (get_or-replicate {A = Option ℕ} (end - at) i (Some 0) None lt))))
-      ∙ counted (λ n. joined (cut at (replicate n (Some 0) ++ rest)) ≡ join (zeroes n) (joined (cut end rest))) (λ n e. cut_zeroes at n end rest e border)
+      ∙ counted (λ n. joined (cut at (replicate n (Some 0) ++ rest)) ≡ join (zeroes n) (joined (cut end rest))) (λ n e. (cut_zeroes at n end rest e border).1)
 
   pub known_piece : (bytes : List ℕ) → length bytes ≡ end - at → ((i : ℕ) → i < end - at → f (at + i) ≡ Some (get_or bytes i 0))
       → ((x : ℕ) → at < x → x < end → x % 32 ≡ 0 → ⊥) → IsCut end (held_from f end (size - end)) → pieces_from f size at ≡ join (shown (known bytes)) (pieces_from f size end)
@@ -62,20 +56,12 @@ module _ (f : ℕ → Option ℕ) (size at end : ℕ) (behind : at < end) (withi
       (λ i lt. h i lt ∙ sym (get_or-map Some bytes i 0 None (omega (arith, len, lt))))))
       ∙ cut_known at bytes end rest whole behind (λ x lo hi. ne_eqb (x % 32) 0 (inside x lo hi)) border
 
--- how bytes are shown, by the test
-pub shown_zeroes : (n : ℕ) (bytes : List ℕ) → length bytes ≡ n → are_zeroes bytes ≡ true → zeroes n ≡ shown (known bytes)
-shown_zeroes n bytes len e = ap zeroes (sym len) ∙ sym (ap (λ b. if b then zeroes (length bytes) else known bytes) e)
-
-pub shown_known : (bytes : List ℕ) → are_zeroes bytes ≡ false → known bytes ≡ shown (known bytes)
-shown_known bytes e = sym (ap (λ b. if b then zeroes (length bytes) else known bytes) e)
-
 -- a kind was chosen by a test
 abbrev pub IsChosen : Kind → Bool → Type 0
 IsChosen kind test = ((test ≡ true) × (kind ≡ Zeroes)) ⊎ ((test ≡ false) × (kind ≡ Bytes))
 
 shown_by_test : (kind : Kind) (n : ℕ) (bytes : List ℕ) (test : Bool) → test ≡ are_zeroes bytes → IsChosen kind test → length bytes ≡ n → piece_of kind n bytes ≡ shown (known bytes)
-shown_by_test kind n bytes test e (inl h) len = ap (λ k. piece_of k n bytes) h.1 ∙ shown_zeroes n bytes len (sym e ∙ h.0)
-shown_by_test kind n bytes test e (inr h) len = ap (λ k. piece_of k n bytes) h.1 ∙ shown_known bytes (sym e ∙ h.0)
+shown_by_test kind n bytes test e h len = grind arith
 
 -- known bytes that were read up to the next cut, the size or the next unknown byte
 pub known_there : (f : ℕ → Option ℕ) (size at n room : ℕ) (into tail : List ℕ) (kind : Kind) → at < size → room ≡ min (32 - at % 32) (size - at) → length into ≡ room → n ≤ room
@@ -90,33 +76,19 @@ known_there f size at n room into tail kind inside room_is len few some h none t
     let fits : n ≤ length into = omega (arith, len, few) in
     let same : bytes ≡ take n into = take-append-le n into tail fits in
     let size_is : length bytes ≡ n = ap length same ∙ length-take-le n into fits in
-    let border : ((at + n) % 32 ≡ 0) ⊎ ((at + n ≡ size) ⊎ (f (at + n) ≡ None)) = elim (cases_lt n room) [
-      | inl less ↦ inr (inr (none less))
-      | inr all ↦ elim (cases_lt (size - at) (32 - at % 32)) [
-        | inl end ↦ inr (inl (omega arith))
-        | inr cell ↦ inl (omega arith)
-      ]
-    ] in
+    let border : ((at + n) % 32 ≡ 0) ⊎ ((at + n ≡ size) ⊎ (f (at + n) ≡ None)) = grind (arith, cases_lt n room, cases_lt (size - at) (32 - at % 32)) in
     known_piece f size at (at + n) (omega arith) (omega arith) bytes (omega (arith, size_is))
     (λ i lt. let l : i < n = omega arith in h i l ∙ ap Some (sym (ap (λ b. get_or b i 0) same ∙ get_or-take n into i 0 l)))
     (λ x lo hi e. omega arith) (is_cut f size at (at + n) (omega arith) (omega arith) border)
     ∙ ap (λ p. join p (pieces_from f size (at + n))) (sym (shown_by_test kind n bytes test tested chosen size_is) ∙ ap (λ k. piece_of kind k (take k (into ++ tail))) (sym m))
   where
     at_least : (n room : ℕ) → 0 < room → (f : ℕ → Option ℕ) (at : ℕ) → IsSome (f at) → (n < room → f (at + n) ≡ None) → 0 < n
-    at_least zero room least f at some none = (let z : at + 0 ≡ at = omega arith in let no : f at ≡ None = ap f (sym z) ∙ none least in absurd (no_some (f at) some no))
-      where
-        no_some : (o : Option ℕ) → IsSome o → o ≡ None → ⊥
-        no_some None some e = cc some
-        no_some (Some b) some e = cc e
+    at_least zero room least f at some none = let z : at + 0 ≡ at = omega arith in grind (arith, z)
     at_least (suc n) room least f at some none = omega arith
 
 -- what a range of a kind says of its bytes
 pub of_unknown : (kind : Kind) (byte : Option ℕ) → kind ≡ Unknown → IsOfKind kind byte → byte ≡ None
-of_unknown Unknown byte e h = h
-of_unknown Zeroes byte e h = cc e
-of_unknown Bytes byte e h = cc e
+of_unknown kind byte e h = grind arith
 
 pub of_zeroes : (kind : Kind) (byte : Option ℕ) → kind ≡ Zeroes → IsOfKind kind byte → byte ≡ Some 0
-of_zeroes Unknown byte e h = cc e
-of_zeroes Zeroes byte e h = h
-of_zeroes Bytes byte e h = cc e
+of_zeroes kind byte e h = grind arith

@@ -1,5 +1,5 @@
 -- What of printed contents is not written yet, while their pieces are gone through.
-use Rattle.nbd_lines.proofs.Common.{◌≡◌, ℕ, zero, suc, ◌+◌, ◌-◌, ◌<◌, ◌≤◌, List, [], ◌∷◌, ◌++◌, AreHeld, IfSome, None, Some, cases_lt, length, refl, sym, ap, ◌∙◌, subst, arith, append-nil, ◌⊎◌, inl, inr, Option, Appends, AppendsPrefix, Piece, cut, held_from, join, joined, known, piece_line, piece_lines, printed, size_line, unknown, zeroes}
+use Rattle.nbd_lines.proofs.Common.{◌≡◌, ℕ, zero, suc, ◌+◌, ◌-◌, ◌<◌, ◌≤◌, List, [], ◌∷◌, ◌++◌, AreHeld, IfSome, Some, cases_lt, length, refl, sym, ap, ◌∙◌, subst, arith, append-nil, ◌⊎◌, inl, inr, Option, Appends, AppendsPrefix, Piece, cut, held_from, join, joined, known, piece_line, piece_lines, printed, size_line, unknown, zeroes}
 use Rattle.nbd_capture.specs.Contents.{told}
 use Rattle.nbd_export.proofs.HeldLemmas.{length-held_from}
 use Rattle.nbd_capture.proofs.HeldLemmas.{length-known, length-unknown, length-zeroes}
@@ -27,9 +27,7 @@ lines_of : (p : Piece) (offset end : ℕ) (pieces : List Piece) → offset + len
 lines_of p offset end pieces e = ap (λ o. piece_line offset p ++ piece_lines o pieces) e
 
 known_line : (at end : ℕ) (bytes : List ℕ) (pieces : List Piece) → at < end → length bytes ≡ end - at → piece_lines at (join (known bytes) pieces) ≡ piece_line at (known bytes) ++ piece_lines end pieces
-known_line at end bytes pieces lt len =
-    let size = length-known bytes in
-    ap (piece_lines at) (join_known bytes pieces) ∙ lines_of (known bytes) at end pieces (omega (arith, size, len, lt))
+known_line at end bytes pieces lt len = grind (arith, length-known, join_known, lines_of)
 
 -- the next piece of the same kind
 pub stays : (kind : Kind) (from at end : ℕ) (bytes : List ℕ) (pieces : List Piece) → from ≤ at → at < end → (kind ≡ Bytes → length bytes ≡ end - at)
@@ -54,40 +52,25 @@ zeroes_before from at pieces le = let n = length-zeroes (at - from) in lines_of 
 -- the next piece of another kind
 ends : (kind next : Kind) (from at end : ℕ) (bytes : List ℕ) (pieces : List Piece) → (kind ≡ next → ⊥) → from ≤ at
     → unwritten kind from at (join (piece_of next (end - at) bytes) pieces) ≡ run_line kind from (at - from) ++ piece_lines at (join (piece_of next (end - at) bytes) pieces)
-ends Unknown Unknown from at end bytes pieces ne le = absurd (ne refl)
 ends Unknown Zeroes from at end bytes pieces ne le = ap (piece_lines from) (apart_unknown_zeroes (at - from) (end - at) pieces) ∙ unknown_before from at (join (zeroes (end - at)) pieces) le
 ends Unknown Bytes from at end bytes pieces ne le =
     ap (λ l. piece_lines from (join (unknown (at - from)) l)) (join_known bytes pieces) ∙ unknown_before from at (known bytes ∷ pieces) le ∙ ap (λ l. piece_line from (unknown (at - from)) ++ piece_lines at l) (sym (join_known bytes pieces))
 ends Zeroes Unknown from at end bytes pieces ne le = ap (piece_lines from) (apart_zeroes_unknown (at - from) (end - at) pieces) ∙ zeroes_before from at (join (unknown (end - at)) pieces) le
-ends Zeroes Zeroes from at end bytes pieces ne le = absurd (ne refl)
 ends Zeroes Bytes from at end bytes pieces ne le =
     ap (λ l. piece_lines from (join (zeroes (at - from)) l)) (join_known bytes pieces) ∙ zeroes_before from at (known bytes ∷ pieces) le ∙ ap (λ l. piece_line from (zeroes (at - from)) ++ piece_lines at l) (sym (join_known bytes pieces))
-ends Bytes Unknown from at end bytes pieces ne le = refl
-ends Bytes Zeroes from at end bytes pieces ne le = refl
-ends Bytes Bytes from at end bytes pieces ne le = absurd (ne refl)
+ends kind next from at end bytes pieces ne le = grind arith
 
 pub turns : (kind next : Kind) (from at end : ℕ) (bytes : List ℕ) (pieces : List Piece) → (kind ≡ next → ⊥) → from ≤ at → at < end → (next ≡ Bytes → length bytes ≡ end - at)
     → unwritten kind from at (join (piece_of next (end - at) bytes) pieces) ≡ run_line kind from (at - from) ++ with_next next at at end bytes pieces
-turns kind next from at end bytes pieces ne le lt len =
-    ends kind next from at end bytes pieces ne le ∙ ap (λ l. run_line kind from (at - from) ++ l) (begins next at end bytes pieces lt len)
+turns kind next from at end bytes pieces ne le lt len = grind (arith, ends, begins)
 
 -- behind the last piece
 pub at_the_end : (kind : Kind) (from at : ℕ) → unwritten kind from at [] ≡ run_line kind from (at - from)
-at_the_end Unknown from at = append-nil (piece_line from (unknown (at - from)))
-at_the_end Zeroes from at = append-nil (piece_line from (zeroes (at - from)))
-at_the_end Bytes from at = refl
+at_the_end kind from at = grind (arith, append-nil)
 
 -- kinds are the same or not
 same_kinds : (kind next : Kind) → (kind ≡ next) ⊎ (kind ≡ next → ⊥)
-same_kinds Unknown Unknown = inl refl
-same_kinds Unknown Zeroes = inr (λ e. cc e)
-same_kinds Unknown Bytes = inr (λ e. cc e)
-same_kinds Zeroes Unknown = inr (λ e. cc e)
-same_kinds Zeroes Zeroes = inl refl
-same_kinds Zeroes Bytes = inr (λ e. cc e)
-same_kinds Bytes Unknown = inr (λ e. cc e)
-same_kinds Bytes Zeroes = inr (λ e. cc e)
-same_kinds Bytes Bytes = inl refl
+same_kinds kind next = grind arith
 
 -- the lines that are left
 abbrev pub Left : Option (List ℕ) → Option (List ℕ) → (all rest : List ℕ) → Type 0
@@ -122,20 +105,14 @@ run_broken old mid new all kind next from at end bytes lines pieces le lt len e 
 
 -- what is unwritten behind a piece that is no line of bytes, and behind one that is
 pub run_goes_on : (kind : Kind) (begun at end : ℕ) (bytes : List ℕ) (pieces : List Piece) → (kind ≡ Bytes → ⊥) → with_next kind begun at end bytes pieces ≡ unwritten kind begun end pieces
-run_goes_on Unknown begun at end bytes pieces ne = refl
-run_goes_on Zeroes begun at end bytes pieces ne = refl
-run_goes_on Bytes begun at end bytes pieces ne = absurd (ne refl)
+run_goes_on kind begun at end bytes pieces ne = grind arith
 
 pub bytes_follow : (kind : Kind) (begun at end : ℕ) (bytes : List ℕ) (pieces : List Piece) → kind ≡ Bytes → with_next kind begun at end bytes pieces ≡ piece_line at (known bytes) ++ unwritten kind begun end pieces
-bytes_follow kind begun at end bytes pieces e =
-    ap (λ k. with_next k begun at end bytes pieces) e ∙ ap (λ k. piece_line at (known bytes) ++ unwritten k begun end pieces) (sym e)
+bytes_follow kind begun at end bytes pieces e = grind arith
 
 -- all of it is the line of the size, and the lines of the pieces from 0 on
 pub from_0 : (f : ℕ → Option ℕ) (size : ℕ) → printed (held_from f 0 size) ≡ size_line size ++ unwritten Bytes 0 0 (pieces_from f size 0)
-from_0 f size =
-    let all : size ≡ size - 0 = omega arith in
-    ap (λ n. size_line n ++ piece_lines 0 (joined (cut 0 (held_from f 0 size)))) (length-held_from f 0 size)
-    ∙ ap (λ n. size_line size ++ piece_lines 0 (joined (cut 0 (held_from f 0 n)))) all
+from_0 f size = grind (arith, length-held_from)
 
 -- no piece is left at the size
 pub none_left : (f : ℕ → Option ℕ) (size at : ℕ) → size ≤ at → pieces_from f size at ≡ []
@@ -149,10 +126,7 @@ all_written old new all past = subst (Appends old new) (sym (past.whole ∙ appe
 -- what is known of the bytes below an offset, and of the next ones, is bytes
 pub more_bytes : (f : ℕ → Option ℕ) (at end : ℕ) → ((x : ℕ) → 0 ≤ x → x < at → IfSome (f x) (λ b. b < 256)) → ((x : ℕ) → at ≤ x → x < end → IfSome (f x) (λ b. b < 256))
     → (x : ℕ) → 0 ≤ x → x < end → IfSome (f x) (λ b. b < 256)
-more_bytes f at end below next x lo hi = elim (cases_lt x at) [
-  | inl less ↦ below x lo less
-  | inr more ↦ next x more hi
-]
+more_bytes f at end below next x lo hi = grind (arith, cases_lt)
 
 -- as a list
 pub are_held : (f : ℕ → Option ℕ) (offset n : ℕ) → ((x : ℕ) → offset ≤ x → x < offset + n → IfSome (f x) (λ b. b < 256)) → AreHeld (held_from f offset n)
@@ -162,5 +136,4 @@ are_held f offset (suc n) h = (h offset (omega arith) (omega arith), are_held f 
 
 -- a byte that is known, one that is 0 and one that is unknown
 pub byte_if_known : (o : Option ℕ) (b : ℕ) → o ≡ Some b → b < 256 → IfSome o (λ b. b < 256)
-byte_if_known None b e small = tt
-byte_if_known (Some a) b e small = let same : a ≡ b = cc in omega (arith, same, small)
+byte_if_known o b e small = grind arith

@@ -23,9 +23,7 @@ module _ (line : Message → List ℕ) where
 
   pub one_written : (old mid new : Option (List ℕ)) (all : List Message) (k : ℕ) (m : Message) → k < length all → m ≡ get_or all k m → Written old mid all k
       → Appends mid new (line m) → Written old new all (k + 1)
-  one_written old mid new all k m h e past more =
-      let own : Appends mid new (line (get_or all k m)) = subst (λ x. Appends mid new (line x)) e more in
-      subst (Appends old new) (sym (one_line all k m h)) (Appends-trans old mid new (flat_map line (take k all)) (line (get_or all k m)) past own)
+  one_written old mid new all k m h e past more = grind (arith, one_line, Appends-trans)
 
   -- a fault in a line
   pub broken_line : (old mid new : Option (List ℕ)) (all : List Message) (k : ℕ) (m : Message) → k < length all → m ≡ get_or all k m → Written old mid all k

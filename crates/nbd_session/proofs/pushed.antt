@@ -2,4 +2,3 @@ pub mod HoldingLemmas
 pub mod NoteLemmas
 pub mod OpenByteLemmas
 pub mod PushLemmas
-pub mod StretchLemmas

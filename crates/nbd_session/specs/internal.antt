@@ -2,9 +2,7 @@ pub mod Asking
 pub mod Counted
 pub mod Expecting
 pub mod Holdings
-pub mod Incoming
 pub mod Known
 pub mod Leading
 pub mod Standing
 pub mod Steps
-pub mod Stopped

@@ -3,12 +3,13 @@
 ghost use Rattle.std.specs.Prelude.{◌≡◌, ◌+◌, ◌<◌, ◌≤◌, ◌^◌, [], drop, length, IfErr, IfOk, None, OnErr, OnOk, Some};
 ghost use Rattle.nbd_wire.specs.protocol.States.{start_of};
 ghost use Rattle.nbd_session.specs.Incoming.{incoming_with, nothing_come};
+ghost use Rattle.nbd_session.specs.Pushed.{stretch_bytes};
 ghost use Rattle.nbd_session.specs.internal.Holdings.{holding_of, incoming_of, with_expected, with_incoming};
 ghost use Rattle.nbd_session.specs.Views.{stretches_of, session_view};
 ghost use Rattle.nbd_session.specs.internal.Known.{awaited};
 ghost use Rattle.nbd_session.specs.Sessions.{fault_at_end};
 ghost use Rattle.nbd_state.specs.Shows.{Shows};
-ghost use Rattle.nbd_session.specs.internal.Standing.{count_at_server, rest_of, stretch_total, stretches_with};
+ghost use Rattle.nbd_session.specs.internal.Standing.{count_at_server, rest_of, stretches_with};
 ghost use Rattle.nbd_session.specs.internal.Steps.{AddsHeld, IsExpecting, IsHeadRefused, IsRefused, IsSame, IsShut, IsTaken, IsWhole, Knows, Stands};
 ghost use Rattle.nbd_session.specs.declared.fault.SessionFault.TheVariants.{Memory};
 
@@ -136,7 +137,7 @@ impl Held {
     fn take(&mut self, side: Side, piece: &[u8]) -> Result<(), AllocError>
         requires room { (incoming_of self.old side).expected ≡ None →
             length (incoming_of self.old side).head + length piece.now ≤ 32 }
-        requires stretches { stretch_total side (stretches_of self.old.stretches.items) + length piece.now < 2 ^ 64 }
+        requires stretches { stretch_bytes side (stretches_of self.old.stretches.items) + length piece.now < 2 ^ 64 }
         requires fits { self.old.taken + length piece.now < 2 ^ 64 }
         ensures incoming { OnOk result (self.new ≡ record (with_incoming self.old side (incoming_with
             (incoming_of self.old side) piece.now)) {

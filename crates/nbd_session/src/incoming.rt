@@ -1,10 +1,10 @@
 //! The bytes of a side that belong to no completed message.
 
-ghost use Rattle.std.specs.Prelude.{◌≡◌, ◌+◌, ◌≤◌, ◌<◌, ◌^◌, ◌++◌, length, IfOk, None, OnErr, OnOk, Some};
+ghost use Rattle.std.specs.Prelude.{◌≡◌, ◌==◌, ◌+◌, ◌≤◌, ◌<◌, ◌^◌, ◌++◌, length, IfOk, None, OnErr, OnOk, Some};
 ghost use Rattle.nbd_session.specs.Incoming.{incoming_with, nothing_come};
 ghost use Rattle.nbd_session.specs.Views.{stretches_of};
-ghost use Rattle.nbd_session.specs.internal.Incoming.{is_nothing};
-ghost use Rattle.nbd_session.specs.internal.Standing.{stretch_total, stretches_with};
+ghost use Rattle.nbd_session.specs.Pushed.{stretch_bytes};
+ghost use Rattle.nbd_session.specs.internal.Standing.{stretches_with};
 
 use crate::expected::Expected;
 use crate::stretches::{Stretch, note};
@@ -56,7 +56,7 @@ impl Incoming {
 
     /// No byte has come.
     pub(crate) fn is_empty(&self) -> bool
-        ensures { result ≡ is_nothing self.now.head }
+        ensures { result ≡ (length self.now.head == 0) }
     {
         self.head().is_empty()
     }
@@ -90,7 +90,7 @@ impl Incoming {
         piece: &[u8],
     ) -> Result<(), AllocError>
         requires room { self.old.expected ≡ None → length self.old.head + length piece.now ≤ 32 }
-        requires fits { stretch_total side (stretches_of stretches.old.items) + length piece.now < 2 ^ 64 }
+        requires fits { stretch_bytes side (stretches_of stretches.old.items) + length piece.now < 2 ^ 64 }
         ensures bytes { OnOk result (self.new ≡ incoming_with self.old piece.now) }
         ensures stretches { OnOk result (stretches_of stretches.new.items ≡ stretches_with
             (stretches_of stretches.old.items) side (length piece.now)) }
@@ -135,7 +135,7 @@ fn append(
     side: Side,
     piece: &[u8],
 ) -> Result<(), AllocError>
-    requires { stretch_total side (stretches_of stretches.old.items) + length piece.now < 2 ^ 64 }
+    requires { stretch_bytes side (stretches_of stretches.old.items) + length piece.now < 2 ^ 64 }
     ensures bytes { OnOk result (bytes.new.items ≡ bytes.old.items ++ piece.now) }
     ensures stretches { OnOk result (stretches_of stretches.new.items ≡ stretches_with
         (stretches_of stretches.old.items) side (length piece.now)) }

@@ -2,8 +2,9 @@
 
 ghost use Rattle.std.specs.Prelude.{◌≡◌, ◌+◌, ◌-◌, ◌<◌, ◌^◌, length, OnErr, OnOk, slice_get};
 ghost use Rattle.nbd_session.specs.Views.{stretches_of};
+ghost use Rattle.nbd_session.specs.Pushed.{stretch_bytes};
 ghost use Rattle.nbd_session.specs.internal.Holdings.{is_of};
-ghost use Rattle.nbd_session.specs.internal.Standing.{stretch_total, stretches_with};
+ghost use Rattle.nbd_session.specs.internal.Standing.{stretches_with};
 
 use nbd_wire::Side;
 use std::alloc::AllocError;
@@ -17,7 +18,7 @@ pub(crate) struct Stretch {
 
 /// Notes that so many bytes of a side come next. An `Err` says that memory ran out; then nothing has changed.
 pub(crate) fn note(stretches: &mut Vec<Stretch>, side: Side, count: u64) -> Result<(), AllocError>
-    requires { stretch_total side (stretches_of stretches.old.items) + count < 2 ^ 64 }
+    requires { stretch_bytes side (stretches_of stretches.old.items) + count < 2 ^ 64 }
     ensures noted { OnOk result (stretches_of stretches.new.items ≡ stretches_with
         (stretches_of stretches.old.items) side count) }
     ensures unchanged { OnErr result (stretches_of stretches.new.items ≡ stretches_of stretches.old.items) }

@@ -1,5 +1,5 @@
 -- What a state shows once a message has completed.
-use Rattle.nbd_state.proofs.Common.{◌≡◌, ℕ, zero, suc, ◌<◌, ◌==◌, ◌&&◌, List, [], ◌∷◌, ◌++◌, length, refl, sym, ◌∙◌, ap, subst, Option, Some, None, Bool, true, false, if◌then◌else◌, arith, slice_get, slice_index_or, slice_set, Result, Ok, Err, IfOk, OnOk, ◌^◌, slice_get_read, place_at, Message, Operation, Exporting, ends_reply, is_finished, cookie_of, core_with_reply, noted, reply_to, shown_with, target_of, Context, Core, Transmission, with_reply_at, operation, target, with_reply, export_in, in_force, Asked, Exchange, Counts, Export, State, AddsUnanswered, IsShown, exporting, IsReached, AreAskedWith, asked_answered, asked_snoc, AreShown, HasSelection, Shows, ended_if, export_shown, phase_shown, place_of, shown_if, shown_in, IsNotedWith, InPhase, open_target, sound, known_if}
+use Rattle.nbd_state.proofs.Common.{◌≡◌, ℕ, zero, suc, ◌<◌, ◌==◌, ◌&&◌, List, [], ◌∷◌, ◌++◌, length, refl, sym, ◌∙◌, ap, subst, Option, Some, None, Bool, false, if◌then◌else◌, arith, slice_get, slice_index_or, slice_set, Result, IfOk, OnOk, ◌^◌, slice_get_read, place_at, Message, Operation, Exporting, ends_reply, is_finished, cookie_of, core_with_reply, noted, reply_to, shown_with, target_of, Context, Core, Transmission, with_reply_at, operation, target, with_reply, export_in, in_force, Asked, Exchange, Counts, Export, State, AddsUnanswered, IsShown, exporting, IsReached, AreAskedWith, asked_answered, asked_snoc, AreShown, HasSelection, Shows, ended_if, phase_shown, place_of, shown_if, shown_in, IsNotedWith, InPhase, open_target, sound, known_if}
 use Rattle.nbd_wire.specs.protocol.States as definitions
 use Rattle.nbd_state.specs.declared.state.Phase.TheVariants as shown
 use Rattle.nbd_laws.proofs.requests.ContextLemmas.{asked_at}
@@ -8,10 +8,8 @@ use Rattle.nbd_state.proofs.PlacedLemmas.{IsPlaced, are_shown_in, place_shows_op
 use Rattle.nbd_state.proofs.TargetLemmas.{distinct_reached, target_replied, target_requested}
 
 shown_snoc : (export : Exporting) (es : List Operation) (xs : List Exchange) (e : Operation) (x : Exchange) → AreShown (Some export) es xs → IsShown export e x → AreShown (Some export) (es ++ e ∷ []) (xs ++ x ∷ [])
-shown_snoc export [] [] e x s h = (h, tt)
-shown_snoc export [] (y ∷ xs) e x s h = absurd s
-shown_snoc export (d ∷ es) [] e x s h = absurd s
 shown_snoc export (d ∷ es) (y ∷ xs) e x s h = (s.0, shown_snoc export es xs e x s.1 h)
+shown_snoc export es xs e x s h = grind arith
 
 shown_answered : (export : Exporting) (k : ℕ) (m : Message) (es : List Operation) (xs : List Exchange) (e : Operation) (y : Exchange) → AreShown (Some export) es xs → operation (suc k) es ≡ Some e → IsShown export (with_reply e m) y →
     AreShown (Some export) (with_reply_at (suc k) m es) (slice_set xs k y)
@@ -23,73 +21,27 @@ shown_answered export (suc k) m (d ∷ es) (x ∷ xs) e y s i h = (s.0, shown_an
 -- before transmission there are none
 none_shown : (o p : Option Exporting) (es : List Operation) (xs : List Exchange) → o ≡ None → AreShown o es xs → AreShown p es xs
 none_shown o p [] [] n s = tt
-none_shown o p [] (x ∷ xs) n s = absurd (let h : length {A = Operation} [] ≡ length (x ∷ xs) = shown_length o [] (x ∷ xs) s in omega arith)
-none_shown o p (e ∷ es) [] n s = absurd (let h : length (e ∷ es) ≡ length {A = Exchange} [] = shown_length o (e ∷ es) [] s in omega arith)
-none_shown (Some export) p (e ∷ es) (x ∷ xs) n s = absurd (cc)
-none_shown None p (e ∷ es) (x ∷ xs) n s = absurd s
+none_shown o p es xs n s = grind (arith, shown_length)
 
 -- before transmission none was asked
 none_asked : (o : Option Exporting) (contexts : List Context) (es : List Operation) (xs : List Exchange) → o ≡ None → AreShown o es xs → AreAskedWith contexts es
 none_asked o contexts [] xs n s = tt
-none_asked o contexts (e ∷ es) [] n s = absurd (let h : length (e ∷ es) ≡ length {A = Exchange} [] = shown_length o (e ∷ es) [] s in omega arith)
-none_asked (Some export) contexts (e ∷ es) (x ∷ xs) n s = absurd (cc)
-none_asked None contexts (e ∷ es) (x ∷ xs) n s = absurd s
+none_asked o contexts es xs n s = grind (arith, shown_length)
 
 place_if : (b : Bool) (t : Option ℕ) → (if b then None else place_of t) ≡ place_of (if b then None else t)
-place_if true t = refl
-place_if false t = refl
-
-place_if_last : (b : Bool) (n j : ℕ) (t : Option ℕ) → n ≡ j → (if b then Some n else place_of t) ≡ place_of (if b then Some (suc j) else t)
-place_if_last true n j t e = ap Some (omega (arith, e))
-place_if_last false n j t e = refl
+place_if b t = grind arith
 
 -- a message of the negotiation changes the phase and what it says of the handshake
 pub negotiation_is_shown : (old new : State) (core next : Core) → Shows old core → export_in core.phase ≡ None → next.entries ≡ core.entries → next.shown ≡ core.shown → next.ended_at ≡ core.ended_at → new.exchanges ≡ old.exchanges → new.outstanding ≡ old.outstanding →
     new.profile ≡ next.profile → new.phase ≡ phase_shown next.phase → new.offered ≡ next.offered → new.client_flags ≡ next.client_flags → new.structured ≡ next.structured → new.extended ≡ next.extended → new.disconnected ≡ next.disconnected →
     HasSelection new.selection next.selection → new.brings_contexts ≡ next.brings_contexts → new.sizing ≡ next.sizing → Shows new next
-negotiation_is_shown old new core next s n entries shown ended exchanges outstanding profile phase offered client_flags structured extended disconnected selection agreed sizing = record {
-  profile_is = profile;
-  phase_is = phase;
-  offered_is = offered;
-  client_flags_are = client_flags;
-  structured_is = structured;
-  extended_is = extended;
-  selection_is = selection;
-  brings_contexts_is = agreed;
-  sizing_is = sizing;
-  disconnected_is = disconnected;
-  asked_with = subst (AreAskedWith (in_force next)) (sym entries) (none_asked (export_in core.phase) (in_force next) core.entries old.exchanges.items n s.are_shown);
-  are_shown = subst (λ es. AreShown (export_in next.phase) es new.exchanges.items) (sym entries)
-      (subst (λ v. AreShown (export_in next.phase) core.entries v.items) (sym exchanges) (none_shown (export_in core.phase) (export_in next.phase) core.entries old.exchanges.items n s.are_shown));
-  shown = λ place. ap (λ f. f (suc place)) shown ∙ s.shown place ∙ ap (λ v. shown_if (slice_get v.items place)) (sym exchanges);
-  ended = λ place. ap (λ f. f (suc place)) ended ∙ s.ended place ∙ ap (λ v. ended_if (slice_get v.items place)) (sym exchanges);
-  places = λ cookie. ap (λ o. place_at o cookie) outstanding ∙ s.places cookie ∙ ap (λ es. place_of (target cookie es)) (sym entries);
-}
+negotiation_is_shown old new core next s n e q ended h t l k m r f g h14 h15 agreed h17 = grind (arith, none_asked, none_shown)
 
 -- one more request
 pub requested_shows : (old new : State) (core : Core) (export : Exporting) (e : Operation) (x : Exchange) → Shows old core → core.phase ≡ Transmission export → e.replies ≡ [] → e.contexts ≡ in_force core → target e.cookie core.entries ≡ None → IsShown export e x →
     new.exchanges.items ≡ old.exchanges.items ++ x ∷ [] → ((q : ℕ) → place_at new.outstanding q ≡ (if e.cookie == q then Some (length old.exchanges.items) else place_at old.outstanding q)) →
     new ≡ record old { exchanges = new.exchanges; outstanding = new.outstanding } → Shows new (record core { entries = core.entries ++ e ∷ [] })
-requested_shows old new core export e x s p r asked t h items places kept = record {
-  asked_with = asked_snoc (in_force core) core.entries e s.asked_with asked;
-  profile_is = ap (λ (z : State). z.profile) kept ∙ s.profile_is;
-  phase_is = ap (λ (z : State). z.phase) kept ∙ s.phase_is;
-  offered_is = ap (λ (z : State). z.offered) kept ∙ s.offered_is;
-  client_flags_are = ap (λ (z : State). z.client_flags) kept ∙ s.client_flags_are;
-  structured_is = ap (λ (z : State). z.structured) kept ∙ s.structured_is;
-  extended_is = ap (λ (z : State). z.extended) kept ∙ s.extended_is;
-  selection_is = subst (λ z. HasSelection z core.selection) (sym (ap (λ (z : State). z.selection) kept)) s.selection_is;
-  brings_contexts_is = ap (λ (z : State). z.brings_contexts) kept ∙ s.brings_contexts_is;
-  sizing_is = ap (λ (z : State). z.sizing) kept ∙ s.sizing_is;
-  disconnected_is = ap (λ (z : State). z.disconnected) kept ∙ s.disconnected_is;
-  are_shown = subst (λ (q : definitions.Phase). AreShown (export_in q) (core.entries ++ e ∷ []) new.exchanges.items) (sym p)
-      (subst (λ xs. AreShown (Some export) (core.entries ++ e ∷ []) xs) (sym items) (shown_snoc export core.entries old.exchanges.items e x (are_shown_in old core export s p) h));
-  shown = λ place. s.shown place ∙ shown_added old.exchanges.items x place (fresh export e x h r).1 ∙ ap (λ xs. shown_if (slice_get xs place)) (sym items);
-  ended = λ place. s.ended place ∙ ended_added old.exchanges.items x place (fresh export e x h r).0 ∙ ap (λ xs. ended_if (slice_get xs place)) (sym items);
-  places = λ q. places q ∙ ap (λ o. if e.cookie == q then Some (length old.exchanges.items) else o) (s.places q)
-      ∙ place_if_last (e.cookie == q) (length old.exchanges.items) (length core.entries) (target q core.entries) (sym (shown_length (export_in core.phase) core.entries old.exchanges.items s.are_shown))
-      ∙ ap place_of (sym (target_requested q core.entries e r t));
-}
+requested_shows old new core export e x s p r asked t h l places kept = grind (arith, asked_snoc, shown_snoc, are_shown_in, shown_added, fresh, ended_added, shown_length, target_requested)
 
 -- one more reply to the request with this cookie
 pub replied_shows : (old mid new : State) (core : Core) (export : Exporting) (cookie place : ℕ) (m : Message) (x y : Exchange) → IsReached core → Shows old core → core.phase ≡ Transmission export → cookie_of m ≡ Some cookie →
@@ -152,27 +104,21 @@ indexed old mid place x kept within is = subst (λ (z : State). slice_get z.exch
 
 -- what follows from what holds of an Ok
 pub on_one : {A E : Type 0} {P : A → Type 0} {C : Type 0} (r : Result A E) → ((x : A) → P x → C) → IfOk r P → OnOk r C
-on_one (Ok x) f p = f x p
-on_one (Err y) f p = tt
+on_one r f p = grind arith
 
 -- the count at a message's end is that of the exchanges
 pub counted_now : {x y : Asked} {m : Message} (e : Operation) (xs : List Exchange) {known : ℕ} {counts : Counts} → counts ≡ record { known = known; now = length xs } → IsNotedWith e m counts.now x y → IsNotedWith e m (length xs) x y
 counted_now {x} {y} {m} e xs q h = subst (λ n. IsNotedWith e m n x y) (ap (λ (k : Counts). k.now) q) h
 
 pub on_all : {A E : Type 0} {P Q R : Type 0} {C : Type 0} (r : Result A E) → (P → Q → R → C) → OnOk r P → OnOk r Q → OnOk r R → OnOk r C
-on_all (Ok x) f p q s = f p q s
-on_all (Err y) f p q s = tt
+on_all r f p q s = grind arith
 
 pub on : {A E : Type 0} {P C : Type 0} (r : Result A E) → (P → C) → OnOk r P → OnOk r C
-on (Ok x) f p = f p
-on (Err y) f p = tt
+on r f p = grind arith
 
 -- the export that the state has is the one that it shows
 pub exporting_is : (state : State) (core : Core) (export : Exporting) (x : Export) → Shows state core → core.phase ≡ Transmission export → state.phase ≡ shown.Transmission x → exporting x ≡ export
-exporting_is state core export x s p q =
-    let w : shown.Transmission x ≡ shown.Transmission (export_shown export) = sym q ∙ s.phase_is ∙ ap phase_shown p in
-    let v : x ≡ export_shown export = cc in
-    ap exporting v
+exporting_is state core export x s p q = grind arith
 
 at_end : (xs : List Exchange) (x : Exchange) → x.asked.known_at ≡ None → AddsUnanswered xs (xs ++ x ∷ [])
 at_end [] x none zero = none

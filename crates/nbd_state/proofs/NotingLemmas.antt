@@ -1,5 +1,5 @@
 -- What one more reply message notes.
-use Rattle.nbd_state.proofs.Common.{◌≡◌, ℕ, zero, suc, ◌+◌, List, [], ◌∷◌, ◌++◌, ◌==◌, ◌&&◌, append-nil, length, map, refl, sym, ◌∙◌, ap, Bool, true, false, not, if◌then◌else◌, Option, Some, None, is_some, length-append, arith, take, eqb-true, eq-eqb, ne_eqb, inl, inr, slice_get, slice_set, Message, Piece, Exporting, Operation, any, ends_reply, is_finished, is_proper, pieces, pieces_of, chunk_piece, piece_of, piece_offset, piece_size, noted, shown_with, Shown, with_reply, statuses_of, zeroes, zeroes_told, Exchange, shown_in, with_counts, IsShown, ended_if, shown_if, pieces-snoc, noted_none, same_number}
+use Rattle.nbd_state.proofs.Common.{◌≡◌, ℕ, suc, List, [], ◌∷◌, ◌++◌, ◌==◌, ◌&&◌, append-nil, length, map, refl, ◌∙◌, ap, Bool, false, not, if◌then◌else◌, Option, Some, None, is_some, length-append, arith, take, eqb-true, eq-eqb, ne_eqb, slice_get, slice_set, Message, Piece, Exporting, Operation, ends_reply, is_finished, is_proper, pieces, pieces_of, chunk_piece, piece_of, piece_offset, piece_size, noted, shown_with, Shown, with_reply, statuses_of, zeroes, zeroes_told, Exchange, shown_in, with_counts, IsShown, ended_if, shown_if, pieces-snoc, noted_none, same_number}
 use Rattle.nbd_wire.specs.declared.commands.TheConstants as commands
 
 -- the range of a piece, with a count
@@ -29,18 +29,12 @@ more_counts piece ends n = if is_some piece && not ends then n ∷ [] else []
 
 with_piece : (ps : List Piece) (cs : List ℕ) (piece : Option Piece) (ends : Bool) (n : ℕ) → length cs ≡ length ps →
     with_counts (ps ++ chunk_piece piece) (cs ++ more_counts piece ends n) ≡ with_counts ps cs ++ (if not ends then map (span_at n) (chunk_piece piece) else [])
-with_piece ps cs (Some p) true n e = ap (with_counts (ps ++ p ∷ [])) (append-nil cs) ∙ with_same ps (p ∷ []) cs e ∙ sym (append-nil (with_counts ps cs))
-with_piece ps cs None true n e = ap (with_counts (ps ++ [])) (append-nil cs) ∙ with_same ps [] cs e ∙ sym (append-nil (with_counts ps cs))
 with_piece ps cs (Some p) false n e = with_more ps (p ∷ []) cs n e
-with_piece ps cs None false n e = with_more ps [] cs n e
+with_piece ps cs piece ends n e = grind (arith, append-nil, with_same, with_more)
 
 -- after a message that does not end the reply each piece has its count
 pub counted_more : (ps : List Piece) (cs : List ℕ) (piece : Option Piece) (ends : Bool) (n : ℕ) → ends ≡ false → length cs ≡ length ps → length (cs ++ more_counts piece ends n) ≡ length (ps ++ chunk_piece piece)
-counted_more ps cs piece ends n f e = ap (λ b. length (cs ++ more_counts piece b n)) f ∙ go piece
-  where
-    go : (piece : Option Piece) → length (cs ++ more_counts piece false n) ≡ length (ps ++ chunk_piece piece)
-    go (Some p) = length-append cs (n ∷ []) ∙ ap (λ k. k + 1) e ∙ sym (length-append ps (p ∷ []))
-    go None = length-append cs [] ∙ ap (λ k. k + 0) e ∙ sym (length-append ps [])
+counted_more ps cs piece ends n f e = grind (arith, length-append)
 
 -- a READ has no zeroes that a status told
 pub none_told : (export : Exporting) (e : Operation) → e.command ≡ commands.READ → zeroes export e ≡ []
@@ -56,50 +50,21 @@ none_noted export e x s u none q = empty x.asked.shown.items ((s.is_open u).1 q 
 
 -- what a message without a piece leaves
 pub counted_none : (export : Exporting) (e : Operation) (m : Message) (ps : List Piece) → e.replies ≡ [] → piece_of e.offset m ≡ [] → ps ≡ zeroes export (with_reply e m) ++ pieces (with_reply e m) → e.command ≡ commands.READ → ps ≡ []
-counted_none export e m ps none p q c = q ∙ (λ i. none_told export (with_reply e m) c i ++ empty i)
-  where
-    empty : pieces (with_reply e m) ≡ []
-    empty = pieces-snoc e.offset e.replies m ∙ (λ i. pieces_of e.offset (none i) ++ p i)
-
--- what a message shows of a request, which is a READ or none
-shows : (e : Operation) (m : Message) (n : ℕ) (ends : Bool) (given : List Piece) → ends_reply m ≡ ends → piece_of e.offset m ≡ given → shown_with (Some e) m n ≡ (if (e.command == commands.READ) && not ends then map (span_at n) given else [])
-shows e m n ends given d p = λ i. if (e.command == commands.READ) && not (d i) then map (span_at n) (p i) else []
+counted_none export e m ps none p q c = grind (arith, none_told, pieces-snoc)
 
 -- a message with this piece is noted
 pub noted_piece : (export : Exporting) (e : Operation) (m : Message) (x : Exchange) (piece : Option Piece) (ends : Bool) (n : ℕ) (ps : List Piece) (cs : List ℕ) → IsShown export e x → is_finished e ≡ false → ends_reply m ≡ ends → piece_of e.offset m ≡ chunk_piece piece →
     ps ≡ x.asked.pieces.items ++ chunk_piece piece → cs ≡ x.asked.shown.items ++ more_counts piece ends n →
     (if x.asked.command == commands.READ then with_counts ps cs else []) ≡ shown_in x.asked ++ shown_with (Some e) m n
-noted_piece export e m x piece ends n ps cs s u d p pieces_are counts_are =
-    (λ i. if s.command i == commands.READ then with_counts (pieces_are i) (counts_are i) else [])
-    ∙ go (e.command == commands.READ) refl
-    ∙ ap (λ c. (if c == commands.READ then with_counts x.asked.pieces.items x.asked.shown.items else []) ++ (if (e.command == commands.READ) && not ends then map (span_at n) (chunk_piece piece) else [])) (sym s.command)
-    ∙ ap (λ l. shown_in x.asked ++ l) (sym (shows e m n ends (chunk_piece piece) d p))
-  where
-    go : (b : Bool) → (e.command == commands.READ) ≡ b →
-        (if b then with_counts (x.asked.pieces.items ++ chunk_piece piece) (x.asked.shown.items ++ more_counts piece ends n) else [])
-        ≡ (if b then with_counts x.asked.pieces.items x.asked.shown.items else []) ++ (if b && not ends then map (span_at n) (chunk_piece piece) else [])
-    go true q = with_piece x.asked.pieces.items x.asked.shown.items piece ends n ((s.is_open u).1 (eqb-true e.command commands.READ q))
-    go false q = refl
+noted_piece export e m x piece ends n ps cs s u d p pieces_are counts_are = grind (arith, with_piece, eqb-true)
 
 pub shows_none : (e : Operation) (m : Message) (n : ℕ) → piece_of e.offset m ≡ [] → shown_with (Some e) m n ≡ []
-shows_none e m n p = ap (λ ps. if (e.command == commands.READ) && not (ends_reply m) then map (span_at n) ps else []) p ∙ go ((e.command == commands.READ) && not (ends_reply m))
-  where
-    go : (b : Bool) → (if b then map (span_at n) [] else []) ≡ []
-    go true = refl
-    go false = refl
+shows_none e m n p = grind arith
 
 -- a first status is noted
 pub noted_first : (export : Exporting) (e : Operation) (m : Message) (x : Exchange) (n : ℕ) (ps : List Piece) → IsShown export e x → is_finished e ≡ false → e.replies ≡ [] → piece_of e.offset m ≡ [] →
     (if x.asked.command == commands.READ then with_counts ps x.asked.shown.items else []) ≡ shown_in x.asked ++ shown_with (Some e) m n
-noted_first export e m x n ps s u none p =
-    nothing ps ∙ sym (nothing x.asked.pieces.items) ∙ sym (append-nil (shown_in x.asked)) ∙ ap (λ l. shown_in x.asked ++ l) (sym (shows_none e m n p))
-  where
-    nothing : (ps : List Piece) → (if x.asked.command == commands.READ then with_counts ps x.asked.shown.items else []) ≡ []
-    nothing ps = ap (λ c. if c == commands.READ then with_counts ps x.asked.shown.items else []) s.command ∙ go (e.command == commands.READ) refl
-      where
-        go : (b : Bool) → (e.command == commands.READ) ≡ b → (if b then with_counts ps x.asked.shown.items else []) ≡ []
-        go true q = ap (with_counts ps) (none_noted export e x s u none (eqb-true e.command commands.READ q)) ∙ without_counts ps
-        go false q = refl
+noted_first export e m x n ps s u none p = grind (arith, append-nil, shows_none, none_noted, eqb-true, without_counts)
 
 -- what has not ended has no end noted
 pub open_still : (o : Option ℕ) (ends : Bool) (n : ℕ) → o ≡ None → ends ≡ false → noted o ends n ≡ None
@@ -107,56 +72,31 @@ open_still o ends n q f = (λ i. noted (q i) (f i) n)
 
 -- of a request without a reply nothing is noted
 pub fresh : (export : Exporting) (e : Operation) (x : Exchange) → IsShown export e x → e.replies ≡ [] → (x.asked.ended_at ≡ None) × (shown_in x.asked ≡ [])
-fresh export e x s none = ((s.is_open open_).0, ap (λ c. if c == commands.READ then with_counts x.asked.pieces.items x.asked.shown.items else []) s.command ∙ go (e.command == commands.READ) refl)
-  where
-    open_ : is_finished e ≡ false
-    open_ = ap (any ends_reply) none
-
-    go : (b : Bool) → (e.command == commands.READ) ≡ b → (if b then with_counts x.asked.pieces.items x.asked.shown.items else []) ≡ []
-    go true q = ap (with_counts x.asked.pieces.items) (none_noted export e x s open_ none (eqb-true e.command commands.READ q)) ∙ without_counts x.asked.pieces.items
-    go false q = refl
+fresh export e x s none = grind (arith, none_noted, eqb-true, without_counts)
 
 -- one more exchange of which nothing is noted
 pub shown_added : (xs : List Exchange) (x : Exchange) (place : ℕ) → shown_in x.asked ≡ [] → shown_if (slice_get xs place) ≡ shown_if (slice_get (xs ++ x ∷ []) place)
-shown_added [] x zero e = sym e
-shown_added [] x (suc place) e = refl
-shown_added (z ∷ xs) x zero e = refl
 shown_added (z ∷ xs) x (suc place) e = shown_added xs x place e
+shown_added xs x place e = grind arith
 
 pub ended_added : (xs : List Exchange) (x : Exchange) (place : ℕ) → x.asked.ended_at ≡ None → ended_if (slice_get xs place) ≡ ended_if (slice_get (xs ++ x ∷ []) place)
-ended_added [] x zero e = sym e
-ended_added [] x (suc place) e = refl
-ended_added (z ∷ xs) x zero e = refl
 ended_added (z ∷ xs) x (suc place) e = ended_added xs x place e
+ended_added xs x place e = grind arith
 
 -- the element at one place of a list with another one there
 get_same : (xs : List Exchange) (place : ℕ) (x y : Exchange) → slice_get xs place ≡ Some x → slice_get (slice_set xs place y) place ≡ Some y
-get_same [] place x y i = absurd (cc)
-get_same (z ∷ xs) zero x y i = refl
 get_same (z ∷ xs) (suc place) x y i = get_same xs place x y i
+get_same xs place x y i = grind arith
 
 get_other : (xs : List Exchange) (place p : ℕ) (y : Exchange) → (place ≡ p → ⊥) → slice_get (slice_set xs place y) p ≡ slice_get xs p
-get_other [] place p y ne = refl
-get_other (z ∷ xs) zero zero y ne = absurd (ne refl)
-get_other (z ∷ xs) zero (suc p) y ne = refl
-get_other (z ∷ xs) (suc place) zero y ne = refl
 get_other (z ∷ xs) (suc place) (suc p) y ne = get_other xs place p y (λ e. ne (ap suc e))
+get_other xs place p y ne = grind arith
 
 -- one exchange with another reply message
 pub shown_set : (xs : List Exchange) (place p : ℕ) (x y : Exchange) (more : List Shown) → slice_get xs place ≡ Some x → shown_in y.asked ≡ shown_in x.asked ++ more →
     shown_if (slice_get xs p) ++ (if suc place == suc p then more else []) ≡ shown_if (slice_get (slice_set xs place y) p)
-shown_set xs place p x y more i e = elim (same_number place p) [
-  | inl q ↦ ap (λ b. shown_if (slice_get xs p) ++ (if b then more else [])) (eq-eqb (suc place) (suc p) (ap suc q))
-      ∙ ap (λ o. shown_if o ++ more) (ap (slice_get xs) (sym q) ∙ i) ∙ sym e ∙ ap shown_if (sym (get_same xs place x y i) ∙ ap (slice_get (slice_set xs place y)) q)
-  | inr ne ↦ ap (λ b. shown_if (slice_get xs p) ++ (if b then more else [])) (ne_eqb (suc place) (suc p) (λ q. ne (omega (arith, q))))
-      ∙ append-nil (shown_if (slice_get xs p)) ∙ ap shown_if (sym (get_other xs place p y ne))
-]
+shown_set xs place p x y more i e = grind (arith, same_number, eq-eqb, get_same, ne_eqb, append-nil, get_other)
 
 pub ended_set : (xs : List Exchange) (place p : ℕ) (x y : Exchange) (ends : Bool) (n : ℕ) → slice_get xs place ≡ Some x → y.asked.ended_at ≡ noted x.asked.ended_at ends n →
     noted (ended_if (slice_get xs p)) ((suc place == suc p) && ends) n ≡ ended_if (slice_get (slice_set xs place y) p)
-ended_set xs place p x y ends n i e = elim (same_number place p) [
-  | inl q ↦ ap (λ b. noted (ended_if (slice_get xs p)) (b && ends) n) (eq-eqb (suc place) (suc p) (ap suc q))
-      ∙ ap (λ o. noted (ended_if o) ends n) (ap (slice_get xs) (sym q) ∙ i) ∙ sym e ∙ ap ended_if (sym (get_same xs place x y i) ∙ ap (slice_get (slice_set xs place y)) q)
-  | inr ne ↦ ap (λ b. noted (ended_if (slice_get xs p)) (b && ends) n) (ne_eqb (suc place) (suc p) (λ q. ne (omega (arith, q))))
-      ∙ sym (noted_none (ended_if (slice_get xs p)) n) ∙ ap ended_if (sym (get_other xs place p y ne))
-]
+ended_set xs place p x y ends n i e = grind (arith, same_number, eq-eqb, get_same, ne_eqb, noted_none, get_other)

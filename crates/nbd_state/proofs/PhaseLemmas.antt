@@ -1,5 +1,5 @@
 -- What a state shows once a message of the negotiation has completed.
-use Rattle.nbd_state.proofs.Common.{◌≡◌, ℕ, ◌<◌, ◌||◌, ◌&&◌, ◌==◌, List, length, refl, sym, ◌∙◌, ap, subst, Option, Some, None, Bool, slice_get_within, place_at, ask_allow, extended_ask_allow, MayAsk, Message, Greeting, ClientFlags, Choice, Answer, Exported, Request, ExtendedRequest, Simple, Chunk, ExtendedChunk, Sizing, sizing_after, sizing_at, agrees, reply_phase, choice_phase, is_proper_option, next_phase, selection_after, selection_at, takes_contexts, Exporting, AnswersOne, MayComplete, complete, grants_extended, grants_structured, Core, Phase, Greet, Flags, Choosing, Naming, Aborting, Answering, Ended, Transmission, export_in, Chosen, State, MayTake, IsTransmitting, Selection, HasSelection, Shows, export_shown, export_shown_if, phase_shown}
+use Rattle.nbd_state.proofs.Common.{arith, ◌≡◌, ℕ, ◌<◌, ◌||◌, ◌&&◌, ◌==◌, List, length, refl, sym, ◌∙◌, ap, subst, Option, Some, None, Bool, slice_get_within, place_at, ask_allow, extended_ask_allow, MayAsk, Message, Greeting, ClientFlags, Choice, Answer, Exported, Request, ExtendedRequest, Simple, Chunk, ExtendedChunk, Sizing, sizing_after, sizing_at, agrees, reply_phase, choice_phase, is_proper_option, next_phase, selection_after, selection_at, takes_contexts, Exporting, AnswersOne, MayComplete, complete, grants_extended, grants_structured, Core, Phase, Answering, Transmission, export_in, Chosen, State, MayTake, IsTransmitting, Selection, HasSelection, Shows, export_shown_if, phase_shown}
 use Rattle.nbd_wire.specs.declared.commands.TheConstants as commands
 use Rattle.nbd_state.specs.declared.state.Phase as states
 use Rattle.nbd_state.specs.declared.state.Phase.TheVariants as shown
@@ -9,180 +9,69 @@ use Rattle.nbd_state.proofs.CompletionLemmas.{negotiation_is_shown}
 -- after an answer
 pub behind_abort : (p : Phase) (option kind : ℕ) (payload : List ℕ) → shown.Aborting ≡ phase_shown p → shown.Ended ≡ phase_shown (next_phase p (Answer option kind payload))
 unfolding next_phase
-behind_abort Greet option kind payload e = absurd (cc)
-behind_abort Flags option kind payload e = absurd (cc)
-behind_abort Choosing option kind payload e = absurd (cc)
-behind_abort Naming option kind payload e = absurd (cc)
-behind_abort Aborting option kind payload e = refl
-behind_abort (Answering asked given info) option kind payload e = absurd (cc)
-behind_abort Ended option kind payload e = absurd (cc)
-behind_abort (Transmission export) option kind payload e = absurd (cc)
+behind_abort p option kind payload e = grind arith
 
 pub behind_option : (c : Chosen) (p : Phase) (option kind : ℕ) (payload : List ℕ) (r : states.Phase) → shown.Answering c ≡ phase_shown p →
     ((given : List ℕ) (info : Option Exporting) → c.proper ≡ is_proper_option c.option given → c.takes ≡ takes_contexts c.option given → c.info ≡ export_shown_if info → r ≡ phase_shown (reply_phase c.option given info kind payload)) →
     r ≡ phase_shown (next_phase p (Answer option kind payload))
 unfolding next_phase
-behind_option c Greet option kind payload r e f = absurd (cc)
-behind_option c Flags option kind payload r e f = absurd (cc)
-behind_option c Choosing option kind payload r e f = absurd (cc)
-behind_option c Naming option kind payload r e f = absurd (cc)
-behind_option c Aborting option kind payload r e f = absurd (cc)
 behind_option c (Answering asked given info) option kind payload r e f =
     let s : c ≡ record { option = asked; proper = is_proper_option asked given; takes = takes_contexts asked given; info = export_shown_if info } = cc in
     f given info (ap (λ (x : Chosen). x.proper) s ∙ ap (λ o. is_proper_option o given) (sym (ap (λ (x : Chosen). x.option) s)))
     (ap (λ (x : Chosen). x.takes) s ∙ ap (λ o. takes_contexts o given) (sym (ap (λ (x : Chosen). x.option) s))) (ap (λ (x : Chosen). x.info) s)
     ∙ ap (λ o. phase_shown (reply_phase o given info kind payload)) (ap (λ (x : Chosen). x.option) s)
-behind_option c Ended option kind payload r e f = absurd (cc)
-behind_option c (Transmission export) option kind payload r e f = absurd (cc)
+behind_option c p option kind payload r e f = grind arith
 
 pub behind_none : (x : states.Phase) (p : Phase) (option kind : ℕ) (payload : List ℕ) → (x ≡ shown.Aborting → ⊥) → ((c : Chosen) → x ≡ shown.Answering c → ⊥) → x ≡ phase_shown p → x ≡ phase_shown (next_phase p (Answer option kind payload))
 unfolding next_phase
-behind_none x Greet option kind payload na nb e = e
-behind_none x Flags option kind payload na nb e = e
-behind_none x Choosing option kind payload na nb e = e
-behind_none x Naming option kind payload na nb e = e
-behind_none x Aborting option kind payload na nb e = absurd (na e)
-behind_none x (Answering asked given info) option kind payload na nb e = absurd (nb _ e)
-behind_none x Ended option kind payload na nb e = e
-behind_none x (Transmission export) option kind payload na nb e = e
-
--- where a message may complete
-greets : (core : Core) (p : Phase) (flags : ℕ) → MayComplete core p (Greeting flags) → (export_in p ≡ None) × (shown.Flags ≡ phase_shown (next_phase p (Greeting flags)))
-unfolding MayComplete next_phase
-greets core Greet flags ok = (refl, refl)
-greets core Flags flags ok = absurd ok
-greets core Choosing flags ok = absurd ok
-greets core Naming flags ok = absurd ok
-greets core Aborting flags ok = absurd ok
-greets core (Answering asked given info) flags ok = absurd ok
-greets core Ended flags ok = absurd ok
-greets core (Transmission export) flags ok = absurd ok
-
-flags_in : (core : Core) (p : Phase) (flags : ℕ) → MayComplete core p (ClientFlags flags) → (export_in p ≡ None) × (shown.Choosing ≡ phase_shown (next_phase p (ClientFlags flags)))
-unfolding MayComplete next_phase
-flags_in core Greet flags ok = absurd ok
-flags_in core Flags flags ok = (refl, refl)
-flags_in core Choosing flags ok = absurd ok
-flags_in core Naming flags ok = absurd ok
-flags_in core Aborting flags ok = absurd ok
-flags_in core (Answering asked given info) flags ok = absurd ok
-flags_in core Ended flags ok = absurd ok
-flags_in core (Transmission export) flags ok = absurd ok
+behind_none x p option kind payload na nb e = grind arith
 
 chooses : (core : Core) (p : Phase) (id : ℕ) (payload : List ℕ) → MayComplete core p (Choice id payload) → (export_in p ≡ None) × (phase_shown (choice_phase id payload) ≡ phase_shown (next_phase p (Choice id payload)))
 unfolding MayComplete next_phase
-chooses core Greet id payload ok = absurd ok
-chooses core Flags id payload ok = absurd ok
-chooses core Choosing id payload ok = (refl, refl)
-chooses core Naming id payload ok = absurd ok
-chooses core Aborting id payload ok = absurd ok
-chooses core (Answering asked given info) id payload ok = absurd ok
-chooses core Ended id payload ok = absurd ok
-chooses core (Transmission export) id payload ok = absurd ok
+chooses core p id payload ok = grind arith
 
 answers : (core : Core) (p : Phase) (option kind : ℕ) (payload : List ℕ) → MayComplete core p (Answer option kind payload) → export_in p ≡ None
 unfolding MayComplete
-answers core Greet option kind payload ok = absurd ok
-answers core Flags option kind payload ok = absurd ok
-answers core Choosing option kind payload ok = absurd ok
-answers core Naming option kind payload ok = absurd ok
-answers core Aborting option kind payload ok = refl
-answers core (Answering asked given info) option kind payload ok = refl
-answers core Ended option kind payload ok = absurd ok
-answers core (Transmission export) option kind payload ok = absurd ok
+answers core p option kind payload ok = grind arith
 
 exports : (core : Core) (p : Phase) (size flags : ℕ) (padded : Bool) → MayComplete core p (Exported size flags padded) →
     (export_in p ≡ None) × (shown.Transmission (record { size = size; flags = flags }) ≡ phase_shown (next_phase p (Exported size flags padded)))
 unfolding MayComplete next_phase
-exports core Greet size flags padded ok = absurd ok
-exports core Flags size flags padded ok = absurd ok
-exports core Choosing size flags padded ok = absurd ok
-exports core Naming size flags padded ok = (refl, refl)
-exports core Aborting size flags padded ok = absurd ok
-exports core (Answering asked given info) size flags padded ok = absurd ok
-exports core Ended size flags padded ok = absurd ok
-exports core (Transmission export) size flags padded ok = absurd ok
+exports core p size flags padded ok = grind arith
 
 pub asked_in : (core : Core) (p : Phase) (flags command cookie offset len : ℕ) (payload : List ℕ) → MayComplete core p (Request flags command cookie offset len payload) →
     (export : Exporting) × (p ≡ Transmission export) × MayAsk (command == commands.DISC) core cookie offset len
 unfolding MayComplete
-asked_in core Greet flags command cookie offset len payload ok = absurd ok
-asked_in core Flags flags command cookie offset len payload ok = absurd ok
-asked_in core Choosing flags command cookie offset len payload ok = absurd ok
-asked_in core Naming flags command cookie offset len payload ok = absurd ok
-asked_in core Aborting flags command cookie offset len payload ok = absurd ok
-asked_in core (Answering asked given info) flags command cookie offset len payload ok = absurd ok
-asked_in core Ended flags command cookie offset len payload ok = absurd ok
-asked_in core (Transmission export) flags command cookie offset len payload ok = (export, refl, ask_allow core command cookie offset len ok.0 ok.1)
+asked_in core p flags command cookie offset len payload ok = grind (arith, ask_allow)
 
 pub extended_asked_in : (core : Core) (p : Phase) (flags command cookie offset len : ℕ) (payload : List ℕ) → MayComplete core p (ExtendedRequest flags command cookie offset len payload) →
     (export : Exporting) × (p ≡ Transmission export) × MayAsk (command == commands.DISC) core cookie offset len
 unfolding MayComplete
-extended_asked_in core Greet flags command cookie offset len payload ok = absurd ok
-extended_asked_in core Flags flags command cookie offset len payload ok = absurd ok
-extended_asked_in core Choosing flags command cookie offset len payload ok = absurd ok
-extended_asked_in core Naming flags command cookie offset len payload ok = absurd ok
-extended_asked_in core Aborting flags command cookie offset len payload ok = absurd ok
-extended_asked_in core (Answering asked given info) flags command cookie offset len payload ok = absurd ok
-extended_asked_in core Ended flags command cookie offset len payload ok = absurd ok
-extended_asked_in core (Transmission export) flags command cookie offset len payload ok = (export, refl, extended_ask_allow core flags command cookie offset len ok.0 ok.1)
+extended_asked_in core p flags command cookie offset len payload ok = grind (arith, extended_ask_allow)
 
 pub simple_in : (core : Core) (p : Phase) (error cookie : ℕ) (payload : List ℕ) → MayComplete core p (Simple error cookie payload) →
     (export : Exporting) × (p ≡ Transmission export) × AnswersOne core export cookie (Simple error cookie payload)
 unfolding MayComplete
-simple_in core Greet error cookie payload ok = absurd ok
-simple_in core Flags error cookie payload ok = absurd ok
-simple_in core Choosing error cookie payload ok = absurd ok
-simple_in core Naming error cookie payload ok = absurd ok
-simple_in core Aborting error cookie payload ok = absurd ok
-simple_in core (Answering asked given info) error cookie payload ok = absurd ok
-simple_in core Ended error cookie payload ok = absurd ok
-simple_in core (Transmission export) error cookie payload ok = (export, refl, ok)
+simple_in core p error cookie payload ok = grind arith
 
 pub chunk_in : (core : Core) (p : Phase) (flags kind cookie : ℕ) (payload : List ℕ) → MayComplete core p (Chunk flags kind cookie payload) →
     (export : Exporting) × (p ≡ Transmission export) × AnswersOne core export cookie (Chunk flags kind cookie payload)
 unfolding MayComplete
-chunk_in core Greet flags kind cookie payload ok = absurd ok
-chunk_in core Flags flags kind cookie payload ok = absurd ok
-chunk_in core Choosing flags kind cookie payload ok = absurd ok
-chunk_in core Naming flags kind cookie payload ok = absurd ok
-chunk_in core Aborting flags kind cookie payload ok = absurd ok
-chunk_in core (Answering asked given info) flags kind cookie payload ok = absurd ok
-chunk_in core Ended flags kind cookie payload ok = absurd ok
-chunk_in core (Transmission export) flags kind cookie payload ok = (export, refl, ok)
+chunk_in core p flags kind cookie payload ok = grind arith
 
 pub extended_chunk_in : (core : Core) (p : Phase) (flags kind cookie offset : ℕ) (payload : List ℕ) → MayComplete core p (ExtendedChunk flags kind cookie offset payload) →
     (export : Exporting) × (p ≡ Transmission export) × AnswersOne core export cookie (ExtendedChunk flags kind cookie offset payload)
 unfolding MayComplete
-extended_chunk_in core Greet flags kind cookie offset payload ok = absurd ok
-extended_chunk_in core Flags flags kind cookie offset payload ok = absurd ok
-extended_chunk_in core Choosing flags kind cookie offset payload ok = absurd ok
-extended_chunk_in core Naming flags kind cookie offset payload ok = absurd ok
-extended_chunk_in core Aborting flags kind cookie offset payload ok = absurd ok
-extended_chunk_in core (Answering asked given info) flags kind cookie offset payload ok = absurd ok
-extended_chunk_in core Ended flags kind cookie offset payload ok = absurd ok
-extended_chunk_in core (Transmission export) flags kind cookie offset payload ok = (export, refl, ok)
+extended_chunk_in core p flags kind cookie offset payload ok = grind arith
 
 module _ (old new : State) (core : Core) (s : Shows old core) where
   pub shows_greeted : (flags : ℕ) → MayComplete core core.phase (Greeting flags) → new ≡ record old { phase = shown.Flags; offered = flags } → Shows new (complete core (Greeting flags))
-  unfolding complete
-  shows_greeted flags ok made =
-      let r = greets core core.phase flags ok in
-      negotiation_is_shown old new core (complete core (Greeting flags)) s r.0 refl refl refl (ap (λ (z : State). z.exchanges) made) (ap (λ (z : State). z.outstanding) made)
-      (ap (λ (z : State). z.profile) made ∙ s.profile_is)
-      (ap (λ (z : State). z.phase) made ∙ r.1) (ap (λ (z : State). z.offered) made) (ap (λ (z : State). z.client_flags) made ∙ s.client_flags_are)
-      (ap (λ (z : State). z.structured) made ∙ s.structured_is) (ap (λ (z : State). z.extended) made ∙ s.extended_is) (ap (λ (z : State). z.disconnected) made ∙ s.disconnected_is)
-      (subst (λ z. HasSelection z core.selection) (sym (ap (λ (z : State). z.selection) made)) s.selection_is) (ap (λ (z : State). z.brings_contexts) made ∙ s.brings_contexts_is) (ap (λ (z : State). z.sizing) made ∙ s.sizing_is)
+  unfolding complete MayComplete next_phase
+  shows_greeted flags ok made = grind (arith, negotiation_is_shown)
 
   pub shows_flags : (flags : ℕ) → MayComplete core core.phase (ClientFlags flags) → new ≡ record old { phase = shown.Choosing; client_flags = flags } → Shows new (complete core (ClientFlags flags))
-  unfolding complete
-  shows_flags flags ok made =
-      let r = flags_in core core.phase flags ok in
-      negotiation_is_shown old new core (complete core (ClientFlags flags)) s r.0 refl refl refl (ap (λ (z : State). z.exchanges) made) (ap (λ (z : State). z.outstanding) made)
-      (ap (λ (z : State). z.profile) made ∙ s.profile_is)
-      (ap (λ (z : State). z.phase) made ∙ r.1) (ap (λ (z : State). z.offered) made ∙ s.offered_is) (ap (λ (z : State). z.client_flags) made)
-      (ap (λ (z : State). z.structured) made ∙ s.structured_is) (ap (λ (z : State). z.extended) made ∙ s.extended_is) (ap (λ (z : State). z.disconnected) made ∙ s.disconnected_is)
-      (subst (λ z. HasSelection z core.selection) (sym (ap (λ (z : State). z.selection) made)) s.selection_is) (ap (λ (z : State). z.brings_contexts) made ∙ s.brings_contexts_is) (ap (λ (z : State). z.sizing) made ∙ s.sizing_is)
+  unfolding complete MayComplete next_phase
+  shows_flags flags ok made = grind (arith, negotiation_is_shown)
 
   pub shows_chosen : (id : ℕ) (payload : List ℕ) (phase : states.Phase) (selection : Selection) (agreed : Bool) (sizing : Sizing) → MayComplete core core.phase (Choice id payload) → phase ≡ phase_shown (choice_phase id payload) →
       agreed ≡ (core.structured && agrees id payload core.selection) → HasSelection selection (selection_at id payload core.selection) → sizing ≡ sizing_at id payload → new ≡ record old { phase = phase; selection = selection; brings_contexts = agreed; sizing = sizing } → Shows new (complete core (Choice id payload))
@@ -223,14 +112,10 @@ shows_same {new} core m n e s = subst (λ x. Shows new (complete core x)) (sym e
 
 -- the state of a request that may complete is in transmission
 pub transmits : (state : State) (flags command cookie offset len : ℕ) (payload : List ℕ) → MayTake state (Request flags command cookie offset len payload) → IsTransmitting state.phase
-transmits state flags command cookie offset len payload t =
-    let a = asked_in t.core t.core.phase flags command cookie offset len payload t.completes in
-    (export_shown a.0, t.shows.phase_is ∙ ap phase_shown a.1)
+transmits state flags command cookie offset len payload t = grind (arith, asked_in)
 
 pub extended_transmits : (state : State) (flags command cookie offset len : ℕ) (payload : List ℕ) → MayTake state (ExtendedRequest flags command cookie offset len payload) → IsTransmitting state.phase
-extended_transmits state flags command cookie offset len payload t =
-    let a = extended_asked_in t.core t.core.phase flags command cookie offset len payload t.completes in
-    (export_shown a.0, t.shows.phase_is ∙ ap phase_shown a.1)
+extended_transmits state flags command cookie offset len payload t = grind (arith, extended_asked_in)
 
 -- the request that a reply answers has its exchange
 answered : (state : State) (core : Core) (export : Exporting) (cookie place : ℕ) → Shows state core → core.phase ≡ Transmission export → place_at state.outstanding cookie ≡ Some place → place < length state.exchanges.items
@@ -239,16 +124,10 @@ answered state core export cookie place s p g =
     slice_get_within state.exchanges.items place placed.x placed.stands
 
 pub answered_simple : (state : State) (error cookie : ℕ) (payload : List ℕ) (place : ℕ) → MayTake state (Simple error cookie payload) → place_at state.outstanding cookie ≡ Some place → place < length state.exchanges.items
-answered_simple state error cookie payload place t g =
-    let a = simple_in t.core t.core.phase error cookie payload t.completes in
-    answered state t.core a.0 cookie place t.shows a.1 g
+answered_simple state error cookie payload place t g = grind (arith, simple_in, answered)
 
 pub answered_chunk : (state : State) (flags kind cookie : ℕ) (payload : List ℕ) (place : ℕ) → MayTake state (Chunk flags kind cookie payload) → place_at state.outstanding cookie ≡ Some place → place < length state.exchanges.items
-answered_chunk state flags kind cookie payload place t g =
-    let a = chunk_in t.core t.core.phase flags kind cookie payload t.completes in
-    answered state t.core a.0 cookie place t.shows a.1 g
+answered_chunk state flags kind cookie payload place t g = grind (arith, chunk_in, answered)
 
 pub answered_extended : (state : State) (flags kind cookie offset : ℕ) (payload : List ℕ) (place : ℕ) → MayTake state (ExtendedChunk flags kind cookie offset payload) → place_at state.outstanding cookie ≡ Some place → place < length state.exchanges.items
-answered_extended state flags kind cookie offset payload place t g =
-    let a = extended_chunk_in t.core t.core.phase flags kind cookie offset payload t.completes in
-    answered state t.core a.0 cookie place t.shows a.1 g
+answered_extended state flags kind cookie offset payload place t g = grind (arith, extended_chunk_in, answered)

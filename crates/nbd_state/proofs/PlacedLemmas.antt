@@ -4,16 +4,8 @@ use Rattle.nbd_wire.specs.protocol.States as definitions
 
 pub shown_length : (o : Option Exporting) (es : List Operation) (xs : List Exchange) → AreShown o es xs → length es ≡ length xs
 shown_length o [] [] s = refl
-shown_length o [] (x ∷ xs) s = absurd (none o s)
-  where
-    none : (o : Option Exporting) → AreShown o [] (x ∷ xs) → ⊥
-    none (Some export) s = s
-    none None s = s
-shown_length o (e ∷ es) [] s = absurd (none o s)
-  where
-    none : (o : Option Exporting) → AreShown o (e ∷ es) [] → ⊥
-    none (Some export) s = s
-    none None s = s
+shown_length o [] (x ∷ xs) s = grind arith
+shown_length o (e ∷ es) [] s = grind arith
 shown_length (Some export) (e ∷ es) (x ∷ xs) s = ap suc (shown_length (Some export) es xs s.1)
 shown_length None (e ∷ es) (x ∷ xs) s = absurd s
 

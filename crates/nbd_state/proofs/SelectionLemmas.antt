@@ -16,8 +16,7 @@ by_keys s (k ∷ keys) [] e same =
     let t : BTreeSet ℕ = record { keys = k ∷ keys } in
     let has : contains nat_cmp t k ≡ true = All-set_contains nat_cmp_total t 0 k (omega arith) in
     let w : true ≡ false = sym has ∙ ap (λ (ks : List ℕ). contains nat_cmp (record { keys = ks }) k) (sym e) ∙ same k in (absurd (cc))
-by_keys s (k ∷ keys) (c ∷ contexts) e same = let more : (length (k ∷ keys) == 0) ≡ false = ne_eqb (length (k ∷ keys)) 0 (λ q. omega arith) in
-    let other : (length (c ∷ contexts) == 0) ≡ false = ne_eqb (length (c ∷ contexts)) 0 (λ q. omega arith) in more ∙ sym other
+by_keys s (k ∷ keys) (c ∷ contexts) e same = grind (arith, head_id, nat_cmp_total, ne_eqb)
 
 pub none_of : (s : BTreeSet ℕ) (contexts : List Context) (is : Bool) → ((id : ℕ) → contains nat_cmp s id ≡ has_id contexts id) → (IsTrue is → btree_set_len s ≡ 0) → (btree_set_len s ≡ 0 → IsTrue is) → is ≡ (length contexts == 0)
 none_of s contexts is same to from = go is (length s.keys == 0) refl to from ∙ by_keys s s.keys contexts refl same
@@ -75,51 +74,13 @@ keys_all test (k ∷ keys) f =
     or_right true = refl
     or_right false = refl
 
--- a test of each id in a set is one of each context, where it says of the contexts what settles them
-all_settled : (ids : BTreeSet ℕ) (test settled : ℕ → Bool) (contexts : List Context) →
-    ((i : ℕ) → contains nat_cmp ids i ≡ true → (has_id contexts i ≡ true → settled i ≡ true) → test i ≡ true) →
-    ((i : ℕ) → has_id contexts i ≡ true → (contains nat_cmp ids i ≡ true → test i ≡ true) → settled i ≡ true) →
-    list_all test ids.keys ≡ are_settled settled contexts
-all_settled ids test settled contexts to from = go (list_all test ids.keys) (are_settled settled contexts) refl refl
-  where
-    go : (a t : Bool) → list_all test ids.keys ≡ a → are_settled settled contexts ≡ t → a ≡ t
-    go true true q r = refl
-    go true false q r = absurd (let w : false ≡ true = sym r ∙ settled_each settled contexts (λ i h. from i h (all_keys test ids.keys i q)) in cc)
-    go false true q r = absurd (let w : false ≡ true = sym q ∙ keys_all test ids.keys (λ i h. to i h (each_settled settled contexts i r)) in cc)
-    go false false q r = refl
-
 module _ (id : Option ℕ) (contexts : List Context) (settled : ℕ → Bool) where
   -- without a filter: each id in force has its status
   pub all_told : (ids told : BTreeSet ℕ) → ((i : ℕ) → contains nat_cmp ids i ≡ has_id contexts i) → TellsThese settled contexts (record { filtered = false; ids = told }) id →
       list_all (λ i. is_this id i || contains nat_cmp told i) ids.keys ≡ are_settled settled contexts
-  all_told ids told these those =
-      all_settled ids (λ i. is_this id i || contains nat_cmp told i) settled contexts
-      (λ i c f. let h = sym (these i) ∙ c in sym (those i h) ∙ f h)
-      (λ i h f. those i h ∙ f (these i ∙ h))
+  all_told ids told these those = grind (arith, settled_each, all_keys, keys_all, each_settled)
 
   -- with a filter: each id that it asks and that lacks its status is none in force
   pub none_left : (ids left : BTreeSet ℕ) → ((i : ℕ) → contains nat_cmp ids i ≡ has_id contexts i) → TellsThese settled contexts (record { filtered = true; ids = left }) id →
       list_all (λ i. is_this id i || not (contains nat_cmp ids i)) left.keys ≡ are_settled settled contexts
-  none_left ids left these those = all_settled left (λ i. is_this id i || not (contains nat_cmp ids i)) settled contexts to from
-    where
-      to : (i : ℕ) → contains nat_cmp left i ≡ true → (has_id contexts i ≡ true → settled i ≡ true) → (is_this id i || not (contains nat_cmp ids i)) ≡ true
-      to i c f = go (has_id contexts i) refl
-        where
-          either : (a : Bool) → (a || true) ≡ true
-          either true = refl
-          either false = refl
-
-          go : (b : Bool) → has_id contexts i ≡ b → (is_this id i || not (contains nat_cmp ids i)) ≡ true
-          go true h = ap (λ b. is_this id i || not b) (these i ∙ h) ∙ ap (λ b. is_this id i || not b) (sym c) ∙ sym (those i h) ∙ f h
-          go false h = ap (λ b. is_this id i || not b) (these i ∙ h) ∙ either (is_this id i)
-
-      from : (i : ℕ) → has_id contexts i ≡ true → (contains nat_cmp left i ≡ true → (is_this id i || not (contains nat_cmp ids i)) ≡ true) → settled i ≡ true
-      from i h f = those i h ∙ go (contains nat_cmp left i) refl
-        where
-          either : (a : Bool) → (a || true) ≡ true
-          either true = refl
-          either false = refl
-
-          go : (b : Bool) → contains nat_cmp left i ≡ b → (is_this id i || not (contains nat_cmp left i)) ≡ true
-          go true c = ap (λ b. is_this id i || not b) (c ∙ sym (these i ∙ h)) ∙ f c
-          go false c = ap (λ b. is_this id i || not b) c ∙ either (is_this id i)
+  none_left ids left these those = grind (arith, settled_each, all_keys, keys_all, each_settled)

@@ -1,5 +1,5 @@
 -- What a cookie finds once a request or a reply has completed.
-use Rattle.nbd_state.proofs.Common.{and_parts, not-true, ◌≡◌, ℕ, zero, suc, ◌+◌, ◌==◌, ◌&&◌, ◌||◌, not, List, [], ◌∷◌, ◌++◌, length, refl, sym, ◌∙◌, ap, subst, Some, None, Bool, true, false, if◌then◌else◌, arith, eqb-true, Message, Operation, ends_reply, is_finished, Core, with_reply_at, operation, is_awaiting, target, target_from, with_reply, IsReached, at_start, after_message, AreDistinct, Free, IsFound, distinct_complete, find, free_at}
+use Rattle.nbd_state.proofs.Common.{and_parts, not-true, ◌≡◌, ℕ, zero, suc, ◌+◌, ◌==◌, ◌&&◌, not, List, [], ◌∷◌, ◌++◌, length, refl, ◌∙◌, ap, subst, Some, None, Bool, true, false, if◌then◌else◌, arith, eqb-true, Message, Operation, ends_reply, is_finished, Core, with_reply_at, operation, is_awaiting, target, target_from, IsReached, at_start, after_message, AreDistinct, Free, IsFound, distinct_complete, find, free_at}
 use Rattle.nbd_state.proofs.ReplyLemmas.{any-snoc}
 
 pub distinct_reached : {core : Core} → IsReached core → AreDistinct core.entries
@@ -12,57 +12,28 @@ other_snoc n q (x ∷ es) e h = ap (λ t. if is_awaiting q x then Some (suc n) e
 
 last_snoc : (n q : ℕ) (es : List Operation) (e : Operation) → is_awaiting q e ≡ true → target_from n q es ≡ None → target_from n q (es ++ e ∷ []) ≡ Some (suc (n + length es))
 last_snoc n q [] e h t = ap (λ b. if b then Some (suc n) else None) h ∙ ap (λ j. Some (suc j)) (let z : n ≡ n + length {A = Operation} [] = omega arith in z)
-last_snoc n q (x ∷ es) e h t = go (is_awaiting q x) t (last_snoc (suc n) q es e h)
-  where
-    go : (b : Bool) → (if b then Some (suc n) else target_from (suc n) q es) ≡ None → (target_from (suc n) q es ≡ None → target_from (suc n) q (es ++ e ∷ []) ≡ Some (suc (suc n + length es))) →
-        (if b then Some (suc n) else target_from (suc n) q (es ++ e ∷ [])) ≡ Some (suc (n + length (x ∷ es)))
-    go true t ih = absurd (cc)
-    go false t ih = ih t ∙ ap (λ j. Some (suc j)) (let z : suc n + length es ≡ n + length (x ∷ es) = omega arith in z)
+last_snoc n q (x ∷ es) e h t = grind (arith, last_snoc (suc n) q es e h)
 
 -- after one more request, whose cookie no outstanding one had
 pub target_requested : (q : ℕ) (es : List Operation) (e : Operation) → e.replies ≡ [] → target e.cookie es ≡ None → target q (es ++ e ∷ []) ≡ (if e.cookie == q then Some (suc (length es)) else target q es)
 unfolding target
-target_requested q es e r t = go (e.cookie == q) refl
-  where
-    open_ : is_finished e ≡ false
-    open_ = ap (λ ms. is_finished (record e { replies = ms })) r
-
-    go : (b : Bool) → (e.cookie == q) ≡ b → target_from 0 q (es ++ e ∷ []) ≡ (if b then Some (suc (length es)) else target_from 0 q es)
-    go true c =
-        let same : e.cookie ≡ q = eqb-true e.cookie q c in
-        last_snoc 0 q es e (ap (λ b. b && not (is_finished e)) c ∙ ap (λ b. not b) open_) (subst (λ j. target_from 0 j es ≡ None) same t)
-        ∙ ap (λ j. Some (suc j)) (let z : 0 + length es ≡ length es = omega arith in z)
-    go false c = other_snoc 0 q es e (ap (λ b. b && not (is_finished e)) c)
-
-or_right : (a b : Bool) → b ≡ false → (a || b) ≡ a
-or_right true b h = refl
-or_right false b h = h
-
-or_true : (a b : Bool) → b ≡ true → (a || b) ≡ true
-or_true true b h = refl
-or_true false b h = h
+target_requested q es e r t = grind (arith, eqb-true, last_snoc, other_snoc)
 
 and_false : (b : Bool) → (b && false) ≡ false
-and_false true = refl
-and_false false = refl
+and_false b = grind arith
 
 -- a reply that goes on leaves all as it was
 going : (n q k : ℕ) (m : Message) (es : List Operation) → ends_reply m ≡ false → target_from n q (with_reply_at k m es) ≡ target_from n q es
 going n q k m [] h = refl
 going n q zero m (e ∷ es) h = refl
-going n q (suc zero) m (e ∷ es) h =
-    ap (λ f. if (e.cookie == q) && not f then Some (suc n) else target_from (suc n) q es) (any-snoc ends_reply e.replies m ∙ or_right (is_finished e) (ends_reply m) h)
+going n q (suc zero) m (e ∷ es) h = grind (arith, any-snoc)
 going n q (suc (suc k)) m (e ∷ es) h = ap (λ t. if is_awaiting q e then Some (suc n) else t) (going (suc n) q (suc k) m es h)
 
 -- so does one to a request with another cookie
 elsewhere : (n q k : ℕ) (m : Message) (es : List Operation) (e : Operation) → operation k es ≡ Some e → (e.cookie == q) ≡ false → target_from n q (with_reply_at k m es) ≡ target_from n q es
 elsewhere n q k m [] e i h = refl
 elsewhere n q zero m (x ∷ es) e i h = refl
-elsewhere n q (suc zero) m (x ∷ es) e i h =
-    let s : e ≡ x = cc in
-    let c : (x.cookie == q) ≡ false = subst (λ (y : Operation). (y.cookie == q) ≡ false) s h in
-    ap (λ b. if b && not (is_finished (with_reply x m)) then Some (suc n) else target_from (suc n) q es) c
-    ∙ sym (ap (λ b. if b && not (is_finished x) then Some (suc n) else target_from (suc n) q es) c)
+elsewhere n q (suc zero) m (x ∷ es) e i h = grind arith
 elsewhere n q (suc (suc k)) m (x ∷ es) e i h = ap (λ t. if is_awaiting q x then Some (suc n) else t) (elsewhere (suc n) q (suc k) m es e i h)
 
 free_none : (n cookie : ℕ) (es : List Operation) → Free cookie es → target_from n cookie es ≡ None
@@ -73,22 +44,8 @@ free_none n cookie (x ∷ es) f = ap (λ b. if b then Some (suc n) else target_f
 ended : (n cookie k : ℕ) (m : Message) (es : List Operation) (e : Operation) → AreDistinct es → operation k es ≡ Some e → e.cookie ≡ cookie → is_finished e ≡ false → ends_reply m ≡ true → target_from n cookie (with_reply_at k m es) ≡ None
 ended n cookie k m [] e d i c u h = refl
 ended n cookie zero m (x ∷ es) e d i c u h = absurd (cc)
-ended n cookie (suc zero) m (x ∷ es) e d i c u h =
-    let s : e ≡ x = cc in
-    let open_ : is_finished x ≡ false = subst (λ y. is_finished y ≡ false) s u in
-    let same : x.cookie ≡ cookie = subst (λ (y : Operation). y.cookie ≡ cookie) s c in
-    let done : is_finished (with_reply x m) ≡ true = any-snoc ends_reply x.replies m ∙ or_true (is_finished x) (ends_reply m) h in
-    ap (λ f. if (x.cookie == cookie) && not f then Some (suc n) else target_from (suc n) cookie es) done
-    ∙ ap (λ b. if b then Some (suc n) else target_from (suc n) cookie es) (and_false (x.cookie == cookie))
-    ∙ free_none (suc n) cookie es (subst (λ j. Free j es) same (d.0 open_))
-ended n cookie (suc (suc k)) m (x ∷ es) e d i c u h = go (is_awaiting cookie x) refl (ended (suc n) cookie (suc k) m es e d.1 i c u h)
-  where
-    go : (b : Bool) → is_awaiting cookie x ≡ b → target_from (suc n) cookie (with_reply_at (suc k) m es) ≡ None → (if b then Some (suc n) else target_from (suc n) cookie (with_reply_at (suc k) m es)) ≡ None
-    go true w ih =
-        let p = and_parts (x.cookie == cookie) (not (is_finished x)) w in
-        let same : x.cookie ≡ cookie = eqb-true x.cookie cookie p.0 in
-        absurd (free_at cookie (suc k) es e (subst (λ j. Free j es) same (d.0 (not-true (is_finished x) p.1))) i c u)
-    go false w ih = ih
+ended n cookie (suc zero) m (x ∷ es) e d i c u h = grind (arith, any-snoc, and_false, free_none, and_parts, eqb-true, free_at, not-true)
+ended n cookie (suc (suc k)) m (x ∷ es) e d i c u h = grind (arith, any-snoc, and_false, free_none, and_parts, eqb-true, free_at, not-true, ended (suc n) cookie (suc k) m es e d.1 i c u h)
 
 -- after a reply to the request with this cookie
 pub target_replied : (q cookie k : ℕ) (m : Message) (es : List Operation) → AreDistinct es → target cookie es ≡ Some k → target q (with_reply_at k m es) ≡ (if ends_reply m && (cookie == q) then None else target q es)

@@ -1,28 +1,21 @@
 -- What the exchanges know once a message has completed.
-use Rattle.nbd_state.proofs.Common.{◌≡◌, ℕ, zero, suc, List, [], ◌∷◌, refl, sym, ◌∙◌, ap, Option, Some, None, true, false, is_some, if◌then◌else◌, slice_get, slice_set, place_at, Message, cookie_of, is_this, noted, target_of, is_reply_to, Core, target, Exchange, State, AddsUnanswered, TellsOne, AreKnown, Shows, arith, find, known_if, place_of}
+use Rattle.nbd_state.proofs.Common.{◌≡◌, ℕ, zero, suc, List, [], ◌∷◌, sym, ◌∙◌, ap, Option, Some, None, false, is_some, if◌then◌else◌, slice_get, slice_set, place_at, Message, cookie_of, is_this, noted, target_of, is_reply_to, Core, target, Exchange, State, AddsUnanswered, TellsOne, AreKnown, Shows, arith, find, known_if, place_of}
 use Rattle.nbd_state.proofs.PlacedLemmas.{no_entry}
 
--- a request's first reply counts
-first_noted : (o : Option ℕ) (n : ℕ) → (if is_some o then o else Some n) ≡ noted o true n
-first_noted (Some m) n = refl
-first_noted None n = refl
-
 pub unnoted : (o : Option ℕ) (n : ℕ) → noted o false n ≡ o
-unnoted (Some m) n = refl
-unnoted None n = refl
+unnoted o n = grind arith
 
 -- a list with another element at one place, to which so many are told
 set_known : (xs : List Exchange) (i : ℕ) (z y : Exchange) (n : ℕ) → slice_get xs i ≡ Some z → y.asked.known_at ≡ (if is_some z.asked.known_at then z.asked.known_at else Some n) → TellsOne (Some i) n xs (slice_set xs i y)
 set_known [] i z y n stands k p = absurd (cc)
-set_known (x ∷ xs) zero z y n stands k zero = k ∙ first_noted z.asked.known_at n ∙ (let same : z ≡ x = cc in ap (λ (e : Exchange). noted e.asked.known_at true n) same)
+set_known (x ∷ xs) zero z y n stands k zero = grind (arith, unnoted)
 set_known (x ∷ xs) zero z y n stands k (suc p) = grind (arith, unnoted (known_if (slice_get xs p)) n)
 set_known (x ∷ xs) (suc i) z y n stands k zero = grind (arith, unnoted (known_if (Some x)) n)
 set_known (x ∷ xs) (suc i) z y n stands k (suc p) = grind (arith, set_known xs i z y n stands k p)
 
 -- one exchange was told
 pub tells_at : (told : Option ℕ) (n place : ℕ) (old new : List Exchange) (z y : Exchange) → told ≡ Some place → slice_get old place ≡ Some z → y.asked.known_at ≡ (if is_some z.asked.known_at then z.asked.known_at else Some n) → new ≡ slice_set old place y → TellsOne told n old new
-tells_at told n place old new z y t stands k is p =
-    ap (λ xs. known_if (slice_get xs p)) is ∙ set_known old place z y n stands k p ∙ ap (λ o. noted (known_if (slice_get old p)) (is_this o p) n) (sym t)
+tells_at told n place old new z y t stands k is = grind (arith, set_known)
 
 -- a message that is no reply says of no request
 pub known_asked : (core : Core) (m : Message) (n : ℕ) (before : ℕ → Option ℕ) (old new : List Exchange) → cookie_of m ≡ None → AddsUnanswered old new → AreKnown before old → AreKnown (λ k. noted (before k) (is_reply_to core m k) n) new
@@ -30,9 +23,7 @@ known_asked core m n before old new c adds h place = ap (λ o. noted (before (su
 
 -- the place of a request is one less than its number
 at_place : (o : Option ℕ) (place : ℕ) → (o ≡ Some zero → ⊥) → is_this o (suc place) ≡ is_this (place_of o) place
-at_place None place some = refl
-at_place (Some zero) place some = absurd (some refl)
-at_place (Some (suc k)) place some = grind arith
+at_place o place some = grind arith
 
 -- a reply says of the request that it answers
 pub known_told : (core : Core) (m : Message) (n : ℕ) (before : ℕ → Option ℕ) (state : State) (cookie : ℕ) (new : List Exchange) → Shows state core → cookie_of m ≡ Some cookie →

@@ -1,5 +1,5 @@
 -- What descriptors call zero, one after the other.
-use Rattle.nbd_state.proofs.Common.{◌≡◌, ℕ, ◌+◌, ◌-◌, ◌<◌, ◌≤◌, ◌^◌, ◌==◌, ◌&&◌, List, [], min, refl, sym, ◌∙◌, ap, Bool, true, false, if◌then◌else◌, nat_le, arith, Piece, Extent, Status, is_allocation, zeroes_in, Exporting, Operation, has_range, is_proper, proper_range, none_of_none}
+use Rattle.nbd_state.proofs.Common.{◌≡◌, ℕ, ◌+◌, ◌-◌, ◌<◌, ◌≤◌, ◌^◌, ◌==◌, ◌&&◌, List, [], min, refl, sym, ◌∙◌, ap, Bool, true, false, if◌then◌else◌, nat_le, arith, Piece, Extent, Status, is_allocation, zeroes_in, Exporting, Operation, is_proper, proper_range, none_of_none}
 use Rattle.std.proofs.Common.{leb-true, leb-false}
 use Rattle.nbd_wire.specs.declared.commands.TheConstants as commands
 
@@ -23,15 +23,10 @@ next_zeroes offset length left x xs l = go (nat_le x.length left) refl
         ap (λ n. zeroes_in (offset + (length - left) + x.length) n xs) (let z : left - x.length ≡ 0 = omega (arith, long) in z) ∙ none_of_none _ xs
         ∙ sym (none_of_none _ xs) ∙ ap (λ n. zeroes_in (offset + (length - (left - min x.length left))) n xs) (let z : 0 ≡ left - min x.length left = omega (arith, long) in z)
 
--- the range of a proper BLOCK_STATUS ends in the export
-proper_ends : (export : Exporting) (e : Operation) → e.command ≡ commands.BLOCK_STATUS → is_proper export e ≡ true → export.size < 2 ^ 64 → e.offset + e.length < 2 ^ 64
-proper_ends export e k p fits = let l = proper_range export e p (ap has_range k) in omega (arith, l, fits)
-
 -- what a request is told, by the exchange that shows it
 pub if_proper : (export : Exporting) (e : Operation) (command offset length : ℕ) (proper told : Bool) (y : List Piece) (s : Status) → export.size < 2 ^ 64 →
     command ≡ e.command → offset ≡ e.offset → length ≡ e.length → proper ≡ is_proper export e → told ≡ is_allocation e.contexts s.id →
     ((command ≡ commands.BLOCK_STATUS → proper ≡ true → offset + length < 2 ^ 64) →
     y ≡ (if told && ((command == commands.BLOCK_STATUS) && proper) then zeroes_in offset length s.extents else [])) →
     y ≡ (if is_allocation e.contexts s.id && ((e.command == commands.BLOCK_STATUS) && is_proper export e) then zeroes_in e.offset e.length s.extents else [])
-if_proper export e command offset length proper told y s fits c o l p t q =
-    q (λ k h. (let w = proper_ends export e (sym c ∙ k) (sym p ∙ h) fits in omega (arith, w, o, l))) ∙ (λ i. if t i && ((c i == commands.BLOCK_STATUS) && p i) then zeroes_in (o i) (l i) s.extents else [])
+if_proper export e command offset length proper told y s fits c o l p t q = grind (arith, proper_range)

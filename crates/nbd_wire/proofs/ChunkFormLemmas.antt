@@ -1,5 +1,5 @@
 -- `content_of` and `failure_of` give exactly what has the form of a chunk's payload.
-use Rattle.nbd_wire.proofs.Common.{◌≡◌, ℕ, ◌+◌, ◌<◌, ◌≤◌, ◌^◌, ◌==◌, List, [], ◌++◌, length, take, drop, Option, Some, None, true, false, not, nat_le, ◌&&◌, refl, sym, ◌∙◌, ap, arith, length-drop, length-append, subst, drop-append_seam, cond_both, cond-true, cond-false, eqb-true, eqb-false, ne_eqb, not-true, leb-true, le-leb, and_parts, take-append-drop, length-take-le, same_Some, none-some, big_bytes, big_number-reads_back, OFFSET_DATA, OFFSET_HOLE, ERROR, ERROR_OFFSET, Piece, Bytes, Hole, Failure, AreBytes, HasContentForm, HasFailureForm, GoesOn, number_at, content_of, failure_of, Reads}
+use Rattle.nbd_wire.proofs.Common.{◌≡◌, ℕ, ◌+◌, ◌<◌, ◌≤◌, ◌^◌, ◌==◌, List, [], ◌++◌, length, take, drop, Option, Some, None, true, false, not, nat_le, ◌&&◌, refl, sym, ◌∙◌, ap, arith, length-drop, length-append, subst, drop-append_seam, cond_both, cond-true, cond-false, eqb-true, eqb-false, ne_eqb, not-true, leb-true, le-leb, and_parts, take-append-drop, length-take-le, same_Some, none-some, big_bytes, big_number-reads_back, OFFSET_DATA, OFFSET_HOLE, ERROR_OFFSET, Piece, Bytes, Hole, Failure, AreBytes, HasContentForm, HasFailureForm, GoesOn, number_at, content_of, failure_of, Reads}
 use Rattle.nbd_wire.proofs.NumberLemmas.{AreBytes-drop, number_at-drop, number_at-lt}
 use Rattle.nbd_wire.proofs.HeadLemmas.{with_next, with_last}
 
@@ -44,13 +44,7 @@ content-found kind bytes b piece =
 
 content-only : (kind : ℕ) (bytes : List ℕ) (piece : Piece) → HasContentForm kind piece bytes → content_of kind bytes ≡ Some piece
 unfolding content_of HasContentForm
-content-only kind bytes (Bytes offset rest) h =
-    let cells : List ℕ = big_bytes 8 offset ++ rest in
-    let o : number_at 0 8 cells ≡ offset = big_number-reads_back 8 offset rest (omega (arith, h.1)) in
-    let long : 9 ≤ length cells = omega (arith, h.2) in
-    ap (λ k. content_of k bytes) h.0 ∙ ap (content_of OFFSET_DATA) h.3
-    ∙ cond-true (nat_le 9 (length cells)) _ _ (le-leb 9 (length cells) long)
-    ∙ ap (λ x. Some (Bytes x rest)) o
+content-only kind bytes (Bytes offset rest) h = grind (arith, cond-true, nat_le, le-leb)
 content-only kind bytes (Hole offset size) h =
     let cells : List ℕ = big_bytes 8 offset ++ big_bytes 4 size in
     let o : number_at 0 8 cells ≡ offset = big_number-reads_back 8 offset (big_bytes 4 size) (omega (arith, h.1)) in
@@ -116,16 +110,7 @@ failure-found kind bytes b failure =
 failure-only : (kind error : ℕ) (offset : Option ℕ) (message rest bytes : List ℕ) → 0 < error → error < 2 ^ 32 → length message < 2 ^ 16 → GoesOn kind offset rest
     → bytes ≡ failure_bytes error message rest → failure_of kind bytes ≡ Some (record { error = error; offset = offset })
 unfolding failure_of
-failure-only kind error None message rest bytes above below fits goes same =
-    let cells : List ℕ = failure_bytes error message rest in
-    let e : number_at 0 4 cells ≡ error = big_number-reads_back 4 error (drop 4 cells) (omega (arith, below)) in
-    let t : number_at 4 2 cells ≡ length message = big_number-reads_back 2 (length message) (message ++ rest) (omega (arith, fits)) in
-    let some : (number_at 0 4 cells == 0) ≡ false = ne_eqb (number_at 0 4 cells) 0 (λ z. absurd (omega (arith, above, e, z))) in
-    let long : 6 + number_at 4 2 cells ≤ length cells = omega (arith, t, length-append message rest) in
-    ap (λ k. failure_of k bytes) goes ∙ ap (failure_of ERROR) same
-    ∙ cond-false (number_at 0 4 cells == 0) _ _ some
-    ∙ cond-true (nat_le (6 + number_at 4 2 cells) (length cells)) _ _ (le-leb (6 + number_at 4 2 cells) (length cells) long)
-    ∙ ap (λ x. Some (record { error = x; offset = None })) e
+failure-only kind error None message rest bytes above below fits goes same = grind (arith, ne_eqb, length-append, cond-false, cond-true, nat_le, le-leb)
 failure-only kind error (Some offset) message rest bytes above below fits goes same =
     let cells : List ℕ = failure_bytes error message rest in
     let more : List ℕ = goes.2.0 in

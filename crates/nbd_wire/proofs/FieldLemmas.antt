@@ -76,18 +76,7 @@ pub record HasExtended (magic flags kind cookie offset len : ℕ) (payload bytes
 
 pub extended_fields : (magic flags kind cookie offset len : ℕ) (payload : List ℕ) → magic < 2 ^ 32 → flags < 2 ^ 16 → kind < 2 ^ 16 → cookie < 2 ^ 64 → offset < 2 ^ 64 → len < 2 ^ 64 →
     HasExtended magic flags kind cookie offset len payload ((big_bytes 4 magic ++ big_bytes 2 flags ++ big_bytes 2 kind ++ big_bytes 8 cookie ++ big_bytes 8 offset ++ big_bytes 8 len) ++ payload)
-extended_fields magic flags kind cookie offset len payload m f k c o l =
-    let bytes : List ℕ = (big_bytes 4 magic ++ big_bytes 2 flags ++ big_bytes 2 kind ++ big_bytes 8 cookie ++ big_bytes 8 offset ++ big_bytes 8 len) ++ payload in
-    record {
-      magic_is = big_number-reads_back 4 magic (drop 4 bytes) m;
-      flags_is = big_number-reads_back 2 flags (drop 6 bytes) f;
-      kind_is = big_number-reads_back 2 kind (drop 8 bytes) k;
-      cookie_is = big_number-reads_back 8 cookie (drop 16 bytes) c;
-      offset_is = big_number-reads_back 8 offset (drop 24 bytes) o;
-      length_is = big_number-reads_back 8 len (drop 32 bytes) l;
-      payload_is = refl;
-      long = omega arith;
-    }
+extended_fields magic flags kind cookie offset len payload m f k c o l = grind arith
 
 pub extended_request_fields : (flags command cookie offset len : ℕ) (payload : List ℕ) → flags < 2 ^ 16 → command < 2 ^ 16 → cookie < 2 ^ 64 → offset < 2 ^ 64 → len < 2 ^ 64 →
     HasExtended EXTENDED_REQUEST_MAGIC flags command cookie offset len payload (enc (ExtendedRequest flags command cookie offset len payload))

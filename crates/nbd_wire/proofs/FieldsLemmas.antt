@@ -34,12 +34,7 @@ pub record AreTheirs (p : ℕ) (fs : List Field) (bytes : List ℕ) : Type 0 whe
 
 found_from : (p : ℕ) (fs : List Field) (bytes : List ℕ) → AreBytes bytes → length bytes ≡ p + total fs → AreAt p fs bytes → AreTheirs p fs bytes
 found_from p [] bytes b l h = record { is = drop_all p bytes (omega (arith, l)); fit = tt }
-found_from p (f ∷ fs) bytes b l h =
-    let rest : AreTheirs (p + f.0) fs bytes = found_from (p + f.0) fs bytes b (omega (arith, l)) h.1 in
-    record {
-      is = with_number p f.0 bytes f.1 (bytes_of fs) b (omega (arith, length-drop p bytes, l)) h.0 rest.is;
-      fit = (subst (λ (v : ℕ). v < 256 ^ f.0) h.0 (number_at-lt p f.0 bytes b), rest.fit);
-    }
+found_from p (f ∷ fs) bytes b l h = grind (arith, with_number, length-drop, number_at-lt, found_from (p + f.0) fs bytes b)
 
 -- bytes in which they stand, and nothing else, are theirs
 pub found : (fs : List Field) (bytes : List ℕ) → AreBytes bytes → length bytes ≡ total fs → AreAt 0 fs bytes → AreTheirs 0 fs bytes

@@ -5,8 +5,7 @@ use Rattle.nbd_wire.proofs.NumberLemmas.{with_number}
 
 -- the last number of a slice
 pub with_last : (p n : ℕ) (bytes : List ℕ) → AreBytes bytes → length bytes ≡ p + n → drop p bytes ≡ big_bytes n (number_at p n bytes) ++ []
-with_last p n bytes b h =
-    with_number p n bytes (number_at p n bytes) [] b (omega (arith, length-drop p bytes)) refl (drop_all (p + n) bytes (omega arith))
+with_last p n bytes b h = grind (arith, with_number, length-drop, drop_all)
 
 -- a number that more bytes follow
 pub with_next : (p n : ℕ) (bytes rest : List ℕ) → AreBytes bytes → p + n ≤ length bytes → drop (p + n) bytes ≡ rest → drop p bytes ≡ big_bytes n (number_at p n bytes) ++ rest

@@ -1,5 +1,5 @@
 -- `info_of` gives exactly what has the form of an INFO payload.
-use Rattle.nbd_wire.proofs.Common.{◌≡◌, ◌≢◌, ℕ, ◌≤◌, ◌==◌, List, [], ◌++◌, length, drop, Option, Some, None, not, nat_le, refl, sym, ◌∙◌, ap, arith, subst, cond_both, cond-false, eqb-true, eqb-false, ne_eqb, not-false, leb-true, le-leb, same_Some, none-some, big_bytes, big_number-reads_back, EXPORT, BLOCK_SIZE, Info, Export, BlockSize, Other, AreBytes, HasInfoForm, number_at, info_of, Reads}
+use Rattle.nbd_wire.proofs.Common.{◌≡◌, ◌≢◌, ℕ, ◌≤◌, List, [], ◌++◌, length, drop, Some, nat_le, refl, ◌∙◌, ap, arith, cond_both, cond-false, eqb-true, eqb-false, ne_eqb, not-false, leb-true, le-leb, same_Some, none-some, big_bytes, big_number-reads_back, EXPORT, BLOCK_SIZE, Info, Export, BlockSize, Other, AreBytes, HasInfoForm, number_at, info_of, Reads}
 use Rattle.nbd_wire.proofs.NumberLemmas.{number_at-lt}
 use Rattle.nbd_wire.proofs.HeadLemmas.{with_known, with_next, with_last}
 
@@ -33,22 +33,7 @@ other-found bytes b l e s =
 -- what is given has the form
 found : (bytes : List ℕ) → AreBytes bytes → (info : Info) → info_of bytes ≡ Some info → HasInfoForm info bytes
 unfolding info_of
-found bytes b info =
-    let Gives : Option Info → Type 0 = λ given. given ≡ Some info → HasInfoForm info bytes in
-    let nothing : Gives None = λ same. absurd (none-some info same) in
-    let something : (given : Info) → HasInfoForm given bytes → Gives (Some given) = λ given form same. subst (λ i. HasInfoForm i bytes) (same_Some given info same) form in
-    let kind : ℕ = number_at 0 2 bytes in
-    cond_both (not (nat_le 2 (length bytes))) _ _ Gives (λ short. nothing)
-    (λ long.
-    cond_both (kind == 0) _ _ Gives
-    (λ is_export. cond_both (length bytes == 12) _ _ Gives
-    (λ whole. something _ (export-found bytes b (eqb-true kind 0 is_export) (eqb-true (length bytes) 12 whole)))
-    (λ partial. nothing))
-    (λ no_export. cond_both (kind == 3) _ _ Gives
-    (λ is_sizes. cond_both (length bytes == 14) _ _ Gives
-    (λ whole. something _ (block_size-found bytes b (eqb-true kind 3 is_sizes) (eqb-true (length bytes) 14 whole)))
-    (λ partial. nothing))
-    (λ no_sizes. something _ (other-found bytes b (leb-true 2 (length bytes) (not-false (nat_le 2 (length bytes)) long)) (eqb-false kind 0 no_export) (eqb-false kind 3 no_sizes)))))
+found bytes b info = grind (arith, none-some, same_Some, cond_both, nat_le, export-found, eqb-true, block_size-found, other-found, leb-true, not-false, eqb-false)
 
 -- what has the form is given
 only : (bytes : List ℕ) (info : Info) → HasInfoForm info bytes → info_of bytes ≡ Some info
@@ -65,16 +50,7 @@ only bytes (BlockSize least preferred most) h =
     let m : number_at 10 4 cells ≡ most = big_number-reads_back 4 most [] (omega (arith, h.2)) in
     ap info_of h.3 ∙ ap (λ x. Some (BlockSize x (number_at 6 4 cells) (number_at 10 4 cells))) l
     ∙ ap (λ x. Some (BlockSize least x (number_at 10 4 cells))) p ∙ ap (λ x. Some (BlockSize least preferred x)) m
-only bytes (Other kind) h =
-    let rest : List ℕ = h.3.0 in
-    let cells : List ℕ = big_bytes 2 kind ++ rest in
-    let k : number_at 0 2 cells ≡ kind = big_number-reads_back 2 kind rest (omega (arith, h.0)) in
-    let long : 2 ≤ length cells = omega arith in
-    ap info_of h.3.1
-    ∙ cond-false (not (nat_le 2 (length cells))) _ _ (ap not (le-leb 2 (length cells) long))
-    ∙ cond-false (number_at 0 2 cells == 0) _ _ (ne_eqb (number_at 0 2 cells) 0 (λ e. h.1 (sym k ∙ e)))
-    ∙ cond-false (number_at 0 2 cells == 3) _ _ (ne_eqb (number_at 0 2 cells) 3 (λ e. h.2 (sym k ∙ e)))
-    ∙ ap (λ x. Some (Other x)) k
+only bytes (Other kind) h = grind (arith, cond-false, nat_le, le-leb, ne_eqb)
 
 -- `info_of` gives exactly what has the form
 pub info_of-reads : (bytes : List ℕ) → AreBytes bytes → Reads (info_of bytes) (λ info. HasInfoForm info bytes)

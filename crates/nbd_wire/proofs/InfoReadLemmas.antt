@@ -1,5 +1,5 @@
 -- What `info_of` of the specification gives, from what the reader saw.
-use Rattle.nbd_wire.proofs.Common.{◌≡◌, ℕ, ◌<◌, ◌≤◌, ◌==◌, List, length, Option, Some, None, false, not, nat_le, sym, ◌∙◌, ap, subst, get_or, cond-true, cond-false, eq-eqb, ne_eqb, le-leb, lt-leb, EXPORT, BLOCK_SIZE, Info, Export, BlockSize, Other, HasInfoForm, number_at, info_of, Reads}
+use Rattle.nbd_wire.proofs.Common.{arith, ◌≡◌, ℕ, ◌<◌, ◌≤◌, List, length, Option, Some, None, false, not, nat_le, sym, ap, subst, get_or, cond-true, cond-false, eq-eqb, ne_eqb, le-leb, lt-leb, EXPORT, BLOCK_SIZE, Info, Export, BlockSize, Other, HasInfoForm, number_at, info_of, Reads}
 use Rattle.nbd_wire.proofs.InfoFormLemmas.{info_of-reads}
 use Rattle.nbd_wire.proofs.NumberLemmas.{AreBytes-from_places}
 
@@ -13,44 +13,23 @@ behind bytes info l then_is = sym (then_is (ap not (le-leb 2 (length bytes) l)))
 
 pub info-export : (bytes : List ℕ) (kind size flags : ℕ) → 2 ≤ length bytes → kind ≡ number_at 0 2 bytes → kind ≡ EXPORT → length bytes ≡ 12 → size ≡ number_at 2 8 bytes → flags ≡ number_at 10 2 bytes → Some (Export size flags) ≡ info_of bytes
 unfolding info_of
-info-export bytes kind size flags l k e w s f =
-    behind bytes (Some (Export size flags)) l (λ t. cond-false (not (nat_le 2 (length bytes))) _ _ t
-    ∙ cond-true (number_at 0 2 bytes == 0) _ _ (eq-eqb (number_at 0 2 bytes) 0 (sym k ∙ e))
-    ∙ cond-true (length bytes == 12) _ _ (eq-eqb (length bytes) 12 w)
-    ∙ ap (λ x. Some (Export x (number_at 10 2 bytes))) (sym s) ∙ ap (λ x. Some (Export size x)) (sym f))
+info-export bytes kind size flags l k e w s f = grind (arith, behind, cond-false, nat_le, cond-true, eq-eqb)
 
 pub info-no_export : (bytes : List ℕ) (kind : ℕ) → 2 ≤ length bytes → kind ≡ number_at 0 2 bytes → kind ≡ EXPORT → (length bytes ≡ 12 → ⊥) → None ≡ info_of bytes
 unfolding info_of
-info-no_export bytes kind l k e w =
-    behind bytes None l (λ t. cond-false (not (nat_le 2 (length bytes))) _ _ t
-    ∙ cond-true (number_at 0 2 bytes == 0) _ _ (eq-eqb (number_at 0 2 bytes) 0 (sym k ∙ e))
-    ∙ cond-false (length bytes == 12) _ _ (ne_eqb (length bytes) 12 w))
+info-no_export bytes kind l k e w = grind (arith, behind, cond-false, nat_le, cond-true, eq-eqb, ne_eqb)
 
 pub info-sizes : (bytes : List ℕ) (kind least preferred most : ℕ) → 2 ≤ length bytes → kind ≡ number_at 0 2 bytes → kind ≡ BLOCK_SIZE → length bytes ≡ 14 → least ≡ number_at 2 4 bytes → preferred ≡ number_at 6 4 bytes → most ≡ number_at 10 4 bytes → Some (BlockSize least preferred most) ≡ info_of bytes
 unfolding info_of
-info-sizes bytes kind least preferred most l k e w s f m =
-    behind bytes (Some (BlockSize least preferred most)) l (λ t. cond-false (not (nat_le 2 (length bytes))) _ _ t
-    ∙ cond-false (number_at 0 2 bytes == 0) _ _ (ap (λ x. x == 0) (sym k ∙ e))
-    ∙ cond-true (number_at 0 2 bytes == 3) _ _ (eq-eqb (number_at 0 2 bytes) 3 (sym k ∙ e))
-    ∙ cond-true (length bytes == 14) _ _ (eq-eqb (length bytes) 14 w)
-    ∙ ap (λ x. Some (BlockSize x (number_at 6 4 bytes) (number_at 10 4 bytes))) (sym s)
-    ∙ ap (λ x. Some (BlockSize least x (number_at 10 4 bytes))) (sym f) ∙ ap (λ x. Some (BlockSize least preferred x)) (sym m))
+info-sizes bytes kind least preferred most l k e w s f m = grind (arith, behind, cond-false, nat_le, cond-true, eq-eqb)
 
 pub info-no_sizes : (bytes : List ℕ) (kind : ℕ) → 2 ≤ length bytes → kind ≡ number_at 0 2 bytes → kind ≡ BLOCK_SIZE → (length bytes ≡ 14 → ⊥) → None ≡ info_of bytes
 unfolding info_of
-info-no_sizes bytes kind l k e w =
-    behind bytes None l (λ t. cond-false (not (nat_le 2 (length bytes))) _ _ t
-    ∙ cond-false (number_at 0 2 bytes == 0) _ _ (ap (λ x. x == 0) (sym k ∙ e))
-    ∙ cond-true (number_at 0 2 bytes == 3) _ _ (eq-eqb (number_at 0 2 bytes) 3 (sym k ∙ e))
-    ∙ cond-false (length bytes == 14) _ _ (ne_eqb (length bytes) 14 w))
+info-no_sizes bytes kind l k e w = grind (arith, behind, cond-false, nat_le, cond-true, eq-eqb, ne_eqb)
 
 pub info-other : (bytes : List ℕ) (kind : ℕ) → 2 ≤ length bytes → kind ≡ number_at 0 2 bytes → (kind ≡ EXPORT → ⊥) → (kind ≡ BLOCK_SIZE → ⊥) → Some (Other kind) ≡ info_of bytes
 unfolding info_of
-info-other bytes kind l k e w =
-    behind bytes (Some (Other kind)) l (λ t. cond-false (not (nat_le 2 (length bytes))) _ _ t
-    ∙ cond-false (number_at 0 2 bytes == 0) _ _ (ne_eqb (number_at 0 2 bytes) 0 (λ x. e (k ∙ x)))
-    ∙ cond-false (number_at 0 2 bytes == 3) _ _ (ne_eqb (number_at 0 2 bytes) 3 (λ x. w (k ∙ x)))
-    ∙ ap (λ x. Some (Other x)) (sym k))
+info-other bytes kind l k e w = grind (arith, behind, cond-false, nat_le, ne_eqb)
 
 -- what the specification gives has exactly the form
 pub info-form : (bytes : List ℕ) → ((k : ℕ) → get_or bytes k 0 < 256) → (answer : Option Info) → answer ≡ info_of bytes → Reads answer (λ info. HasInfoForm info bytes)

@@ -1,21 +1,12 @@
 -- What stands after a length of four bytes, and `is_listed` and `is_go`, which test for it.
-use Rattle.nbd_wire.proofs.Common.{◌≡◌, ℕ, ◌+◌, ◌*◌, ◌<◌, ◌≤◌, ◌^◌, ◌==◌, List, ◌++◌, length, take, drop, Bool, true, nat_le, IsTrue, refl, sym, ◌∙◌, ap, arith, length-drop, length-append, append_assoc, subst, ◌↔◌, take-append_seam, drop-append_seam, eqb-true, eq-eqb, leb-true, le-leb, and_parts, and_from, take-append-drop, length-take-le, big_bytes, big_number-reads_back, AreBytes, HasListedForm, HasGoForm, number_at, is_listed, is_go}
+use Rattle.nbd_wire.proofs.Common.{◌≡◌, ℕ, ◌+◌, ◌*◌, ◌≤◌, ◌==◌, List, ◌++◌, length, take, drop, Bool, true, nat_le, IsTrue, refl, sym, ◌∙◌, ap, arith, length-drop, length-append, append_assoc, ◌↔◌, take-append_seam, drop-append_seam, eqb-true, eq-eqb, leb-true, le-leb, and_parts, and_from, take-append-drop, length-take-le, big_bytes, AreBytes, HasListedForm, HasGoForm, number_at, is_listed, is_go}
 use Rattle.nbd_wire.proofs.NumberLemmas.{AreBytes-drop, number_at-drop, number_at-lt}
 use Rattle.nbd_wire.proofs.HeadLemmas.{with_next}
 
 -- a length that is not too large counts out a name and leaves a rest
 pub listed-found : (bytes : List ℕ) → AreBytes bytes → 4 + number_at 0 4 bytes ≤ length bytes → HasListedForm (take (number_at 0 4 bytes) (drop 4 bytes)) (drop (number_at 0 4 bytes) (drop 4 bytes)) bytes
 unfolding HasListedForm
-listed-found bytes b l =
-    let n : ℕ = number_at 0 4 bytes in
-    let name : List ℕ = take n (drop 4 bytes) in
-    let rest : List ℕ = drop n (drop 4 bytes) in
-    let is : length name ≡ n = length-take-le n (drop 4 bytes) (omega (arith, length-drop 4 bytes)) in
-    let fits : n < 2 ^ 32 = omega (arith, number_at-lt 0 4 bytes b) in (
-      omega arith,
-      with_next 0 4 bytes (name ++ rest) b (omega arith) (sym (take-append-drop n (drop 4 bytes)))
-          ∙ ap (λ k. big_bytes 4 k ++ (name ++ rest)) (sym is),
-    )
+listed-found bytes b l = grind (arith, length-take-le, length-drop, number_at-lt, with_next, take-append-drop)
 
 -- a name and a rest after a length are what it counts out
 pub record Counted (name rest bytes : List ℕ) : Type 0 where
@@ -26,33 +17,16 @@ pub record Counted (name rest bytes : List ℕ) : Type 0 where
 
 pub listed-only : (name rest bytes : List ℕ) → HasListedForm name rest bytes → Counted name rest bytes
 unfolding HasListedForm
-listed-only name rest bytes h =
-    subst (λ l. Counted name rest l) (sym h.1)
-    (record {
-      whole = omega (arith, length-append name rest);
-      count = big_number-reads_back 4 (length name) (name ++ rest) (omega (arith, h.0));
-      name_is = take-append_seam name rest;
-      rest_is = drop-append_seam name rest;
-    })
+listed-only name rest bytes h = grind (arith, length-append, take-append_seam, drop-append_seam)
 
 -- only one name and one rest are counted out
 pub counted-one : (a x b y bytes : List ℕ) → HasListedForm a x bytes → HasListedForm b y bytes → (a ≡ b) × (x ≡ y)
-counted-one a x b y bytes h k =
-    let c : Counted a x bytes = listed-only a x bytes h in
-    let d : Counted b y bytes = listed-only b y bytes k in
-    let same : length a ≡ length b = sym c.count ∙ d.count in
-    (sym c.name_is ∙ ap (λ n. take n (drop 4 bytes)) same ∙ d.name_is, sym c.rest_is ∙ ap (λ n. drop n (drop 4 bytes)) same ∙ d.rest_is)
+counted-one a x b y bytes h k = grind (arith, listed-only)
 
 -- the test for a name and a rest
 pub is_listed-exact : (bytes : List ℕ) → AreBytes bytes → IsTrue (is_listed bytes) ↔ ((name : List ℕ) × (text : List ℕ) × HasListedForm name text bytes)
 unfolding is_listed
-is_listed-exact bytes b = (
-  λ t. let p : (nat_le 4 (length bytes) ≡ true) × (nat_le (4 + number_at 0 4 bytes) (length bytes) ≡ true) = and_parts (nat_le 4 (length bytes)) (nat_le (4 + number_at 0 4 bytes) (length bytes)) t in
-      (take (number_at 0 4 bytes) (drop 4 bytes), drop (number_at 0 4 bytes) (drop 4 bytes), listed-found bytes b (leb-true (4 + number_at 0 4 bytes) (length bytes) p.1)),
-  λ (name, text, h). let c : Counted name text bytes = listed-only name text bytes h in
-      and_from (nat_le 4 (length bytes)) (nat_le (4 + number_at 0 4 bytes) (length bytes))
-      (le-leb 4 (length bytes) (omega (arith, c.whole))) (le-leb (4 + number_at 0 4 bytes) (length bytes) (omega (arith, c.whole, c.count))),
-)
+is_listed-exact bytes b = grind (arith, nat_le, and_parts, listed-found, leb-true, listed-only, and_from, le-leb)
 
 -- what counts what a client asks for stands after the name
 pub go-found : (name rest bytes : List ℕ) (count : ℕ) → AreBytes rest → HasListedForm name rest bytes → count ≡ number_at 0 2 rest → length rest ≡ 2 + 2 * count → HasGoForm name count bytes
@@ -72,13 +46,7 @@ go-found name rest bytes count b h c l =
 
 pub go-only : (name bytes : List ℕ) (count : ℕ) → HasGoForm name count bytes → (rest : List ℕ) × HasListedForm name rest bytes × (number_at 0 2 rest ≡ count) × (length rest ≡ 2 + 2 * count)
 unfolding HasGoForm HasListedForm
-go-only name bytes count h =
-    let asked : List ℕ = h.2.0 in (
-      big_bytes 2 count ++ asked,
-      (h.0, h.2.2 ∙ append_assoc (big_bytes 4 (length name) ++ name) (big_bytes 2 count) asked),
-      big_number-reads_back 2 count asked (omega (arith, h.1)),
-      omega (arith, h.2.1),
-    )
+go-only name bytes count h = grind (arith, append_assoc)
 
 -- the test for the data of INFO and GO
 pub is_go-exact : (bytes : List ℕ) → AreBytes bytes → IsTrue (is_go bytes) ↔ ((name : List ℕ) × (count : ℕ) × HasGoForm name count bytes)

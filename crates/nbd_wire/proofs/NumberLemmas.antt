@@ -2,8 +2,7 @@
 use Rattle.nbd_wire.proofs.Common.{◌≡◌, ℕ, zero, suc, ◌+◌, ◌*◌, ◌/◌, ◌%◌, ◌<◌, ◌≤◌, ◌^◌, List, [], ◌∷◌, ◌++◌, length, take, drop, slice_index, refl, sym, ◌∙◌, ap, arith, div-one, mod-eq_of_lt, mul-add-div_right, one-le-pow, pow-succ', mul_assoc, mul-add-mod_self_right, div-mul-add, take-append-drop, drop-drop, byte_at, bytes_high_first, big_from, big_bytes, big_number, big_from-cons, big_from-lt, AreBytes, number_at}
 
 byte_at-pow : (k x : ℕ) → byte_at k x ≡ x / 256 ^ k % 256
-byte_at-pow zero x = ap (λ (y : ℕ). y % 256) (sym (div-one x))
-byte_at-pow (suc k) x = refl
+byte_at-pow k x = grind (arith, div-one)
 
 pow_pos : (n : ℕ) → zero < 256 ^ n
 pow_pos n = let h = one-le-pow n 256 (omega arith) in omega arith

@@ -4,7 +4,6 @@ use Rattle.nbd_wire.proofs.HeadLemmas.{with_next}
 use Rattle.nbd_wire.proofs.ListedFormLemmas.{Counted, is_listed-exact, listed-only}
 use Rattle.nbd_wire.proofs.ListedReadLemmas.{same_pair}
 use Rattle.nbd_wire.proofs.NumberLemmas.{AreBytes-drop, number_at-lt}
-use Rattle.nbd_wire.proofs.ReadLemmas.{Reads-found, Reads-none}
 
 -- what stands behind the name that was counted out
 pub behind : (name rest bytes : List ℕ) → HasListedForm name rest bytes → behind_name bytes ≡ rest
@@ -14,9 +13,7 @@ pub is_listed_one : (name rest bytes : List ℕ) → AreBytes bytes → HasListe
 is_listed_one name rest bytes b h = (is_listed-exact bytes b).1 (name, rest, h)
 
 pub name_is : (name rest bytes : List ℕ) → AreBytes bytes → HasListedForm name rest bytes → name_in bytes ≡ name
-name_is name rest bytes b h =
-    let c : Counted name rest bytes = listed-only name rest bytes h in
-    ap (λ l. if l then take (number_at 0 4 bytes) (drop 4 bytes) else []) (is_listed_one name rest bytes b h) ∙ ap (λ n. take n (drop 4 bytes)) c.count ∙ c.name_is
+name_is name rest bytes b h = grind (arith, listed-only, is_listed_one)
 
 pub no_name : (bytes : List ℕ) → is_listed bytes ≡ false → name_in bytes ≡ []
 no_name bytes e = ap (λ l. if l then take (number_at 0 4 bytes) (drop 4 bytes) else []) e
@@ -82,10 +79,7 @@ queries-short name rest bytes b h l = queries-named name rest bytes b h ∙ ap (
 
 pub queries-long : (name rest bytes : List ℕ) (is : Bool) → AreBytes bytes → HasListedForm name rest bytes → 4 ≤ length rest → are_queries (number_at 0 4 rest) (drop 4 rest) ≡ is →
     queries_of bytes ≡ (if is then Some (number_at 0 4 rest) else None)
-queries-long name rest bytes is b h l e =
-    queries-named name rest bytes b h
-    ∙ ap (λ t. if t && are_queries (number_at 0 4 rest) (drop 4 rest) then Some (number_at 0 4 rest) else None) (le-leb 4 (length rest) l)
-    ∙ ap (λ t. if t then Some (number_at 0 4 rest) else None) e
+queries-long name rest bytes is b h l e = grind (arith, queries-named, le-leb)
 
 -- what has the form is read
 pub queries_of-form : (name : List ℕ) (count : ℕ) (bytes : List ℕ) → AreBytes bytes → HasQueriesForm name count bytes → (queries_of bytes ≡ Some count) × (name_in bytes ≡ name)
@@ -140,22 +134,14 @@ Asked bytes v = HasQueriesForm v.0 v.1 bytes
 
 -- an answer that gives the count and the name that are read
 pub queries-reads : {R : Type 0} (seen : R → List ℕ × ℕ) (answer : Option R) (bytes : List ℕ) → AreBytes bytes → option_map (λ r. (seen r).1) answer ≡ queries_of bytes → IfSome answer (λ r. (seen r).0 ≡ name_in bytes) → ReadsAs seen answer (Asked bytes)
-queries-reads seen None bytes b e n = Reads-none (Asked bytes) (λ other f. none-some other.1 (e ∙ (queries_of-form other.0 other.1 bytes b f).0))
-queries-reads seen (Some r) bytes b e n =
-    let value : List ℕ × ℕ = (name_in bytes, (seen r).1) in
-    Reads-found (Asked bytes) (seen r) value (same_pair (seen r).0 (name_in bytes) (seen r).1 (seen r).1 n refl) (queries_of-found bytes (seen r).1 b (sym e))
-    (λ other f. let only = queries_of-form other.0 other.1 bytes b f in same_pair (name_in bytes) other.0 (seen r).1 other.1 only.1 (same_Some (seen r).1 other.1 (e ∙ only.0)))
+queries-reads seen answer bytes b e n = grind (arith, none-some, queries_of-form, same_pair, queries_of-found, same_Some)
 
 -- one query less
 pub one_less : (n : ℕ) (bytes : List ℕ) → 0 < n → is_listed bytes ≡ true → are_queries n bytes ≡ are_queries (n - 1) (behind_name bytes)
-one_less zero bytes l e = absurd (omega arith)
-one_less (suc n) bytes l e =
-    let less : suc n - 1 ≡ n = omega arith in
-    ap (λ b. b && are_queries n (behind_name bytes)) e ∙ ap (λ k. are_queries k (behind_name bytes)) (sym less)
+one_less n bytes l e = grind arith
 
 pub none_less : (n : ℕ) (bytes : List ℕ) → 0 < n → is_listed bytes ≡ false → are_queries n bytes ≡ false
-none_less zero bytes l e = absurd (omega arith)
-none_less (suc n) bytes l e = ap (λ b. b && are_queries n (behind_name bytes)) e
+none_less n bytes l e = grind arith
 
 pub no_more : (n : ℕ) (bytes : List ℕ) → n ≡ 0 → are_queries n bytes ≡ (length bytes == 0)
 no_more n bytes e = ap (λ k. are_queries k bytes) e
@@ -163,16 +149,6 @@ no_more n bytes e = ap (λ k. are_queries k bytes) e
 -- an id and a name, and that they have the form
 abbrev pub Told : List ℕ → Context → Type 0
 Told bytes context = HasContextForm context bytes
-
-context-found : (bytes : List ℕ) → AreBytes bytes → 4 ≤ length bytes → HasContextForm (record { id = number_at 0 4 bytes; name = drop 4 bytes }) bytes
-unfolding HasContextForm
-context-found bytes b l = (omega (arith, number_at-lt 0 4 bytes b), with_next 0 4 bytes (drop 4 bytes) b (omega (arith, l)) refl)
-
-context-only : (context : Context) (bytes : List ℕ) → HasContextForm context bytes → (4 ≤ length bytes) × (record { id = number_at 0 4 bytes; name = drop 4 bytes } ≡ context)
-unfolding HasContextForm
-context-only context bytes h =
-    subst (λ l. (4 ≤ length l) × (record { id = number_at 0 4 l; name = drop 4 l } ≡ context)) (sym h.1)
-    (omega arith, ap (λ n. record { id = n; name = context.name }) (big_number-reads_back 4 context.id context.name (omega (arith, h.0))))
 
 pub context-short : (bytes : List ℕ) → length bytes < 4 → context_of bytes ≡ None
 unfolding context_of
@@ -184,12 +160,5 @@ context-long bytes l = ap (λ b. if b then Some (record { id = number_at 0 4 byt
 
 -- an answer that gives the context that is read
 pub context-reads : {R : Type 0} (seen : R → Context) (answer : Option R) (bytes : List ℕ) → AreBytes bytes → option_map seen answer ≡ context_of bytes → ReadsAs seen answer (Told bytes)
-context-reads seen None bytes b e = Reads-none (Told bytes) (λ other f. none-some _ (e ∙ context-long bytes (context-only other bytes f).0))
-context-reads seen (Some r) bytes b e = go (nat_le 4 (length bytes)) refl
-  where
-    go : (t : Bool) → nat_le 4 (length bytes) ≡ t → ReadsAs seen (Some r) (Told bytes)
-    go false t = absurd (none-some (seen r) (sym (context-short bytes (leb-false 4 (length bytes) t)) ∙ sym e))
-    go true t =
-        let long : 4 ≤ length bytes = leb-true 4 (length bytes) t in
-        let is : seen r ≡ record { id = number_at 0 4 bytes; name = drop 4 bytes } = same_Some (seen r) (record { id = number_at 0 4 bytes; name = drop 4 bytes }) (e ∙ context-long bytes long) in
-        Reads-found (Told bytes) (seen r) (record { id = number_at 0 4 bytes; name = drop 4 bytes }) is (context-found bytes b long) (λ other f. (context-only other bytes f).1)
+unfolding HasContextForm
+context-reads seen answer bytes b e = grind (arith, none-some, context-long, nat_le, context-short, leb-false, leb-true, same_Some)

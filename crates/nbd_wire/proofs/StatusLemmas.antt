@@ -1,5 +1,5 @@
 -- A status chunk's payload: `status_of` gives exactly what has the form.
-use Rattle.nbd_wire.proofs.Common.{◌≡◌, ℕ, zero, suc, ◌+◌, ◌-◌, ◌*◌, ◌/◌, ◌%◌, ◌<◌, ◌≤◌, ◌^◌, ◌==◌, ◌||◌, List, [], ◌∷◌, ◌++◌, length, drop, not, Option, Some, None, Bool, true, false, nat_le, if◌then◌else◌, refl, sym, ◌∙◌, ap, arith, length-drop, append_assoc, subst, All, option_map, eqb-false, eqb-true, leb-false, leb-true, ne_eqb, All-cons, All-head, All-nil, All-tail, none-some, same_Some, big_bytes, big_number-reads_back, AreBytes, Extent, Status, HasStatusForm, with_extents, extents_in, extents_of, has_empty, number_at, status_of, ReadsAs}
+use Rattle.nbd_wire.proofs.Common.{◌≡◌, ℕ, zero, suc, ◌+◌, ◌*◌, ◌/◌, ◌%◌, ◌<◌, ◌≤◌, ◌^◌, ◌==◌, ◌||◌, List, [], ◌∷◌, ◌++◌, length, drop, not, Option, Some, None, Bool, true, false, nat_le, if◌then◌else◌, refl, sym, ◌∙◌, ap, arith, length-drop, append_assoc, subst, All, option_map, eqb-false, eqb-true, leb-false, leb-true, ne_eqb, All-cons, All-head, All-nil, All-tail, none-some, same_Some, big_bytes, big_number-reads_back, AreBytes, Extent, Status, HasStatusForm, with_extents, extents_in, extents_of, has_empty, number_at, status_of, ReadsAs}
 use Rattle.nbd_wire.proofs.HeadLemmas.{with_known, with_next}
 use Rattle.nbd_wire.proofs.NumberLemmas.{AreBytes-drop, number_at-lt}
 use Rattle.nbd_wire.proofs.ReadLemmas.{Reads-found, Reads-none}
@@ -9,17 +9,13 @@ pub extents-none : (bytes : List ℕ) → length bytes < 8 → extents_of false 
 extents-none bytes l = ap (λ n. extents_in 4 n bytes) (let none : length bytes / 8 ≡ 0 = omega (arith, l) in none)
 
 pub extents-first : (bytes : List ℕ) → 8 ≤ length bytes → extents_of false bytes ≡ record { length = number_at 0 4 bytes; flags = number_at 4 4 bytes } ∷ extents_of false (drop 8 bytes)
-extents-first bytes l =
-    let n : length bytes / 8 ≡ suc (length (drop 8 bytes) / 8) = omega (arith, l, length-drop 8 bytes) in
-    ap (λ k. extents_in 4 k bytes) n
+extents-first bytes l = grind (arith, length-drop)
 
 pub wide-none : (bytes : List ℕ) → length bytes < 16 → extents_of true bytes ≡ []
 wide-none bytes l = ap (λ n. extents_in 8 n bytes) (let none : length bytes / 16 ≡ 0 = omega (arith, l) in none)
 
 pub wide-first : (bytes : List ℕ) → 16 ≤ length bytes → extents_of true bytes ≡ record { length = number_at 0 8 bytes; flags = number_at 8 8 bytes } ∷ extents_of true (drop 16 bytes)
-wide-first bytes l =
-    let n : length bytes / 16 ≡ suc (length (drop 16 bytes) / 16) = omega (arith, l, length-drop 16 bytes) in
-    ap (λ k. extents_in 8 k bytes) n
+wide-first bytes l = grind (arith, length-drop)
 
 abbrev Fit : (width : ℕ) → Extent → Type 0
 Fit width x = (0 < x.length) × (x.length < 256 ^ width) × (x.flags < 256 ^ width)
@@ -29,14 +25,11 @@ no_bytes [] e = refl
 no_bytes (x ∷ bytes) e = absurd (cc)
 
 neither : (a b : Bool) → (a || b) ≡ false → (a ≡ false) × (b ≡ false)
-neither false false e = (refl, refl)
-neither false true e = absurd (cc)
-neither true b e = absurd (cc)
+neither a b e = grind arith
 
 module _ (width : ℕ) where
   extents_in-some : (n : ℕ) (bytes : List ℕ) → 0 < n → extents_in width n bytes ≡ [] → ⊥
-  extents_in-some zero bytes l e = omega (arith, l)
-  extents_in-some (suc n) bytes l e = cc
+  extents_in-some n bytes l e = grind arith
 
   extents_in-length : (n : ℕ) (bytes : List ℕ) → length (extents_in width n bytes) ≡ n
   extents_in-length zero bytes = refl
@@ -61,10 +54,7 @@ module _ (width : ℕ) where
 -- whole descriptors are the bytes that they are read from, and are read back from their bytes
 short-bytes : (n : ℕ) (bytes : List ℕ) → AreBytes bytes → length bytes ≡ 8 * n → bytes ≡ with_extents 4 (extents_in 4 n bytes)
 short-bytes zero bytes b e = no_bytes bytes (omega (arith, e))
-short-bytes (suc n) bytes b e =
-    let later : drop 8 bytes ≡ with_extents 4 (extents_in 4 n (drop 8 bytes)) = short-bytes n (drop 8 bytes) (AreBytes-drop 8 bytes b) (length-drop 8 bytes ∙ omega (arith, e)) in
-    with_next 0 4 bytes _ b (omega (arith, e)) (with_next 4 4 bytes _ b (omega (arith, e)) later)
-    ∙ sym (append_assoc (big_bytes 4 (number_at 0 4 bytes)) (big_bytes 4 (number_at 4 4 bytes)) (with_extents 4 (extents_in 4 n (drop 8 bytes))))
+short-bytes (suc n) bytes b e = grind (arith, length-drop, with_next, append_assoc, short-bytes n (drop 8 bytes) (AreBytes-drop 8 bytes b))
 
 wide-bytes : (n : ℕ) (bytes : List ℕ) → AreBytes bytes → length bytes ≡ 16 * n → bytes ≡ with_extents 8 (extents_in 8 n bytes)
 wide-bytes zero bytes b e = no_bytes bytes (omega (arith, e))
@@ -115,29 +105,7 @@ IsWhole true bytes = (24 ≤ length bytes) × (length (drop 8 bytes) ≡ 16 * nu
 
 status-found : (extended : Bool) (bytes : List ℕ) → AreBytes bytes → IsWhole extended bytes → HasStatusForm extended (seen_in extended bytes) bytes
 unfolding HasStatusForm
-status-found false bytes b w =
-    let rest : List ℕ = drop 4 bytes in
-    let left : length rest ≡ length bytes - 4 = length-drop 4 bytes in
-    let n : ℕ = length rest / 8 in
-    let whole : length rest ≡ 8 * n = omega (arith, w.1) in (
-      omega (arith, number_at-lt 0 4 bytes b),
-      extents_in-some 4 n rest (omega (arith, w.0, left, whole)),
-      extents_in-fit 4 n rest (AreBytes-drop 4 bytes b) w.2,
-      with_next 0 4 bytes _ b (omega (arith, w.0)) (short-bytes n rest (AreBytes-drop 4 bytes b) whole),
-    )
-status-found true bytes b w =
-    let rest : List ℕ = drop 8 bytes in
-    let left : length rest ≡ length bytes - 8 = length-drop 8 bytes in
-    let n : ℕ = length rest / 16 in
-    let whole : length rest ≡ 16 * n = omega (arith, w.1) in
-    let count : number_at 4 4 bytes ≡ length (extents_in 8 n rest) = (let c : number_at 4 4 bytes ≡ n = omega (arith, w.1, whole) in c) ∙ sym (extents_in-length 8 n rest) in
-    let low : number_at 4 4 bytes < 2 ^ 32 = omega (arith, number_at-lt 4 4 bytes b) in (
-      omega (arith, number_at-lt 0 4 bytes b),
-      extents_in-some 8 n rest (omega (arith, w.0, left, whole)),
-      extents_in-fit 8 n rest (AreBytes-drop 8 bytes b) w.2,
-      subst (λ k. k < 2 ^ 32) count low,
-      with_next 0 4 bytes _ b (omega (arith, w.0)) (with_known 4 4 (length (extents_in 8 n rest)) bytes _ b (omega (arith, w.0)) count (wide-bytes n rest (AreBytes-drop 8 bytes b) whole)),
-    )
+status-found extended bytes b w = grind (arith, length-drop, number_at-lt, extents_in-some, extents_in-fit, with_next, short-bytes, extents_in-length, with_known, wide-bytes)
 
 some_of : (xs : List Extent) → (xs ≡ [] → ⊥) → 0 < length xs
 some_of [] n = absurd (n refl)
@@ -175,32 +143,13 @@ pub data Told (extended : Bool) (bytes : List ℕ) : Type 0 where
 abbrev answer : (extended long even empty : Bool) → List ℕ → Option Status
 answer extended long even empty bytes = if not long || not even || empty then None else Some (seen_in extended bytes)
 
-short-answer : (bytes : List ℕ) → status_of false bytes ≡ answer false (nat_le 12 (length bytes)) (length (drop 4 bytes) % 8 == 0) (has_empty (extents_of false (drop 4 bytes))) bytes
-unfolding status_of
-short-answer bytes = refl
-
-wide-answer : (bytes : List ℕ) → status_of true bytes ≡ answer true (nat_le 24 (length bytes)) (length (drop 8 bytes) == 16 * number_at 4 4 bytes) (has_empty (extents_of true (drop 8 bytes))) bytes
-unfolding status_of
-wide-answer bytes = refl
-
 short-told : (bytes : List ℕ) → Told false bytes
-short-told bytes = go (nat_le 12 (length bytes)) (length (drop 4 bytes) % 8 == 0) (has_empty (extents_of false (drop 4 bytes))) refl refl refl
-  where
-    go : (long even empty : Bool) → nat_le 12 (length bytes) ≡ long → (length (drop 4 bytes) % 8 == 0) ≡ even → has_empty (extents_of false (drop 4 bytes)) ≡ empty → Told false bytes
-    go false even empty l e n = broken (λ w. absurd (let m = leb-false 12 (length bytes) l in omega (arith, m, w.0))) (short-answer bytes ∙ (λ i. answer false (l i) (length (drop 4 bytes) % 8 == 0) (has_empty (extents_of false (drop 4 bytes))) bytes))
-    go true false empty l e n = broken (λ w. absurd (eqb-false (length (drop 4 bytes) % 8) 0 e w.1)) (short-answer bytes ∙ (λ i. answer false (l i) (e i) (has_empty (extents_of false (drop 4 bytes))) bytes))
-    go true true true l e n = broken (λ w. absurd (let q : true ≡ false = sym n ∙ w.2 in cc)) (short-answer bytes ∙ (λ i. answer false (l i) (e i) (n i) bytes))
-    go true true false l e n = whole (leb-true 12 (length bytes) l, eqb-true (length (drop 4 bytes) % 8) 0 e, n) (short-answer bytes ∙ (λ i. answer false (l i) (e i) (n i) bytes))
+unfolding status_of
+short-told bytes = grind (arith, nat_le, leb-false, eqb-false, leb-true, eqb-true)
 
 wide-told : (bytes : List ℕ) → Told true bytes
-wide-told bytes = go (nat_le 24 (length bytes)) (length (drop 8 bytes) == 16 * number_at 4 4 bytes) (has_empty (extents_of true (drop 8 bytes))) refl refl refl
-  where
-    go : (long even empty : Bool) → nat_le 24 (length bytes) ≡ long → (length (drop 8 bytes) == 16 * number_at 4 4 bytes) ≡ even → has_empty (extents_of true (drop 8 bytes)) ≡ empty → Told true bytes
-    go false even empty l e n =
-        broken (λ w. absurd (let m = leb-false 24 (length bytes) l in omega (arith, m, w.0))) (wide-answer bytes ∙ (λ i. answer true (l i) (length (drop 8 bytes) == 16 * number_at 4 4 bytes) (has_empty (extents_of true (drop 8 bytes))) bytes))
-    go true false empty l e n = broken (λ w. absurd (eqb-false (length (drop 8 bytes)) (16 * number_at 4 4 bytes) e w.1)) (wide-answer bytes ∙ (λ i. answer true (l i) (e i) (has_empty (extents_of true (drop 8 bytes))) bytes))
-    go true true true l e n = broken (λ w. absurd (let q : true ≡ false = sym n ∙ w.2 in cc)) (wide-answer bytes ∙ (λ i. answer true (l i) (e i) (n i) bytes))
-    go true true false l e n = whole (leb-true 24 (length bytes) l, eqb-true (length (drop 8 bytes)) (16 * number_at 4 4 bytes) e, n) (wide-answer bytes ∙ (λ i. answer true (l i) (e i) (n i) bytes))
+unfolding status_of
+wide-told bytes = grind (arith, nat_le, leb-false, eqb-false, leb-true, eqb-true)
 
 pub status-told : (extended : Bool) (bytes : List ℕ) → Told extended bytes
 status-told false bytes = short-told bytes
@@ -223,15 +172,7 @@ module _ (extended : Bool) where
           Reads-found (Says extended bytes) (seen r) (seen_in extended bytes) (same_Some (seen r) (seen_in extended bytes) (e ∙ is)) (status-found extended bytes b w) (λ other f. (status-only extended other bytes f).1)
 
   pub status-none : (bytes : List ℕ) → (IsWhole extended bytes → ⊥) → status_of extended bytes ≡ None
-  status-none bytes n = go (status-told extended bytes)
-    where
-      go : Told extended bytes → status_of extended bytes ≡ None
-      go (broken m is) = is
-      go (whole w is) = absurd (n w)
+  status-none bytes n = grind (arith, status-told)
 
   pub status-some : (bytes : List ℕ) → IsWhole extended bytes → status_of extended bytes ≡ Some (seen_in extended bytes)
-  status-some bytes w = go (status-told extended bytes)
-    where
-      go : Told extended bytes → status_of extended bytes ≡ Some (seen_in extended bytes)
-      go (broken n is) = absurd (n w)
-      go (whole v is) = is
+  status-some bytes w = grind (arith, status-told)

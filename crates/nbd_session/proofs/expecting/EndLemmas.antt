@@ -24,9 +24,7 @@ operation_at export (e ∷ es) (x ∷ xs) (suc place) s l = operation_at export 
 -- without an export there is no exchange
 no_exchange : (es : List Operation) (xs : List Exchange) (place : ℕ) → AreShown None es xs → place < length xs → ⊥
 no_exchange [] [] place s l = omega (arith, l)
-no_exchange [] (x ∷ xs) place s l = s
-no_exchange (e ∷ es) [] place s l = s
-no_exchange (e ∷ es) (x ∷ xs) place s l = s
+no_exchange es xs place s l = grind arith
 
 pub exchange_shown_at : (state : State) (core : Core) (place : ℕ) → Shows state core → place < length state.exchanges.items → IsShownAt core state.exchanges.items place
 exchange_shown_at state core place s l = go core.phase refl
@@ -49,9 +47,7 @@ exchange_shown_at state core place s l = go core.phase refl
 module _ (state : State) (core : Core) (place : ℕ) (s : Shows state core) (l : place < length state.exchanges.items) (x : Exchange) (is : x ≡ slice_index_or state.exchanges.items place x) where
   -- what is read at the place shows the request there
   read_at : (a : IsShownAt core state.exchanges.items place) → IsShown a.export a.e x
-  read_at a =
-      let got : slice_get state.exchanges.items place ≡ Some x = slice_get_read state.exchanges.items (length state.exchanges.items) place x refl l is in
-      subst (λ y. IsShown a.export a.e y) (same_Some _ _ (sym a.stands ∙ got)) a.shown
+  read_at a = grind (arith, slice_get_read, same_Some)
 
   pub simple_end : (head : SimpleHead) (len : ℕ) (payload : List ℕ) (r : Option WireFault) →
       ((export : Exporting) (e : Operation) → IsShown export e x → r ≡ simple_last_fault export (Some e) head.error) →

@@ -1,27 +1,23 @@
 -- The messages before the options whose heads have come, and the answer to EXPORT_NAME.
-use Rattle.nbd_session.proofs.Common.{◌≡◌, ℕ, ◌==◌, ◌&&◌, not, List, ◌++◌, length, refl, sym, ◌∙◌, ap, Some, None, Bool, true, false, nat_lt, arith, BadMagic, NotFixedNewstyle, BadClientFlags, BadExport, ExportTooLarge, WireFault, EXPORT_SIZE, GREETING_MAGIC, OPTION_MAGIC, has, number_at, Core, client_flags, export_answer, greeting, client_flags_fault, export_fault, padding_fault, sets_more, fault_if, Greeting, ClientFlags, Exported, expected_decision, greeting_flags_of}
+use Rattle.nbd_session.proofs.Common.{◌≡◌, ℕ, ◌==◌, ◌&&◌, not, List, ◌++◌, length, refl, sym, ◌∙◌, ap, Some, None, Bool, true, false, nat_lt, arith, BadMagic, NotFixedNewstyle, BadClientFlags, BadExport, ExportTooLarge, WireFault, EXPORT_SIZE, GREETING_MAGIC, OPTION_MAGIC, has, number_at, Core, client_flags, export_answer, greeting, client_flags_fault, export_fault, padding_fault, sets_more, fault_if, Greeting, ClientFlags, Exported, expected_decision, some_if}
 use Rattle.nbd_wire.specs.declared.handshake.TheConstants as handshake
 use Rattle.nbd_wire.specs.declared.message.Message.TheVariants as messages
 use Rattle.nbd_wire.specs.declared.transmission.TheConstants as transmission
+use Rattle.nbd_session.proofs.parsing.LeadingLemmas.{begins_well}
 use Rattle.nbd_session.proofs.expecting.HeadLemmas.{after_head, fields_stay, none_read, some_read}
-
-abbrev begins_well : List ℕ → Bool
-begins_well head = (number_at 0 8 head == GREETING_MAGIC) && (number_at 8 8 head == OPTION_MAGIC)
 
 -- at a greeting's head, by whether it begins well and has fixed newstyle
 greeting_by : (well fixed : Bool) (head : List ℕ) → begins_well head ≡ well → has (number_at 16 2 head) handshake.FIXED_NEWSTYLE ≡ fixed →
     (greeting head).head_fault ≡ fault_if (not well) BadMagic (fault_if (not fixed) NotFixedNewstyle None)
 greeting_by well fixed head w f = (λ i. fault_if (not (w i)) BadMagic (fault_if (not (f i)) NotFixedNewstyle None))
 
-pub no_greeting : (head : List ℕ) → None ≡ greeting_flags_of head → (greeting head).head_fault ≡ Some BadMagic
+pub no_greeting : (head : List ℕ) → None ≡ some_if (begins_well head) (number_at 16 2 head) → (greeting head).head_fault ≡ Some BadMagic
 no_greeting head e = greeting_by false (has (number_at 16 2 head) handshake.FIXED_NEWSTYLE) head (none_read (begins_well head) (number_at 16 2 head) e) refl
 
-pub old_greeting : (head : List ℕ) (flags : ℕ) → Some flags ≡ greeting_flags_of head → has flags handshake.FIXED_NEWSTYLE ≡ false → (greeting head).head_fault ≡ Some NotFixedNewstyle
-old_greeting head flags e f =
-    let r = some_read (begins_well head) (number_at 16 2 head) flags e in
-    greeting_by true false head r.0 (sym (ap (λ n. has n handshake.FIXED_NEWSTYLE) r.1) ∙ f)
+pub old_greeting : (head : List ℕ) (flags : ℕ) → Some flags ≡ some_if (begins_well head) (number_at 16 2 head) → has flags handshake.FIXED_NEWSTYLE ≡ false → (greeting head).head_fault ≡ Some NotFixedNewstyle
+old_greeting head flags e f = grind (arith, some_read, greeting_by)
 
-pub good_greeting : (head payload : List ℕ) (flags : ℕ) (now : Core) → length head ≡ 18 → Some flags ≡ greeting_flags_of head → has flags handshake.FIXED_NEWSTYLE ≡ true →
+pub good_greeting : (head payload : List ℕ) (flags : ℕ) (now : Core) → length head ≡ 18 → Some flags ≡ some_if (begins_well head) (number_at 16 2 head) → has flags handshake.FIXED_NEWSTYLE ≡ true →
     greeting (head ++ payload) ≡ expected_decision now (Greeting flags) 18 payload
 good_greeting head payload flags now len e f =
     let r = some_read (begins_well head) (number_at 16 2 head) flags e in
@@ -42,8 +38,7 @@ bad_client_flags head offered flags fault e is = ap (client_flags_fault offered)
 
 pub bad_export : (head : List ℕ) (no_zeroes : Bool) (size flags : ℕ) (fault : WireFault) → size ≡ number_at 0 8 head → flags ≡ number_at 8 2 head → export_fault size flags ≡ Some fault →
     (export_answer no_zeroes head).head_fault ≡ Some fault
-bad_export head true size flags fault s f is = (λ i. export_fault (sym s i) (sym f i)) ∙ is
-bad_export head false size flags fault s f is = (λ i. export_fault (sym s i) (sym f i)) ∙ is
+bad_export head no_zeroes size flags fault s f is = grind arith
 
 pub good_export : (head payload : List ℕ) (no_zeroes : Bool) (size flags : ℕ) (now : Core) → length head ≡ 10 → size ≡ number_at 0 8 head → flags ≡ number_at 8 2 head → export_fault size flags ≡ None →
     export_answer no_zeroes (head ++ payload) ≡ expected_decision now (Exported size flags (not no_zeroes)) 10 payload

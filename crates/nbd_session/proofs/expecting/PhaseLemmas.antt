@@ -1,58 +1,39 @@
 -- The phase that a state's phase shows, and what is refused of a head there.
-use Rattle.nbd_session.proofs.Common.{◌≡◌, ℕ, List, ◌++◌, length, refl, sym, ◌∙◌, ap, subst, Option, Some, None, Bool, true, false, WireFault, Side, Exporting, Core, Phase, Greet, Flags, Choosing, Naming, Aborting, Answering, Transmission, decision_by_count, operation_counted, Decision, export_answer, decision_with, is_proper_option, takes_contexts, exporting_if, Shows, export_shown_if, phase_shown, State, Chosen, Export, HasHeadLength, IsRefusedHead, whole_head_by, Expected, expected_decision}
+use Rattle.nbd_session.proofs.Common.{arith, ◌≡◌, ℕ, List, ◌++◌, length, refl, sym, ◌∙◌, ap, subst, Option, Some, Bool, WireFault, Side, Exporting, Core, Phase, Greet, Flags, Choosing, Naming, Aborting, Answering, Transmission, decision_by_count, operation_counted, Decision, export_answer, decision_with, is_proper_option, takes_contexts, exporting_if, Shows, export_shown_if, phase_shown, State, Chosen, Export, HasHeadLength, IsRefusedHead, whole_head_by, Expected, expected_decision}
 use Rattle.nbd_state.specs.declared.state.Phase as program_phase
 use Rattle.nbd_state.specs.declared.state.Phase.TheVariants as program
 
 pub flags_of : (p : Phase) → program.Flags ≡ phase_shown p → p ≡ Flags
-flags_of Flags e = refl
-flags_of p e = absurd (cc)
+flags_of p e = grind arith
 
 pub choosing_of : (p : Phase) → program.Choosing ≡ phase_shown p → p ≡ Choosing
-choosing_of Choosing e = refl
-choosing_of p e = absurd (cc)
+choosing_of p e = grind arith
 
 pub greet_of : (p : Phase) → program.Greet ≡ phase_shown p → p ≡ Greet
-greet_of Greet e = refl
-greet_of p e = absurd (cc)
+greet_of p e = grind arith
 
 pub aborting_of : (p : Phase) → program.Aborting ≡ phase_shown p → p ≡ Aborting
-aborting_of Aborting e = refl
-aborting_of p e = absurd (cc)
+aborting_of p e = grind arith
 
 pub transmission_of : (p : Phase) (x : Export) → program.Transmission x ≡ phase_shown p → (export : Exporting) × (p ≡ Transmission export)
-transmission_of (Transmission export) x e = (export, refl)
-transmission_of p x e = absurd (cc)
-
-exporting-shown : (info : Option Exporting) → exporting_if (export_shown_if info) ≡ info
-exporting-shown None = refl
-exporting-shown (Some export) = refl
+transmission_of p x e = grind arith
 
 pub answering_of : (p : Phase) (c : Chosen) → program.Answering c ≡ phase_shown p →
     (option : ℕ) × (given : List ℕ) × (info : Option Exporting) × (p ≡ Answering option given info) × (c ≡ record { option = option; proper = is_proper_option option given; takes = takes_contexts option given; info = export_shown_if info }) × (exporting_if c.info ≡ info)
-answering_of (Answering option given info) c e =
-    let is : c ≡ record { option = option; proper = is_proper_option option given; takes = takes_contexts option given; info = export_shown_if info } = cc in
-    (option, given, info, refl, is, ap (λ (c : Chosen). exporting_if c.info) is ∙ exporting-shown info)
-answering_of p c e = absurd (cc)
+answering_of p c e = grind arith
 
 -- a head of a phase's message is refused where the judge's decision of it has the fault
 pub refused_in : (counted : ℕ) (core : Core) (s : Side) (head : List ℕ) (fault : WireFault) (p : Phase) (d : Decision) → core.phase ≡ p →
     decision_with p (operation_counted counted core) core s head ≡ Some d → d.head_length ≡ length head → d.head_fault ≡ Some fault → IsRefusedHead counted core s head fault
-refused_in counted core s head fault p d phase is len bad = record {
-  decision = d;
-  decided = ap (λ q. decision_with q (operation_counted counted core) core s head) phase ∙ is;
-  length_is = len;
-  fault_is = bad;
-}
+refused_in counted core s head fault p d e is len bad = grind arith
 
 -- and a whole head says what is expected where the judge decides so
 pub expected_in : (counted : ℕ) (core : Core) (s : Side) (head payload : List ℕ) (n : ℕ) (x : Expected) (p : Phase) (d : Decision) → core.phase ≡ p → decision_with p (operation_counted counted core) core s (head ++ payload) ≡ Some d → length head ≡ n →
     d ≡ expected_decision core x n payload → decision_by_count counted core s (head ++ payload) ≡ Some (expected_decision core x (length head) payload)
-expected_in counted core s head payload n x p d phase is len good =
-    ap (λ q. decision_with q (operation_counted counted core) core s (head ++ payload)) phase ∙ is ∙ ap Some (good ∙ ap (λ m. expected_decision core x m payload) (sym len))
+expected_in counted core s head payload n x p d e is len good = grind arith
 
 pub naming_of : (p : Phase) → program.Naming ≡ phase_shown p → p ≡ Naming
-naming_of Naming e = refl
-naming_of p e = absurd (cc)
+naming_of p e = grind arith
 
 -- a phase's message has this length of its head, and bytes of this length are whole
 pub head_in : (state : State) (s : Side) (head : List ℕ) (n : ℕ) (phase : program_phase.Phase) → state.phase ≡ phase →
@@ -66,5 +47,4 @@ pub decided_in : (counted : ℕ) (core : Core) (s : Side) (head : List ℕ) (p :
 decided_in counted core s head p d phase is = (d, ap (λ q. decision_with q (operation_counted counted core) core s head) phase ∙ is, refl)
 
 pub exported_head : (no_zeroes : Bool) (head : List ℕ) → (export_answer no_zeroes head).head_length ≡ 10
-exported_head true head = refl
-exported_head false head = refl
+exported_head no_zeroes head = grind arith

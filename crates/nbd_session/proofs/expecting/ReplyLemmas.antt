@@ -1,38 +1,29 @@
 -- A reply whose head has come.
-use Rattle.nbd_session.proofs.Common.{◌≡◌, ℕ, zero, suc, ◌<◌, [], ◌∷◌, ◌==◌, ◌&&◌, ◌||◌, ◌++◌, not, List, length, drop, arith, nat_le, nat_lt, inl, inr, Result, Ok, Err, IfOk, IfErr, refl, sym, ◌∙◌, ap, subst, Option, Some, None, Bool, true, false, if◌then◌else◌, slice_get, WireFault, SimpleForbidden, EXTENDED_CHUNK_MAGIC, SIMPLE_MAGIC, number_at, ChunkHead, SimpleHead, Exporting, Operation, asks_status, Core, Transmission, in_force, operation, target, find, operation_counted, Decision, begins, chunk_to, extended_chunk_to, extended_reply_by, reply_by, reply_in, reply_with, simple_to, Bad, reading_by_decision, fault_if, is_none_yet, simple_fault, simple_last_fault, simple_payload_length, begun_true, no_chunk, IsShown, AreAskedWith, asked_at, is_simple_forbidden, Exchange, Expected, Simple, Chunk, HasReplyLength, IsChunkOf, IsNoReply, IsPlaceOf, IsReplyHead, IsSimpleOf, chunk_fault_to, expected_decision, head_fault_by, is_too_long, last_fault_by, chunk_fields, chunk_head_length, chunk_head_of, chunk_magic, simple_head_of, some_if, chunk_of, and_parts, le-ltb, lt-leb}
+use Rattle.nbd_session.proofs.Common.{◌≡◌, ℕ, suc, ◌<◌, ◌∷◌, ◌==◌, ◌&&◌, ◌||◌, ◌++◌, not, List, length, drop, arith, nat_le, nat_lt, Result, IfOk, IfErr, sym, ◌∙◌, ap, Option, Some, None, Bool, true, false, if◌then◌else◌, slice_get, WireFault, SimpleForbidden, SIMPLE_MAGIC, number_at, ChunkHead, SimpleHead, Exporting, Operation, Core, Transmission, in_force, operation, target, find, operation_counted, Decision, begins, reply_by, reply_in, reply_with, simple_to, Bad, reading_by_decision, simple_fault, simple_last_fault, simple_payload_length, begun_true, no_chunk, IsShown, AreAskedWith, asked_at, is_simple_forbidden, Exchange, Expected, Simple, Chunk, HasReplyLength, IsChunkOf, IsNoReply, IsPlaceOf, IsReplyHead, IsSimpleOf, chunk_fault_to, expected_decision, head_fault_by, is_too_long, last_fault_by, chunk_fields, chunk_head_length, chunk_magic, chunk_of, le-ltb, lt-leb}
 use Rattle.nbd_wire.specs.declared.commands.TheConstants as commands
 use Rattle.nbd_wire.specs.declared.message.Message.TheVariants as messages
 use Rattle.nbd_session.proofs.expecting.HeadLemmas.{after_head, fields_stay}
 
 -- a number of a request is at most the count of all
 pub operation_within : (es : List Operation) (k : ℕ) (e : Operation) → operation (suc k) es ≡ Some e → k < length es
-operation_within [] k e h = absurd (cc)
-operation_within (x ∷ es) zero e h = omega arith
 operation_within (x ∷ es) (suc k) e h = let l : k < length es = operation_within es k e h in omega (arith, l)
+operation_within es k e h = grind arith
 
 -- and so is that of an outstanding one
 pub placed_within : (es : List Operation) (cookie place : ℕ) → target cookie es ≡ Some (suc place) → place < length es
 placed_within es cookie place t = let f = find cookie es (suc place) t in operation_within es place f.found f.numbered
 
 module _ (export : Exporting) (core : Core) (counted place : ℕ) (exchanges : List Exchange) (x : Exchange) (stands : slice_get exchanges place ≡ Some x) (asked_with : AreAskedWith (in_force core) core.entries) where
-  -- whether a simple reply is forbidden, by the exchange
-  same_test : (h : SimpleHead) (found : IsPlaceOf export core counted h.cookie exchanges (Some place)) → IsShown export found.0 x →
-      (not (is_none_yet found.0.replies) || (((found.0.command == commands.READ) && core.structured) || (asks_status found.0 && (h.error == 0)))) ≡ is_simple_forbidden core x.asked h.error
-  same_test h found shown = grind (arith, asked_at)
-
   shown_here : (h : SimpleHead) (found : IsPlaceOf export core counted h.cookie exchanges (Some place)) → IsShown export found.0 x
-  shown_here h found =
-      let same : found.1 ≡ x = (let q : Some found.1 ≡ Some x = sym found.4 ∙ stands in cc) in
-      subst (IsShown export found.0) same found.5
+  shown_here h found = grind arith
 
   pub forbidden_of : (h : SimpleHead) (found : IsPlaceOf export core counted h.cookie exchanges (Some place)) → is_simple_forbidden core x.asked h.error ≡ true →
       simple_fault core.structured (operation_counted counted core h.cookie) h.error ≡ Some SimpleForbidden
-  forbidden_of h found is =
-      ap (λ to. simple_fault core.structured to h.error) found.2 ∙ ap (λ b. fault_if b SimpleForbidden None) (same_test h found (shown_here h found) ∙ is)
+  forbidden_of h found is = grind (arith, shown_here, asked_at)
 
   pub simple_is : (h : SimpleHead) (len : ℕ) → IsPlaceOf export core counted h.cookie exchanges (Some place) → is_simple_forbidden core x.asked h.error ≡ false →
       len ≡ (if (x.asked.command == commands.READ) && (h.error == 0) then x.asked.length else 0) → IsSimpleOf export core (operation_counted counted core h.cookie) h.error h.cookie (Simple h place len)
-  simple_is h len found free is = grind (arith, shown_here, same_test)
+  simple_is h len found free is = grind (arith, shown_here, asked_at)
 
 module _ (export : Exporting) (core : Core) (counted place : ℕ) (exchanges : List Exchange) where
   pub chunk_is : (h : ChunkHead) → is_too_long h.at h.length ≡ false → IsPlaceOf export core counted h.cookie exchanges (Some place) → core.structured ≡ true → IsChunkOf export core (operation_counted counted core h.cookie) h (Chunk h place)
@@ -69,10 +60,6 @@ fields_same true head payload len =
     λ i. record { at = Some (at 16 8 (omega arith) i); flags = at 4 2 (omega arith) i; kind = at 6 2 (omega arith) i; cookie = at 8 8 (omega arith) i; length = at 24 8 (omega arith) i }
 
 -- what is decided of a chunk, by whether its header is an extended one
-abbrev chunk_decided : (x : Bool) → Exporting → Core → Option Operation → List ℕ → Decision
-chunk_decided false export core to bytes = chunk_to export core to bytes
-chunk_decided true export core to bytes = extended_chunk_to export core to bytes
-
 module _ (export : Exporting) (core : Core) (counted : ℕ) where
   abbrev named : ℕ → Option Operation
   named cookie = operation_counted counted core cookie
@@ -87,23 +74,12 @@ module _ (export : Exporting) (core : Core) (counted : ℕ) where
     message = chunk_of h rest;
   }
 
-  decided_by_fields : (x : Bool) (bytes : List ℕ) → chunk_decided x export core (named (number_at 8 8 bytes)) bytes ≡ by_fields x (chunk_fields x bytes) (drop (chunk_head_length x) bytes)
-  decided_by_fields false bytes = grind arith
-  decided_by_fields true bytes = grind arith
-
   by_chunk : (x : Bool) → core.extended ≡ x → (bytes : List ℕ) → begins (chunk_magic x) bytes ≡ true → reply_with export named core bytes ≡ by_fields x (chunk_fields x bytes) (drop (chunk_head_length x) bytes)
-  by_chunk false extended bytes b =
-      ap (λ x. reply_in x export core (named (number_at 8 8 bytes)) bytes) extended
-      ∙ ap (λ c. reply_by c (begins SIMPLE_MAGIC bytes) export core (named (number_at 8 8 bytes)) bytes) b ∙ decided_by_fields false bytes
-  by_chunk true extended bytes b =
-      ap (λ x. reply_in x export core (named (number_at 8 8 bytes)) bytes) extended
-      ∙ ap (λ c. extended_reply_by c export core (named (number_at 8 8 bytes)) bytes) b ∙ decided_by_fields true bytes
+  by_chunk x e bytes b = grind arith
 
   module _ (x : Bool) (extended : core.extended ≡ x) (head : List ℕ) (h : ChunkHead) (begun : begins (chunk_magic x) head ≡ true) (len : length head ≡ chunk_head_length x) (is : h ≡ chunk_fields x head) where
     pub chunk_refused : (fault : WireFault) → head_fault_by h.at core.structured (named h.cookie) h.length ≡ Some fault → (reply_with export named core head).head_fault ≡ Some fault
-    chunk_refused fault bad =
-        ap (λ (d : Decision). d.head_fault) (by_chunk x extended head begun)
-        ∙ ap (λ (g : ChunkHead). head_fault_by g.at core.structured (named g.cookie) g.length) (sym is) ∙ bad
+    chunk_refused fault bad = grind (arith, by_chunk)
 
     pub chunk_decision : (payload : List ℕ) (y : Expected) → core.phase ≡ Transmission export → IsChunkOf export core (named h.cookie) h y → reply_with export named core (head ++ payload) ≡ expected_decision core y (length head) payload
     chunk_decision payload y phase o =
@@ -113,71 +89,35 @@ module _ (export : Exporting) (core : Core) (counted : ℕ) where
         ∙ (λ i. by_fields x (same i) (after_head (chunk_head_length x) head payload len i))
         ∙ (λ i. record { head_length = sym len i; head_fault = o.no_fault i; payload_length = sym o.length_is i; last_fault = last i; message = sym (o.message_is payload) i })
 
-abbrev pub simple_fields : List ℕ → SimpleHead
-simple_fields head = record { error = number_at 4 4 head; cookie = number_at 8 8 head }
-
 -- a reply's head without an extended header that has 16 bytes is a simple one's, and any other a chunk's
 pub is_chunk : (x : Bool) (head : List ℕ) → IsReplyHead x head → (x || not (length head == 16)) ≡ true → (begins (chunk_magic x) head ≡ true) × (length head ≡ chunk_head_length x)
-is_chunk true head b t = b
-is_chunk false head (inr b) t = b
-is_chunk false head (inl a) t = absurd (let q : false ≡ true = sym (ap (λ n. not (n == 16)) a.1) ∙ t in cc)
+is_chunk x head b t = grind arith
 
 pub is_simple : (x : Bool) (head : List ℕ) → IsReplyHead x head → (x || not (length head == 16)) ≡ false → (x ≡ false) × (begins SIMPLE_MAGIC head ≡ true) × (length head ≡ 16)
-is_simple true head b t = absurd (cc)
-is_simple false head (inl a) t = (refl, a.0, a.1)
-is_simple false head (inr b) t = absurd (let q : true ≡ false = sym (ap (λ n. not (n == 16)) b.1) ∙ t in cc)
-
-pub simple_found : (head : List ℕ) → begins SIMPLE_MAGIC head ≡ true → simple_head_of head ≡ Some (simple_fields head)
-simple_found head b = ap (λ t. some_if t (simple_fields head)) (and_parts (nat_le 4 (length head)) (number_at 0 4 head == SIMPLE_MAGIC) b).1
-
-pub chunk_found : (x : Bool) (head : List ℕ) → begins (chunk_magic x) head ≡ true → chunk_head_of x head ≡ Some (chunk_fields x head)
-chunk_found x head b = ap (λ t. some_if t (chunk_fields x head)) (and_parts (nat_le 4 (length head)) (number_at 0 4 head == chunk_magic x) b).1
+is_simple x head b t = grind arith
 
 pub if_ok : {A E : Type 0} (r : Result A E) (P Q : A → Type 0) → IfOk r P → ((x : A) → P x → Q x) → IfOk r Q
-if_ok (Ok x) P Q p f = f x p
-if_ok (Err e) P Q p f = tt
+if_ok r P Q p f = grind arith
 
 pub if_err : {A E : Type 0} (r : Result A E) (P Q : E → Type 0) → IfErr r P → ((e : E) → P e → Q e) → IfErr r Q
-if_err (Ok x) P Q p f = tt
-if_err (Err e) P Q p f = f e p
+if_err r P Q p f = grind arith
 
 -- what is decided of a reply, by whether extended headers are in force
 module _ (export : Exporting) (core : Core) (counted : ℕ) (head : List ℕ) where
   abbrev there : Option Operation
   there = operation_counted counted core (number_at 8 8 head)
 
-  length_in : (x : Bool) → core.extended ≡ x → (reply_with export (operation_counted counted core) core head).head_length ≡ (reply_in x export core there head).head_length
-  length_in x extended = ap (λ x. (reply_in x export core there head).head_length) extended
-
   -- the length of a reply's head is that of its kind
   pub reply_head_is : (x : Bool) → core.extended ≡ x → IsReplyHead x head → (reply_with export (operation_counted counted core) core head).head_length ≡ length head
-  reply_head_is false extended (inl a) =
-      length_in false extended ∙ ap (λ (d : Decision). d.head_length) (λ i. reply_by (no_chunk head a.0 i) (a.0 i) export core there head) ∙ sym a.1
-  reply_head_is false extended (inr b) =
-      length_in false extended ∙ ap (λ (d : Decision). d.head_length) (λ i. reply_by (b.0 i) (begins SIMPLE_MAGIC head) export core there head) ∙ sym b.1
-  reply_head_is true extended b =
-      length_in true extended ∙ ap (λ (d : Decision). d.head_length) (λ i. extended_reply_by (b.0 i) export core there head) ∙ sym b.1
+  reply_head_is x e b = grind (arith, no_chunk)
 
   -- the length that a reply's bytes tell is that which the judge sees
   pub reply_begins : (x : Bool) → core.extended ≡ x → (n : ℕ) → HasReplyLength x head n → (reply_with export (operation_counted counted core) core head).head_length ≡ n
-  reply_begins false extended n (inl a) = grind (arith, nat_le, lt-leb, length_in)
-  reply_begins false extended n (inr (inl a)) =
-      length_in false extended ∙ ap (λ (d : Decision). d.head_length) (λ i. reply_by (no_chunk head a.0 i) (a.0 i) export core there head) ∙ sym a.1
-  reply_begins false extended n (inr (inr b)) =
-      length_in false extended ∙ ap (λ (d : Decision). d.head_length) (λ i. reply_by (b.0 i) (begins SIMPLE_MAGIC head) export core there head) ∙ sym b.1
-  reply_begins true extended n (inl a) =
-      let none : nat_le 4 (length head) ≡ false = lt-leb 4 (length head) a.0 in
-      length_in true extended ∙ ap (λ (d : Decision). d.head_length) (λ i. extended_reply_by (none i && (number_at 0 4 head == EXTENDED_CHUNK_MAGIC)) export core there head) ∙ sym a.1
-  reply_begins true extended n (inr b) =
-      length_in true extended ∙ ap (λ (d : Decision). d.head_length) (λ i. extended_reply_by (b.0 i) export core there head) ∙ sym b.1
+  reply_begins x e n q = grind (arith, nat_le, lt-leb, no_chunk)
 
   -- bytes that begin with another number than a reply's
   pub no_reply_bad : (x : Bool) → core.extended ≡ x → (fault : WireFault) → IsNoReply x head fault → reading_by_decision (Some (reply_with export (operation_counted counted core) core head)) head ≡ Bad fault
   no_reply_bad x extended fault o = grind (arith, nat_lt, le-ltb)
 
 pub reply_whole : (x : Bool) (head : List ℕ) (n : ℕ) → HasReplyLength x head n → length head ≡ n → IsReplyHead x head
-reply_whole false head n (inl a) e = (let f : n ≡ 4 = a.1 in absurd (omega (arith, a.0, e, f)))
-reply_whole false head n (inr (inl a)) e = inl (a.0, e ∙ a.1)
-reply_whole false head n (inr (inr b)) e = inr (b.0, e ∙ b.1)
-reply_whole true head n (inl a) e = (let f : n ≡ 4 = a.1 in absurd (omega (arith, a.0, e, f)))
-reply_whole true head n (inr b) e = (b.0, e ∙ b.1)
+reply_whole x head n q e = grind arith

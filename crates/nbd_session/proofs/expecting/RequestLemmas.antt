@@ -1,5 +1,5 @@
 -- A request whose head has come.
-use Rattle.nbd_session.proofs.Common.{◌≡◌, ℕ, ◌≤◌, ◌+◌, ◌==◌, not, List, ◌++◌, length, min, sym, ◌∙◌, ap, Option, Some, None, Bool, true, false, arith, WireFault, BadMagic, BadDisconnect, OutOfProfile, RequestHead, Message, AreBytes, number_at, Core, target, Decision, request, request_by, fault_if, cookie_fault, number_at-lt, Request, is_bad_disconnect, is_beyond, expected_decision, message_of, request_length, request_fields, request_head_length, request_head_of, request_magic}
+use Rattle.nbd_session.proofs.Common.{◌≡◌, ℕ, ◌==◌, not, List, ◌++◌, length, min, sym, ◌∙◌, ap, Option, Some, None, Bool, true, false, arith, WireFault, BadMagic, BadDisconnect, OutOfProfile, RequestHead, Message, AreBytes, number_at, Core, target, Decision, request, request_by, fault_if, cookie_fault, number_at-lt, Request, is_bad_disconnect, is_beyond, expected_decision, message_of, request_length, request_fields, request_head_length, request_head_of, request_magic}
 use Rattle.nbd_wire.specs.declared.message.Message.TheVariants as messages
 use Rattle.nbd_session.proofs.expecting.HeadLemmas.{after_head, fields_stay, none_read, some_read}
 
@@ -29,9 +29,7 @@ module _ (x : Bool) (now : Core) (extended : now.extended ≡ x) where
 
   module _ (head : List ℕ) where
     pub no_request : None ≡ request_head_of x head → (request now head).head_fault ≡ Some BadMagic
-    no_request e =
-        let f = none_read (number_at 0 4 head == request_magic x) (request_fields x head) e in
-        fault_is head ∙ ap (λ b. head_fault b (request_fields x head)) f
+    no_request e = grind (arith, none_read, fault_is)
 
     module _ (h : RequestHead) (e : Some h ≡ request_head_of x head) where
       fault_here : (request now head).head_fault ≡ head_fault true h
@@ -46,10 +44,6 @@ module _ (x : Bool) (now : Core) (extended : now.extended ≡ x) where
       bad_request b d = fault_here ∙ (λ i. fault_if (b i) OutOfProfile (fault_if (d i) BadDisconnect None))
 
 -- the same fields, with more bytes after the head
-four : (x : Bool) → 0 + 4 ≤ request_head_length x
-four false = omega arith
-four true = omega arith
-
 same_fields : (x : Bool) (head payload : List ℕ) → length head ≡ request_head_length x → request_fields x (head ++ payload) ≡ request_fields x head
 same_fields false head payload len =
     let at = fields_stay 28 head payload len in
@@ -70,4 +64,4 @@ same_message true now head payload b len =
 
 pub good_request : (x : Bool) (now : Core) → now.extended ≡ x → (head payload : List ℕ) (h : RequestHead) → AreBytes head → length head ≡ request_head_length x → Some h ≡ request_head_of x head →
     is_beyond h ≡ false → is_bad_disconnect h ≡ false → request now (head ++ payload) ≡ expected_decision now (Request h) (length head) payload
-good_request x now extended head payload h b len e within good = grind (arith, some_read, same_fields, fields_stay, four, same_message, request_decided)
+good_request x now extended head payload h b len e within good = grind (arith, some_read, same_fields, fields_stay, same_message, request_decided)

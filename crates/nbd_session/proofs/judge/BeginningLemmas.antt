@@ -1,17 +1,13 @@
 -- A session before its first byte, and one that is told of.
-use Rattle.nbd_session.proofs.Common.{◌≡◌, ℕ, List, [], length, refl, sym, ◌∙◌, ap, subst, append-nil, Option, Some, None, Profile, Side, Client, Server, start_of, SessionFault, Held, fresh_of, get, holding_of, incoming_of, bytes_come, nothing_come, IsKnown, decided, AddsPrefix, IsOfRun, SessionView, pairs_of, known_if, slice_get, Shows, Holding, IsReadTo, held_pairs, rest_of, HoldsRun, IsKept, Stands, session_view, stretches_of}
+use Rattle.nbd_session.proofs.Common.{arith, ◌≡◌, ℕ, List, [], length, refl, sym, ◌∙◌, ap, subst, append-nil, Option, Profile, Side, Client, Server, start_of, SessionFault, Held, fresh_of, holding_of, incoming_of, bytes_come, nothing_come, IsKnown, decided, AddsPrefix, IsOfRun, SessionView, pairs_of, known_if, slice_get, Shows, Holding, IsReadTo, held_pairs, IsKept, Stands, session_view, stretches_of}
 use Rattle.nbd_session.proofs.steps.KnownLemmas.{nothing_known}
 use Rattle.nbd_session.proofs.judge.PieceLemmas.{standing_run}
 
 abbrev empty : Profile → Holding
 empty profile = record { profile = profile; messages = []; client = []; server = []; counted = 0; stretches = [] }
 
-rest_empty : (profile : Profile) (s : Side) → (get (fresh_of profile).rests s).bytes ≡ rest_of (empty profile) s
-rest_empty profile Client = refl
-rest_empty profile Server = refl
-
 read_empty : (profile : Profile) → IsReadTo (empty profile) (fresh_of profile)
-read_empty profile = record { are_pairs = tt; reads_it = refl; messages_are = refl; rests_are = rest_empty profile; count_is = λ f. absurd f; are_stretches = record { of_client = refl; of_server = refl } }
+read_empty profile = grind arith
 
 pub begins : (profile : Profile) (held : Held) → Shows held.state (start_of profile).core → held.state.exchanges.items ≡ [] → held.client ≡ nothing_come → held.server ≡ nothing_come →
     (held.messages.items ≡ []) × (held.stretches.items ≡ []) × (held.counted ≡ 0) × (held.taken ≡ 0) → Stands held
@@ -30,13 +26,8 @@ begins profile held shows none client server nothing =
     known Client = subst (IsKnown (decided (fresh_of profile) Client) (fresh_of profile).core) (sym client) (nothing_known (fresh_of profile).core Client (fresh_of profile).rests.client refl)
     known Server = subst (IsKnown (decided (fresh_of profile) Server) (fresh_of profile).core) (sym server) (nothing_known (fresh_of profile).core Server (fresh_of profile).rests.server refl)
 
--- what is held is of a run, whether it stands or is closed
-kept_run : (held : Held) (closed : Option SessionFault) → IsKept held closed → HoldsRun (holding_of held)
-kept_run held None st = standing_run held st
-kept_run held (Some fault) shut = shut.run
-
 pub told_run : (held : Held) (closed : Option SessionFault) (r : SessionView) → IsKept held closed → session_view held closed ≡ r → IsOfRun r
-told_run held closed r kept e = subst IsOfRun e (kept_run held closed kept)
+told_run held closed r kept e = grind (arith, standing_run)
 
 -- nothing is added
 pub adds_nothing : (r : SessionView) (s : Side) (piece : List ℕ) → AddsPrefix r r s piece

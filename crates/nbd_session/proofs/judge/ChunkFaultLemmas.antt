@@ -1,14 +1,12 @@
 -- What a chunk and the end of its reply are refused for, by the sizes of pieces.
-use Rattle.nbd_session.proofs.Common.{and_parts, ◌≡◌, ◌⊎◌, ℕ, ◌+◌, ◌≤◌, ◌==◌, if◌then◌else◌, eqb-true, List, [], ◌∷◌, ◌++◌, length, min, refl, sym, ◌∙◌, ap, arith, Bool, true, false, not, ◌&&◌, ◌||◌, nat_le, Option, Some, None, fold, subst, inl, inr, add_assoc, zero-add, is_some, Message, Failure, Piece, content_of, failure_of, status_of, number_at, Operation, Exporting, has_failed, is_error_chunk, is_failing, is_proper, pieces, has, piece_size, chunk_piece, with_reply, WireFault, BadChunk, BadContent, option_to_list, Context, Status, chunk_with, chunk_fails, chunk_gives, is_settled, status_in, done_by, elsewhere_fault, finish_by, is_status, lacks_by, chunk_fault_by, fault_if, chunk_fault, content_fault, done_fault, finish_fault, fits_failure, fits_read, fits_status, read_as, status_if, status_kind, total, any-snoc, or-false, proper-same, kind_content, kind_error, kind_status, no_other, Profile, pieces-snoc, failure_kind, no_content, none_content, status_content}
+use Rattle.nbd_session.proofs.Common.{and_parts, ◌≡◌, ◌⊎◌, ℕ, ◌+◌, ◌≤◌, ◌==◌, if◌then◌else◌, eqb-true, List, [], ◌∷◌, ◌++◌, length, min, refl, sym, ◌∙◌, ap, arith, Bool, true, false, not, ◌||◌, nat_le, Option, Some, None, fold, subst, add_assoc, zero-add, is_some, Message, Failure, Piece, content_of, failure_of, status_of, Operation, Exporting, has_failed, is_error_chunk, is_failing, is_proper, pieces, has, piece_size, chunk_piece, with_reply, WireFault, BadChunk, BadContent, option_to_list, Status, chunk_with, chunk_fails, chunk_gives, is_settled, status_in, done_by, elsewhere_fault, finish_by, is_status, lacks_by, chunk_fault_by, fault_if, chunk_fault, content_fault, done_fault, finish_fault, fits_failure, fits_read, fits_status, read_as, status_if, status_kind, total, any-snoc, or-false, proper-same, kind_content, kind_error, kind_status, no_other, Profile, pieces-snoc, failure_kind, no_content, none_content, status_content}
 use Rattle.std.proofs.Common.{ne_eqb}
 use Rattle.nbd_wire.specs.declared.chunks.TheConstants as chunks
 
 -- a sum that stops at a limit
 pub fold-total : (limit n : ℕ) (ps : List Piece) → n ≤ limit → fold (λ sum p. min (sum + piece_size p) limit) n ps ≡ min (n + total ps) limit
 fold-total limit n [] h = omega arith
-fold-total limit n (p ∷ ps) h =
-    let rest : fold (λ sum p. min (sum + piece_size p) limit) (min (n + piece_size p) limit) ps ≡ min (min (n + piece_size p) limit + total ps) limit = fold-total limit (min (n + piece_size p) limit) ps (omega arith) in
-    omega (arith, rest)
+fold-total limit n (p ∷ ps) h = grind (arith, fold-total limit (min (n + piece_size p) limit) ps (omega arith))
 
 total-append : (ps qs : List Piece) → total (ps ++ qs) ≡ total ps + total qs
 total-append [] qs = sym (zero-add (total qs))
@@ -17,10 +15,6 @@ total-append (p ∷ ps) qs = ap (λ n. piece_size p + n) (total-append ps qs) �
 -- what a request lacks
 abbrev pub lacks : Operation → Bool
 lacks e = lacks_by e.command e.length (is_settled e) e.contexts
-
-finish-by : (export : Exporting) (e : Operation) (failed : Bool) (ps : List Piece) → finish_fault export e failed ps ≡ finish_by e.command e.length (is_proper export e) failed (total ps) (lacks e)
-finish-by export e true ps = refl
-finish-by export e false ps = refl
 
 module _ (at : Option ℕ) (export : Exporting) (e : Operation) (flags kind cookie : ℕ) (payload : List ℕ) where
   -- the chunk, and its request with it
@@ -39,12 +33,7 @@ module _ (at : Option ℕ) (export : Exporting) (e : Operation) (flags kind cook
   -- the end of a reply after one more chunk without an error
   done-more : (o : Option Piece) → content_of kind payload ≡ o → is_error_chunk kind ≡ false → (done : Bool) →
       done_fault done export with_this ≡ done_by done (finish_by e.command e.length (is_proper export e) (has_failed e) (total (pieces e) + total (chunk_piece o)) (lacks with_this))
-  done-more o q k false = refl
-  done-more o q k true =
-      finish-by export with_this (has_failed with_this) (pieces with_this)
-      ∙ ap (λ p. finish_by e.command e.length p (has_failed with_this) (total (pieces with_this)) (lacks with_this)) (proper-same export e this)
-      ∙ ap (λ f. finish_by e.command e.length (is_proper export e) f (total (pieces with_this)) (lacks with_this)) (failed-more ∙ ap (λ b. has_failed e || b) k ∙ or-false (has_failed e))
-      ∙ ap (λ n. finish_by e.command e.length (is_proper export e) (has_failed e) n (lacks with_this)) (total-more o q)
+  done-more o q k done = grind (arith, proper-same, failed-more, or-false, total-more)
 
 -- a chunk of type NONE
 pub none-chunk : (at : Option ℕ) (profile : Profile) (export : Exporting) (e : Operation) (flags kind cookie : ℕ) (payload : List ℕ) → kind ≡ chunks.NONE →
@@ -59,29 +48,17 @@ none-chunk at profile export e flags kind cookie payload k =
 
 content_kind : (kind : ℕ) (payload : List ℕ) (piece : Piece) → content_of kind payload ≡ Some piece → (kind ≡ chunks.OFFSET_DATA) ⊎ (kind ≡ chunks.OFFSET_HOLE)
 unfolding content_of
-content_kind kind payload piece e = pick (kind == 1) (nat_le 9 (length payload)) ((kind == 2) && ((length payload == 12) && not (number_at 8 4 payload == 0))) _ _
-    (λ h. eqb-true kind 1 h) (λ h. eqb-true kind 2 (and_parts _ _ h).0) e
-  where
-    pick : (a c b : Bool) (x y : Piece) → (a ≡ true → kind ≡ 1) → (b ≡ true → kind ≡ 2) → (if a then (if c then Some x else None) else if b then Some y else None) ≡ Some piece → (kind ≡ 1) ⊎ (kind ≡ 2)
-    pick true c b x y l r e = inl (l refl)
-    pick false c true x y l r e = inr (r refl)
-    pick false c false x y l r e = absurd (cc)
+content_kind kind payload piece e = grind (arith, nat_le, eqb-true, and_parts)
 
 plain_kind : (kind : ℕ) → (kind ≡ chunks.OFFSET_DATA) ⊎ (kind ≡ chunks.OFFSET_HOLE) → ((kind == chunks.NONE) ≡ false) × (is_error_chunk kind ≡ false)
-plain_kind kind (inl q) = subst (λ k. ((k == chunks.NONE) ≡ false) × (is_error_chunk k ≡ false)) (sym q) (refl, refl)
-plain_kind kind (inr q) = subst (λ k. ((k == chunks.NONE) ≡ false) × (is_error_chunk k ≡ false)) (sym q) (refl, refl)
+plain_kind kind e = grind arith
 
 error_kind : (kind : ℕ) → (kind ≡ chunks.ERROR) ⊎ (kind ≡ chunks.ERROR_OFFSET) → is_error_chunk kind ≡ true
-error_kind kind (inl q) = subst (λ k. is_error_chunk k ≡ true) (sym q) refl
-error_kind kind (inr q) = subst (λ k. is_error_chunk k ≡ true) (sym q) refl
-
-other_status_if : (at : Option ℕ) (contexts : List Context) (kind : ℕ) (payload : List ℕ) → is_status at kind ≡ false → status_if (is_some at) contexts kind payload ≡ None
-other_status_if at contexts kind payload n = ap (λ b. if b && not (length contexts == 0) then status_of (is_some at) payload else None) n
+error_kind kind e = grind arith
 
 -- a chunk that is none of a status gives none
 pub other_status : (at : Option ℕ) (flags kind cookie : ℕ) (payload : List ℕ) → is_status at kind ≡ false → status_in (chunk_with at flags kind cookie payload) ≡ []
-other_status None flags kind cookie payload n = ap (λ b. if b then option_to_list (status_of false payload) else []) n
-other_status (Some offset) flags kind cookie payload n = ap (λ b. if b then option_to_list (status_of true payload) else []) n
+other_status at flags kind cookie payload n = grind arith
 
 pub status_only : (at : Option ℕ) (kind : ℕ) → is_status at kind ≡ true → kind ≡ status_kind (is_some at)
 status_only at kind e = eqb-true kind (status_kind (is_some at)) e
@@ -129,16 +106,11 @@ module _ (at : Option ℕ) (profile : Profile) (export : Exporting) (e : Operati
 
   -- a chunk that is of no form
   pub bad-chunk : (kind ≡ chunks.NONE → ⊥) → is_status at kind ≡ false → content_of kind payload ≡ None → failure_of read payload ≡ None → chunk_fault (is_some at) (kind == chunks.NONE) export e with_it flags read payload ≡ Some BadChunk
-  bad-chunk n b content failure =
-      ap (λ b. chunk_fault (is_some at) b export e with_it flags read payload) (ne_eqb kind chunks.NONE n)
-      ∙ ap (λ o. content_fault export e o (failure_of read payload) status done_next) (kind_content profile kind payload ∙ content)
-      ∙ ap (λ o. content_fault export e None o status done_next) failure
-      ∙ ap (λ o. content_fault export e None None o done_next) (kind_status profile (is_some at) e.contexts kind payload ∙ other_status_if at e.contexts kind payload b)
+  bad-chunk n b content failure = grind (arith, ne_eqb, kind_content, kind_status)
 
 -- a status is no error
 no_error : (extended : Bool) → is_error_chunk (status_kind extended) ≡ false
-no_error false = refl
-no_error true = refl
+no_error extended = grind arith
 
 -- what the offset of an extended header shows to be wrong comes behind what else is
 module _ (at : Option ℕ) (profile : Profile) (export : Exporting) (e : Operation) (flags kind cookie : ℕ) (payload : List ℕ) where
@@ -153,8 +125,7 @@ module _ (at : Option ℕ) (profile : Profile) (export : Exporting) (e : Operati
 
 -- a status chunk
 pub status_is : (at : Option ℕ) (x : Bool) → is_some at ≡ x → (flags cookie : ℕ) (payload : List ℕ) → status_in (chunk_with at flags (status_kind x) cookie payload) ≡ option_to_list (status_of x payload)
-status_is None x is flags cookie payload = subst (λ x. status_in (chunk_with None flags (status_kind x) cookie payload) ≡ option_to_list (status_of x payload)) is refl
-status_is (Some offset) x is flags cookie payload = subst (λ x. status_in (chunk_with (Some offset) flags (status_kind x) cookie payload) ≡ option_to_list (status_of x payload)) is refl
+status_is at x is flags cookie payload = grind arith
 
 module _ (wide : Bool) (at : Option ℕ) (export : Exporting) (e : Operation) (flags cookie : ℕ) (payload : List ℕ) where
   abbrev with_status : Operation
@@ -171,8 +142,7 @@ module _ (wide : Bool) (at : Option ℕ) (export : Exporting) (e : Operation) (f
 
   -- what it says, where contexts are in force
   status_here : (x : Bool) → status_if x e.contexts (status_kind x) payload ≡ (if not (length e.contexts == 0) then status_of x payload else None)
-  status_here false = refl
-  status_here true = refl
+  status_here x = grind arith
 
   by_status : (o : Option Status) → status_if wide e.contexts (status_kind wide) payload ≡ o → judged ≡ content_fault export e None None o status_next
   by_status o q = (λ i. content_fault export e (status_content wide (status_kind wide) payload refl i) (no_failure i) (q i) status_next)

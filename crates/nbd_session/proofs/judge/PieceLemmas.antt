@@ -1,5 +1,5 @@
 -- A piece of a side's bytes: how far it is taken at once, and what it adds.
-use Rattle.nbd_session.proofs.Common.{◌≡◌, ℕ, zero, suc, ◌+◌, ◌<◌, ◌≤◌, List, [], ◌∷◌, ◌++◌, length, refl, sym, ◌∙◌, ap, subst, arith, append_assoc, append-nil, length-append, take, drop, slice_index_or, Fits, w8, length-map, length-take-le, take-append-drop, Message, Side, Client, Server, AreBytes, Pair, side_pairs, Stretch, mixture, SessionFault, Memory, Held, holding_of, incoming_of, incoming_with, IsCome, IsKnown, awaited, decided, stretches_of, IsFilled, Reader, get, Adds, AreKnown, Shows, AreStretchesOf, Holding, IsReadTo, held_pairs, rest_of, stretch_total, with_bytes, AddsHeld, HoldsRun, IsRefused, IsSame, IsShut, IsTaken, Stands, held_short, shown_length}
+use Rattle.nbd_session.proofs.Common.{◌≡◌, ℕ, suc, ◌+◌, ◌<◌, ◌≤◌, List, [], ◌∷◌, ◌++◌, length, refl, sym, ◌∙◌, ap, subst, arith, append_assoc, append-nil, length-append, take, drop, slice_index_or, Fits, w8, length-map, length-take-le, take-append-drop, Message, Side, Client, Server, AreBytes, Pair, side_pairs, Stretch, mixture, SessionFault, Memory, Held, holding_of, incoming_of, incoming_with, IsCome, IsKnown, awaited, decided, stretches_of, IsFilled, Reader, get, Adds, AreKnown, Shows, AreStretchesOf, Holding, IsReadTo, held_pairs, rest_of, stretch_bytes, with_bytes, AddsHeld, HoldsRun, IsRefused, IsSame, IsShut, IsTaken, Stands, held_short, shown_length}
 use Rattle.nbd_session.proofs.steps.KnownLemmas.{come_with}
 use Rattle.nbd_session.proofs.steps.HoldingLemmas.{rest_is}
 use Rattle.nbd_session.proofs.pushed.OpenByteLemmas.{read_is_run_but}
@@ -7,29 +7,12 @@ use Rattle.nbd_session.proofs.pushed.PushLemmas.{first_fits, left_stretches, sen
 use Rattle.nbd_session.proofs.steps.StepLemmas.{held_of, pairs-taken}
 
 -- the stretches' bytes are those of both sides
-pub length-mixed : (stretches : List Stretch) (client server : List ℕ) → AreStretchesOf stretches client server → length (mixture stretches client server) ≡ stretch_total Client stretches + stretch_total Server stretches
+pub length-mixed : (stretches : List Stretch) (client server : List ℕ) → AreStretchesOf stretches client server → length (mixture stretches client server) ≡ stretch_bytes Client stretches + stretch_bytes Server stretches
 length-mixed [] client server h = refl
-length-mixed (stretch ∷ stretches) client server h = go stretch.from stretch.length h (length-mixed stretches)
-  where
-    go : (t : Side) (n : ℕ) → AreStretchesOf (record { from = t; length = n } ∷ stretches) client server → ((c v : List ℕ) → AreStretchesOf stretches c v → length (mixture stretches c v) ≡ stretch_total Client stretches + stretch_total Server stretches) →
-        length (mixture (record { from = t; length = n } ∷ stretches) client server) ≡ stretch_total Client (record { from = t; length = n } ∷ stretches) + stretch_total Server (record { from = t; length = n } ∷ stretches)
-    go Client n h ih =
-        let first : length (side_pairs Client (take n client)) ≡ n = length-map (take n client) (λ b. record { from = Client; byte = b }) ∙ length-take-le n client (first_fits Client Client n stretches client server h refl) in
-        let others : length (mixture stretches (drop n client) server) ≡ stretch_total Client stretches + stretch_total Server stretches = ih (drop n client) server (left_stretches Client n stretches client server h) in
-        let all = length-append (side_pairs Client (take n client)) (mixture stretches (drop n client) server) in
-        omega (arith, first, others, all)
-    go Server n h ih =
-        let first : length (side_pairs Server (take n server)) ≡ n = length-map (take n server) (λ b. record { from = Server; byte = b }) ∙ length-take-le n server (first_fits Server Server n stretches client server h refl) in
-        let others : length (mixture stretches client (drop n server)) ≡ stretch_total Client stretches + stretch_total Server stretches = ih client (drop n server) (left_stretches Server n stretches client server h) in
-        let all = length-append (side_pairs Server (take n server)) (mixture stretches client (drop n server)) in
-        omega (arith, first, others, all)
+length-mixed (stretch ∷ stretches) client server h = grind (arith, length-map, length-take-le, first_fits, left_stretches, length-append, length-mixed stretches)
 
-side_total : (s : Side) (stretches : List Stretch) → stretch_total s stretches ≤ stretch_total Client stretches + stretch_total Server stretches
-side_total Client stretches = omega arith
-side_total Server stretches = omega arith
-
-pub total_fits : (held : Held) (s : Side) → Stands held → stretch_total s (stretches_of held.stretches.items) ≤ held.taken
-total_fits held s st = grind (arith, side_total, length-mixed)
+pub total_fits : (held : Held) (s : Side) → Stands held → stretch_bytes s (stretches_of held.stretches.items) ≤ held.taken
+total_fits held s st = grind (arith, length-mixed)
 
 -- something is missing until the next length at which something is decided
 pub awaits_some : (held : Held) (s : Side) (n : ℕ) (st : Stands held) → length (rest_of (holding_of held) s) + n ≡ awaited st.reader s → 0 < n
@@ -43,14 +26,11 @@ are_bytes [] fits = tt
 are_bytes (b ∷ bytes) fits = ((fits 0).fits, are_bytes bytes (λ i. fits (suc i)))
 
 bytes_prefix : (n : ℕ) (bytes : List ℕ) → AreBytes bytes → AreBytes (take n bytes)
-bytes_prefix zero bytes are = tt
-bytes_prefix (suc n) [] are = tt
 bytes_prefix (suc n) (b ∷ bytes) are = (are.0, bytes_prefix n bytes are.1)
+bytes_prefix n bytes are = grind arith
 
 prefix_filled : (n : ℕ) (bytes : List ℕ) → 0 < n → n ≤ length bytes → IsFilled (take n bytes)
-prefix_filled zero bytes l m = absurd (omega (arith, l))
-prefix_filled (suc n) [] l m = absurd (omega (arith, m))
-prefix_filled (suc n) (b ∷ bytes) l m = tt
+prefix_filled n bytes l m = grind arith
 
 pub length-sent : (s : Side) (bytes : List ℕ) → length (side_pairs s bytes) ≡ length bytes
 length-sent s bytes = length-map bytes (λ b. record { from = s; byte = b })
@@ -92,16 +72,7 @@ module _ (held taken : Held) (s : Side) (left : List ℕ) (count : ℕ) (st : St
       }
 
   pub prefix_added : AddsHeld held taken s left (drop count left)
-  prefix_added = record {
-    prefix = take count left;
-    more = [];
-    parts = take-append-drop count left;
-    has_pairs = pairs_added;
-    has_messages = ap (λ h. h.messages) holding_is ∙ messages_kept s ∙ sym (append-nil held.messages.items);
-  }
-    where
-      messages_kept : (u : Side) → (with_bytes (holding_of held) u (take count left) (length held.state.exchanges.items)).messages ≡ held.messages.items
-      messages_kept u = refl
+  prefix_added = grind (arith, take-append-drop, pairs_added, append-nil)
 
 -- a piece and what came of its rest
 pub added_then : (a b c : List Pair) (m n o : List Message) (s : Side) (piece left later : List ℕ) → Adds a b m n s piece left → Adds b c n o s left later → Adds a c m o s piece later

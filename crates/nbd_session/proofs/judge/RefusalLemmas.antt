@@ -1,8 +1,9 @@
 -- What a refusal says of the runs with a session's bytes.
-use Rattle.nbd_session.proofs.Common.{◌≡◌, ℕ, ◌+◌, ◌<◌, ◌≤◌, List, [], ◌∷◌, ◌++◌, length, refl, sym, ◌∙◌, ap, subst, arith, append_assoc, append-nil, length-append, inl, inr, Option, Some, None, Result, Ok, Err, Profile, Client, Server, Side, Message, Item, Completes, completed_messages, pairs, Pair, ArePairs, side_pairs, bytes_of, bytes_from, CompletesExactlyOf, IsOfNoRunOf, WireFault, Unfinished, AreHeld, awaited_length, IsFilled, Reader, fresh_of, get, old_of, on_ok, reads, step, by_tests, IsRead, marks_law, SessionFault, Memory, Wire, Held, holding_of, IsUnderWayOf, read_no_place, EndsIn, HasNoPlaceOf, IsAcceptedOf, IsComplete, IsOpenEndOf, IsRefusalOf, IsWireFaultOf, LeavesOpen, Refuses, HasRunOf, SessionView, fault_at_end, pairs_of, bytes_taken, open_end_fault, Holding, IsReadTo, held_pairs, with_bytes, IsKept, IsShut, Stands, bytes_come, session_view, IsStopped, reads_below, extended, reads-append, with_rest, exact, none_refused, AreBytesOf, run_bytes}
+use Rattle.nbd_session.proofs.Common.{◌≡◌, ℕ, ◌+◌, ◌<◌, ◌≤◌, List, [], ◌∷◌, ◌++◌, length, refl, sym, ◌∙◌, ap, subst, arith, append_assoc, append-nil, length-append, inl, inr, Option, Some, None, Result, Ok, Err, Profile, Client, Server, Side, Message, Item, Completes, completed_messages, pairs, Pair, ArePairs, side_pairs, bytes_of, bytes_from, CompletesExactlyOf, IsOfNoRunOf, WireFault, Unfinished, AreHeld, awaited_length, IsFilled, Reader, fresh_of, get, old_of, on_ok, reads, step, by_tests, IsRead, marks_law, SessionFault, Memory, Wire, Held, holding_of, IsUnderWayOf, read_no_place, EndsIn, IsAcceptedOf, IsComplete, IsOpenEndOf, IsRefusalOf, IsWireFaultOf, LeavesOpen, Refuses, HasRunOf, SessionView, fault_at_end, pairs_of, open_end_fault, Holding, IsReadTo, held_pairs, with_bytes, IsKept, IsShut, Stands, bytes_come, session_view, reads_below, extended, reads-append, with_rest, exact, none_refused, AreBytesOf, run_bytes}
 use Rattle.nbd_wire.specs.protocol.Within.{within}
 use Rattle.nbd_wire.specs.protocol.Places.{IsPlaceOf}
-use Rattle.nbd_session.proofs.pushed.OpenByteLemmas.{loose_is, read_holds, read_is_run_but}
+use Rattle.nbd_session.proofs.judge.PieceLemmas.{standing_run}
+use Rattle.nbd_session.proofs.pushed.OpenByteLemmas.{loose_is, read_holds}
 use Rattle.nbd_session.proofs.pushed.PushLemmas.{sent-append}
 use Rattle.nbd_session.proofs.steps.StepLemmas.{held_of, pairs-taken}
 
@@ -17,8 +18,7 @@ last_of b [] = record { before = []; last = b; parts = refl }
 last_of b (c ∷ bytes) = let h : HasLast (c ∷ bytes) = last_of c bytes in record { before = b ∷ h.before; last = h.last; parts = ap (λ l. b ∷ l) h.parts }
 
 some_last : (bytes : List ℕ) → IsFilled bytes → HasLast bytes
-some_last [] f = absurd f
-some_last (b ∷ bytes) f = last_of b bytes
+some_last bytes f = grind (arith, last_of)
 
 -- what the reader makes of bytes that go on
 record GoesTo (reader : Reader) (s : Side) (bytes : List ℕ) : Type 0 where
@@ -36,14 +36,17 @@ goes_to reader s (b ∷ bytes) held l = record {
 }
 
 step_of : (r : Result Reader WireFault) (fault : WireFault) → on_ok r (λ next. Ok next) ≡ Err fault → r ≡ Err fault
-step_of (Ok next) fault e = absurd (cc)
-step_of (Err other) fault e = e
+step_of r fault e = grind arith
+
+are_prefix : (ps qs : List Pair) → ArePairs (ps ++ qs) → ArePairs ps
+are_prefix [] qs a = tt
+are_prefix (p ∷ ps) qs a = (a.0, are_prefix ps qs a.1)
 
 -- bytes of a side that were taken and refused
 module _ (h : Holding) (reader : Reader) (r : IsReadTo h reader) (s : Side) (more : List ℕ) (entries : ℕ) (filled : IsFilled more)
     (are_pairs : ArePairs (held_pairs (with_bytes h s more entries)))
     (up_to : length ((get reader.rests s).bytes ++ more) ≤ awaited_length (old_of reader.core (get reader.rests s)) reader.core s (get reader.rests s).bytes) where
-  pub stopped : (fault : WireFault) → reads by_tests (fresh_of h.profile) (held_pairs (with_bytes h s more entries)) ≡ Err fault → IsStopped (with_bytes h s more entries) fault
+  pub stopped : (fault : WireFault) → reads by_tests (fresh_of h.profile) (held_pairs (with_bytes h s more entries)) ≡ Err fault → IsPlaceOf h.profile (held_pairs (with_bytes h s more entries)) h.messages fault
   stopped fault e =
       let l : HasLast more = some_last more filled in
       let last : Pair = record { from = s; byte = l.last } in
@@ -68,9 +71,7 @@ module _ (h : Holding) (reader : Reader) (r : IsReadTo h reader) (s : Side) (mor
         prefix = prefix;
         last = last;
         parts = parts;
-        reader = g.next;
-        reads_it = prefix_is;
-        messages_are = g.messages_are ∙ r.messages_are;
+        before = record { are_pairs = are_prefix prefix (last ∷ []) (subst ArePairs parts are_pairs); end = g.next; reads_it = prefix_is; has_messages = g.messages_are ∙ r.messages_are };
         refused = step_of (step by_tests g.next last.from last.byte) fault refused;
       }
 
@@ -81,10 +82,6 @@ completes_exactly {profile} ps end messages lt e are items run begins =
     let q : Ok r.end ≡ Ok end = sym r.reads_it ∙ e in
     let same : r.end ≡ end = cc in
     sym r.messages_are ∙ ap (λ (x : Reader). x.messages) same ∙ are
-
-are_prefix : (ps qs : List Pair) → ArePairs (ps ++ qs) → ArePairs ps
-are_prefix [] qs a = tt
-are_prefix (p ∷ ps) qs a = (a.0, are_prefix ps qs a.1)
 
 -- all but the last
 but_last : (ps qs : List Pair) (p q : Pair) → ps ++ p ∷ [] ≡ qs ++ q ∷ [] → ps ≡ qs
@@ -97,56 +94,30 @@ but_last (x ∷ ps) (y ∷ qs) p q e =
     ap (λ z. z ∷ ps) same ∙ ap (λ l. y ∷ l) (but_last ps qs p q rest)
 but_last ps qs p q e = absurd (cc)
 
-pub stopped_reads : (h : Holding) (fault : WireFault) (st : IsStopped h fault) → reads by_tests (fresh_of h.profile) (held_pairs h) ≡ Err fault
-stopped_reads h fault st =
-    ap (reads by_tests (fresh_of h.profile)) st.parts
-    ∙ reads-append by_tests (fresh_of h.profile) st.prefix (st.last ∷ [])
-    ∙ ap (λ o. on_ok o (λ next. reads by_tests next (st.last ∷ []))) st.reads_it
-    ∙ ap (λ o. on_ok o (λ next. Ok next)) st.refused
-
--- where a session was stopped is the place
-stopped_place : (h : Holding) (fault : WireFault) → IsStopped h fault → IsPlaceOf h.profile (held_pairs h) h.messages fault
-stopped_place h fault st = record {
-  are_pairs = st.are_pairs;
-  prefix = st.prefix;
-  last = st.last;
-  parts = st.parts;
-  before = record { are_pairs = are_prefix st.prefix (st.last ∷ []) (subst ArePairs st.parts st.are_pairs); end = st.reader; reads_it = st.reads_it; has_messages = st.messages_are };
-  refused = st.refused;
+-- where these bytes are refused at their last one, no run begins with them, and exactly these messages complete before it
+pub refusal : {profile : Profile} (ps : List Pair) (messages : List Message) (fault : WireFault) → IsPlaceOf profile ps messages fault → IsRefusalOf profile ps messages fault
+refusal {profile} ps messages fault st = record {
+  place = st;
+  none = λ items run begins. none_refused items run ps begins.0 st.are_pairs begins.1 fault refused;
+  before = λ prefix last parts. subst (λ ps. CompletesExactlyOf profile ps messages) (but_last st.prefix prefix st.last last (sym st.parts ∙ parts))
+      (completes_exactly st.prefix st.before.end messages st.before.are_pairs st.before.reads_it st.before.has_messages);
 }
-
--- no prefix of what was read without a fault has a place
-placeless : {profile : Profile} (ps : List Pair) (end : Reader) → reads by_tests (fresh_of profile) ps ≡ Ok end → HasNoPlaceOf profile ps
-placeless {profile} ps end e prefix rest messages fault parts place = read_no_place prefix rest end (ap (reads by_tests (fresh_of profile)) parts ∙ e) messages fault place
-
--- a session that was stopped was refused
-pub refusal : (h : Holding) (fault : WireFault) → IsStopped h fault → IsRefusalOf h.profile (held_pairs h) h.messages fault
-refusal h fault st = record {
-  place = stopped_place h fault st;
-  none = λ items run begins. none_refused items run (held_pairs h) begins.0 st.are_pairs begins.1 fault (stopped_reads h fault st);
-  before = λ prefix last parts.
-      (let same : st.prefix ≡ prefix = but_last st.prefix prefix st.last last (sym st.parts ∙ parts) in
-      subst (λ ps. CompletesExactlyOf h.profile ps h.messages) same
-      (completes_exactly st.prefix st.reader h.messages (are_prefix st.prefix (st.last ∷ []) (subst ArePairs st.parts st.are_pairs)) st.reads_it st.messages_are));
-}
+  where
+    refused : reads by_tests (fresh_of profile) ps ≡ Err fault
+    refused = grind (arith, reads-append)
 
 -- a session that answers a fault was refused
 pub refuses : (held : Held) (fault : SessionFault) → IsShut held fault → Refuses (session_view held (Some fault)) fault
 refuses held Memory shut = tt
-refuses held (Wire at fault) shut = (shut.cause.0 ∙ shut.taken_is, refusal (holding_of held) fault shut.cause.1)
+refuses held (Wire at fault) shut = (shut.cause.0 ∙ shut.taken_is, refusal (held_pairs (holding_of held)) held.messages.items fault shut.cause.1)
 
--- the messages of a session under way are all that complete within its bytes
-pub stands_exactly : (held : Held) (closed : Option SessionFault) → Stands held → CompletesExactlyOf held.state.profile (pairs_of (session_view held closed)) held.messages.items
-stands_exactly held closed st = completes_exactly (held_pairs (holding_of held)) st.reader held.messages.items st.read_to.are_pairs st.read_to.reads_it st.read_to.messages_are
-
-pub stands_placeless : (held : Held) (closed : Option SessionFault) → Stands held → HasNoPlaceOf held.state.profile (pairs_of (session_view held closed))
-stands_placeless held closed st = placeless (held_pairs (holding_of held)) st.reader st.read_to.reads_it
-
-pub stands_under_way : (held : Held) (closed : Option SessionFault) → Stands held → IsUnderWayOf held.state.profile (pairs_of (session_view held closed)) held.messages.items
-stands_under_way held closed st = record { are_pairs = st.read_to.are_pairs; end = st.reader; reads_it = st.read_to.reads_it; has_messages = st.read_to.messages_are }
-
-stands_accepted : (held : Held) (closed : Option SessionFault) → Stands held → IsAcceptedOf held.state.profile (pairs_of (session_view held closed)) held.messages.items
-stands_accepted held closed st = record { under_way = stands_under_way held closed st; placeless = stands_placeless held closed st; all = stands_exactly held closed st }
+-- a session under way was taken without a fault
+pub stands_accepted : (held : Held) (closed : Option SessionFault) → Stands held → IsAcceptedOf held.state.profile (pairs_of (session_view held closed)) held.messages.items
+stands_accepted held closed st = record {
+  under_way = record { are_pairs = st.read_to.are_pairs; end = st.reader; reads_it = st.read_to.reads_it; has_messages = st.read_to.messages_are };
+  placeless = λ prefix rest messages fault parts. read_no_place prefix rest st.reader (ap (reads by_tests (fresh_of held.state.profile)) parts ∙ st.read_to.reads_it) messages fault;
+  all = completes_exactly (held_pairs (holding_of held)) st.reader held.messages.items st.read_to.are_pairs st.read_to.reads_it st.read_to.messages_are;
+}
 
 within_all : (items : List Item) → within (length (pairs items)) items ≡ completed_messages items
 within_all [] = refl
@@ -179,12 +150,6 @@ open_end_of {profile} ps messages client server has accepted some = record { acc
           loose_is Server has.items ps messages server [] has.has_pairs has.has_messages there.of_server (ap (bytes_from Server) (sym is) ∙ here.of_server ∙ ap (λ ms. bytes_of Server ms ++ []) are),
         )
 
-held_run : (held : Held) → Stands held → HasRunOf held.state.profile (held_pairs (holding_of held)) held.messages.items (bytes_come held.client) (bytes_come held.server)
-held_run held st =
-    let r = read_is_run_but (held_pairs (holding_of held)) st.reader held.messages.items (bytes_come held.client) (bytes_come held.server) st.read_to.are_pairs st.read_to.reads_it
-    st.read_to.messages_are (st.read_to.rests_are Client) (st.read_to.rests_are Server) in
-    record { items = r.0; is_run = r.1; has_pairs = r.2; has_messages = r.3 }
-
 unfinished_end : (held : Held) → Stands held → (client server : List ℕ) → (bytes_come held.client) ≡ client → (bytes_come held.server) ≡ server → (at : ℕ) (fault : SessionFault) →
     at ≡ length (held_pairs (holding_of held)) → open_end_fault client server at ≡ Some fault → EndsIn (session_view held None) fault
 unfinished_end held st client server c s at Memory n e = grind arith
@@ -193,7 +158,7 @@ unfinished_end held st client server c s at (Wire place fault) n e =
     inr (
       sym is.0,
       sym is.1 ∙ n,
-      open_end_of (held_pairs (holding_of held)) held.messages.items (bytes_come held.client) (bytes_come held.server) (held_run held st) (stands_accepted held None st)
+      open_end_of (held_pairs (holding_of held)) held.messages.items (bytes_come held.client) (bytes_come held.server) (standing_run held st) (stands_accepted held None st)
           (λ none. is.2 (sym c ∙ none.0, sym s ∙ none.1)),
     )
   where
@@ -204,8 +169,6 @@ unfinished_end held st client server c s at (Wire place fault) n e =
 
 -- why a session ends in a fault
 pub ends_in : (held : Held) (closed : Option SessionFault) → IsKept held closed → (fault : SessionFault) → fault_at_end (session_view held closed) ≡ Some fault → EndsIn (session_view held closed) fault
-ends_in held None st fault e = unfinished_end held st (bytes_come held.client) (bytes_come held.server) refl refl (bytes_taken (session_view held None)) fault refl e
-ends_in held (Some Memory) shut fault e = subst (EndsIn (session_view held (Some Memory))) (let q : Memory ≡ fault = cc in q) tt
 ends_in held (Some (Wire at fault)) shut other e =
     subst (EndsIn (session_view held (Some (Wire at fault)))) (let q : Wire at fault ≡ other = cc in q)
     (inl (record {
@@ -213,26 +176,20 @@ ends_in held (Some (Wire at fault)) shut other e =
       rest = [];
       parts = append-nil (held_pairs (holding_of held));
       at_is = shut.cause.0 ∙ shut.taken_is;
-      refusal = refusal (holding_of held) fault shut.cause.1;
+      refusal = refusal (held_pairs (holding_of held)) held.messages.items fault shut.cause.1;
     }))
+ends_in held closed st fault e = grind (arith, unfinished_end, append-nil, refusal)
 
 pub ends : (held : Held) (closed : Option SessionFault) (r : SessionView) (fault : SessionFault) → IsKept held closed → session_view held closed ≡ r → fault_at_end r ≡ Some fault → EndsIn r fault
 ends held closed r fault kept same e = subst (λ x. EndsIn x fault) same (ends_in held closed kept fault (ap fault_at_end same ∙ e))
 
 -- where it ends in none it stands, and no message is open
 pub ends_well : (held : Held) (closed : Option SessionFault) (r : SessionView) → IsKept held closed → session_view held closed ≡ r → fault_at_end r ≡ None → Stands held × (bytes_come held.client ≡ []) × (bytes_come held.server ≡ [])
-ends_well held None r kept same e = (let none = none_open (bytes_come held.client) (bytes_come held.server) (bytes_taken (session_view held None)) (ap fault_at_end same ∙ e) in (kept, none.0, none.1))
-  where
-    none_open : (client server : List ℕ) (at : ℕ) → open_end_fault client server at ≡ None → (client ≡ []) × (server ≡ [])
-    none_open [] [] at e = (refl, refl)
-    none_open (b ∷ client) server at e = absurd (cc)
-    none_open [] (b ∷ server) at e = absurd (cc)
-ends_well held (Some fault) r kept same e = absurd (let q : Some fault ≡ None = ap fault_at_end same ∙ e in cc)
+ends_well held closed r kept same e = grind arith
 
 -- a closed session refuses again
 pub refuses_again : (held : Held) (closed : Option SessionFault) (r : SessionView) (fault : SessionFault) → IsKept held closed → session_view held closed ≡ r → closed ≡ Some fault → Refuses r fault
-refuses_again held closed r fault kept same is =
-    subst (λ x. Refuses x fault) (ap (session_view held) (sym is) ∙ same) (refuses held fault (subst (IsKept held) is kept))
+refuses_again held closed r fault kept same is = grind (arith, refuses)
 
 pub is_complete : (held : Held) (closed : Option SessionFault) (r : SessionView) → IsKept held closed → session_view held closed ≡ r → IsComplete r
 is_complete held closed r kept same = subst IsComplete same (go closed kept)
@@ -243,5 +200,4 @@ is_complete held closed r kept same = subst IsComplete same (go closed kept)
 
 -- a capture with a wire fault has no run
 pub no_run_of : {profile : Profile} (capture : List Pair) (messages : List Message) (at : ℕ) (fault : WireFault) → IsWireFaultOf profile capture messages at fault → IsOfNoRunOf profile capture
-no_run_of capture messages at fault (inl r) items run has = r.refusal.none items run (r.rest, has ∙ sym r.parts)
-no_run_of capture messages at fault (inr r) items run has = r.2.none items run has
+no_run_of capture messages at fault e = grind arith

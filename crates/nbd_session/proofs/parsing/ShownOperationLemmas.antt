@@ -1,5 +1,5 @@
 -- The exchanges of a state, and the requests that they show.
-use Rattle.nbd_session.proofs.Common.{◌≡◌, ℕ, suc, ◌<◌, ◌≤◌, List, length, refl, sym, ◌∙◌, ap, Option, Some, None, if◌then◌else◌, arith, add-one, slice_get, Bor, le-leb, lt-leb, slice_get_past, slice_get_read, place_at, option_copied, IsItemAt, Exporting, Core, Transmission, operation, Exchange, State, IsPlaceOf, operation_counted, within, operation_if, Shows, place_shows_operation}
+use Rattle.nbd_session.proofs.Common.{◌≡◌, ℕ, suc, ◌<◌, ◌≤◌, List, ◌∙◌, ap, Option, Some, None, if◌then◌else◌, arith, add-one, slice_get, Bor, le-leb, lt-leb, slice_get_past, slice_get_read, place_at, option_copied, IsItemAt, Exporting, Core, Transmission, operation, Exchange, State, IsPlaceOf, operation_counted, within, operation_if, Shows, place_shows_operation}
 
 module _ (state : State) (core : Core) (export : Exporting) (cookie counted place : ℕ) (s : Shows state core) (p : core.phase ≡ Transmission export) (g : place_at state.outstanding cookie ≡ Some place) where
   -- the place of a cookie is that of its request, where that is one of those up to the count
@@ -19,9 +19,7 @@ module _ (state : State) (core : Core) (export : Exporting) (cookie counted plac
 
 -- what a slice's `get` lends
 pub copied_at : (xs : List Exchange) (i : ℕ) (r : Option (Bor Exchange)) → IsItemAt xs i r → option_copied r ≡ slice_get xs i
-copied_at xs i None h = sym (slice_get_past xs i h.3)
-copied_at xs i (Some x) h = sym (slice_get_read xs (length xs) i x.now refl h.3.0 h.1)
+copied_at xs i r h = grind (arith, slice_get_past, slice_get_read)
 
 pub not_both : {A : Type 0} (o : Option A) (a : A) → o ≡ None → o ≡ Some a → ⊥
-not_both (Some b) a n s = absurd (cc)
-not_both None a n s = absurd (cc)
+not_both o a n s = grind arith

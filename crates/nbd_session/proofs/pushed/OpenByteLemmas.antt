@@ -1,5 +1,5 @@
 -- The bytes that belong to no completed message are the rests, and more of them may come.
-use Rattle.nbd_session.proofs.Common.{◌≡◌, ℕ, List, [], ◌∷◌, ◌++◌, map, refl, sym, ◌∙◌, ap, subst, Ok, if◌then◌else◌, append_assoc, append-nil, append_cancel_left, Profile, Side, Client, Server, Message, enc, Item, Byte, Completes, completed_messages, pairs, Pair, ArePairs, side_pairs, bytes_of, bytes_from, IsRunBut, Obeys, after, side, same_side, start_of, by_tests, Bad, Both, Judge, Reader, More, Reading, Rest, Whole, fresh_of, get, rest_with, on_ok, put, reads, settle, AreHeld, IsSound, IsSoundAt, Open, Walk, ended, final, held_more, held_whole, kept_next, loose, middle, opening, serving, with_byte, marked_is_walk, with_more, fresh_held, run_but_law, AreBytesOf, byte_from, bytes_from-cons, run_bytes, sound, IsNotBusy, walk_is_marked, of_two}
+use Rattle.nbd_session.proofs.Common.{arith, ◌≡◌, ℕ, List, [], ◌∷◌, ◌++◌, map, refl, sym, ◌∙◌, ap, subst, Ok, append_assoc, append-nil, append_cancel_left, Profile, Side, Client, Server, Message, enc, Item, Byte, Completes, completed_messages, pairs, Pair, ArePairs, side_pairs, bytes_of, bytes_from, IsRunBut, Obeys, after, side, start_of, by_tests, Bad, Both, Judge, Reader, More, Reading, Rest, Whole, fresh_of, get, rest_with, on_ok, put, reads, settle, AreHeld, IsSound, IsSoundAt, Open, Walk, ended, final, held_more, held_whole, kept_next, loose, middle, opening, serving, with_byte, marked_is_walk, with_more, fresh_held, run_but_law, AreBytesOf, byte_from, bytes_from-cons, run_bytes, sound, IsNotBusy, walk_is_marked, of_two}
 use Rattle.nbd_wire.specs.protocol.Reading.{with_message}
 use Rattle.nbd_wire.specs.protocol.States.{State}
 use Rattle.nbd_session.proofs.pushed.HoldingLemmas.{from-append, from-client_sent, from-sent_same, from-server_sent}
@@ -10,25 +10,13 @@ abbrev pub held_bytes : Side → Reader → List ℕ
 held_bytes s reader = bytes_of s reader.messages ++ (get reader.rests s).bytes
 
 bytes_more : (s t : Side) (b : ℕ) (reader : Reader) → held_bytes s (record reader { rests = put reader.rests t (rest_with reader.core (get reader.rests t) b) }) ≡ held_bytes s reader ++ byte_from s t b
-bytes_more Client Client b reader = sym (append_assoc (bytes_of Client reader.messages) reader.rests.client.bytes (b ∷ []))
-bytes_more Client Server b reader = sym (append-nil (held_bytes Client reader))
-bytes_more Server Client b reader = sym (append-nil (held_bytes Server reader))
-bytes_more Server Server b reader = sym (append_assoc (bytes_of Server reader.messages) reader.rests.server.bytes (b ∷ []))
+bytes_more s t b reader = grind (arith, append_assoc, append-nil)
 
 abbrev emptied : Reader → Side → ℕ → Message → Reader
 emptied reader t b m = with_message reader t (rest_with reader.core (get reader.rests t) b) m
 
 bytes_whole : (s t : Side) (b : ℕ) (m : Message) (reader : Reader) → side m ≡ t → (rest_with reader.core (get reader.rests t) b).bytes ≡ enc m → held_bytes s (emptied reader t b m) ≡ held_bytes s reader ++ byte_from s t b
-bytes_whole s t b m reader sd e =
-    ap (λ l. l ++ (get (emptied reader t b m).rests s).bytes) (bytes_of-snoc s reader.messages m ∙ ap (λ u. bytes_of s reader.messages ++ (if same_side s u then enc m else [])) sd)
-    ∙ go s t e
-  where
-    go : (s t : Side) → (rest_with reader.core (get reader.rests t) b).bytes ≡ enc m →
-        (bytes_of s reader.messages ++ (if same_side s t then enc m else [])) ++ (get (emptied reader t b m).rests s).bytes ≡ held_bytes s reader ++ byte_from s t b
-    go Client Client e = append-nil (bytes_of Client reader.messages ++ enc m) ∙ ap (λ l. bytes_of Client reader.messages ++ l) (sym e) ∙ sym (append_assoc (bytes_of Client reader.messages) reader.rests.client.bytes (b ∷ []))
-    go Server Server e = append-nil (bytes_of Server reader.messages ++ enc m) ∙ ap (λ l. bytes_of Server reader.messages ++ l) (sym e) ∙ sym (append_assoc (bytes_of Server reader.messages) reader.rests.server.bytes (b ∷ []))
-    go Client Server e = ap (λ l. l ++ reader.rests.client.bytes) (append-nil (bytes_of Client reader.messages)) ∙ sym (append-nil (held_bytes Client reader))
-    go Server Client e = ap (λ l. l ++ reader.rests.server.bytes) (append-nil (bytes_of Server reader.messages)) ∙ sym (append-nil (held_bytes Server reader))
+bytes_whole s t b m reader sd e = grind (arith, bytes_of-snoc, byte_from, append-nil, append_assoc)
 
 -- the reader holds what it read
 pub reads_bytes : (judge : Judge) → IsSound judge → (s : Side) (ps : List Pair) (reader end : Reader) → ArePairs ps → AreHeld judge reader → reads judge reader ps ≡ Ok end →
@@ -55,8 +43,7 @@ reads_bytes judge sd s (p ∷ ps) reader end lt held e = go (judge rest.since re
 -- the loose bytes of a run with these pairs and messages
 pub loose_is : (s : Side) (items : List Item) (ps : List Pair) (messages : List Message) (rest bytes : List ℕ) → pairs items ≡ ps → completed_messages items ≡ messages →
     bytes_from s (pairs items) ≡ bytes_of s (completed_messages items) ++ rest → bytes_from s ps ≡ bytes_of s messages ++ bytes → rest ≡ bytes
-loose_is s items ps messages rest bytes p c e f =
-    append_cancel_left (bytes_of s messages) rest bytes (ap (λ ms. bytes_of s ms ++ rest) (sym c) ∙ sym e ∙ ap (bytes_from s) p ∙ f)
+loose_is s items ps messages rest bytes p c e f = grind (arith, append_cancel_left)
 
 -- the same of both sides
 run_as : {profile : Profile} (items : List Item) (ps : List Pair) (messages : List Message) (a b client server : List ℕ) → IsRunBut profile items a b → pairs items ≡ ps → completed_messages items ≡ messages →
@@ -126,10 +113,7 @@ completed_more (item ∷ items) s bs = completed_more items s bs
 -- more bytes of a side come after its rest
 from_more : (s : Side) (ps : List Pair) (messages : List Message) (client server more : List ℕ) → ((u : Side) → bytes_from u ps ≡ bytes_of u messages ++ of_two u client server) →
     (u : Side) → bytes_from u (ps ++ side_pairs s more) ≡ bytes_of u messages ++ of_two u (with_more s Client more client) (with_more s Server more server)
-from_more Client ps messages client server more h Client = from-append Client ps (side_pairs Client more) ∙ (λ i. h Client i ++ from-sent_same Client more i) ∙ append_assoc (bytes_of Client messages) client more
-from_more Server ps messages client server more h Client = from-append Client ps (side_pairs Server more) ∙ (λ i. h Client i ++ from-client_sent more i) ∙ append-nil (bytes_of Client messages ++ client)
-from_more Client ps messages client server more h Server = from-append Server ps (side_pairs Client more) ∙ (λ i. h Server i ++ from-server_sent more i) ∙ append-nil (bytes_of Server messages ++ server)
-from_more Server ps messages client server more h Server = from-append Server ps (side_pairs Server more) ∙ (λ i. h Server i ++ from-sent_same Server more i) ∙ append_assoc (bytes_of Server messages) server more
+from_more s ps messages client server more h u = grind (arith, from-append, from-sent_same, append_assoc, from-client_sent, append-nil, from-server_sent)
 
 -- what a reader read, and more bytes of a side, is a run but for the rests with these bytes
 pub more_is_run_but : {profile : Profile} (ps : List Pair) (end : Reader) (messages : List Message) (client server : List ℕ) (s : Side) (more : List ℕ) → ArePairs ps → reads by_tests (fresh_of profile) ps ≡ Ok end →

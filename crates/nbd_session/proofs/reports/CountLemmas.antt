@@ -1,45 +1,27 @@
 -- The request that a reply answers, by how many requests had completed when the reply started.
-use Rattle.nbd_session.proofs.Common.{◌≡◌, ℕ, suc, ◌+◌, ◌<◌, ◌≤◌, List, [], ◌∷◌, ◌++◌, length, refl, sym, ◌∙◌, ap, subst, inl, inr, Option, Some, None, Bool, if◌then◌else◌, arith, append-nil, le-leb, lt-leb, Side, Client, Server, Operation, Exporting, Core, Phase, Greet, Flags, Choosing, Naming, Aborting, Answering, Ended, Transmission, target, target_from, decision_by_count, operation_counted, within, operation_if, operation_of, decision, decision_with, by_tests, More, Rest, old_of, Kept, Later, Later-trans, none_held, old-empty, old-filled, some_held, IsAppended, Later-appended, Later-turn, kept_later, turn_of_reading}
+use Rattle.nbd_session.proofs.Common.{◌≡◌, ℕ, suc, ◌+◌, ◌<◌, List, [], ◌∷◌, ◌++◌, length, refl, sym, subst, inl, inr, Option, Some, None, arith, append-nil, le-leb, lt-leb, Side, Server, Operation, Exporting, Core, Phase, Transmission, target, target_from, decision_by_count, operation_counted, within, operation_of, decision, decision_with, by_tests, More, Rest, old_of, Kept, Later, Later-trans, old-empty, old-filled, IsAppended, Later-appended, Later-turn, kept_later, turn_of_reading}
 use Rattle.nbd_laws.proofs.reading.ReaderLemmas.{Held}
 
 above : (n cookie : ℕ) (es : List Operation) (j : ℕ) → target_from n cookie es ≡ Some j → n < j
 above n cookie [] j h = absurd (cc)
 above n cookie (e ∷ es) j h = grind (arith, above (suc n) cookie es j)
 
-within_some : (count k : ℕ) → k ≤ count → within count (Some k) ≡ Some k
-within_some count k l = ap (λ (b : Bool). if b then Some k else None) (le-leb k count l)
-
 within_none : (count : ℕ) (o : Option ℕ) → ((k : ℕ) → o ≡ Some k → count < k) → within count o ≡ None
-within_none count None h = refl
-within_none count (Some k) h = ap (λ (b : Bool). if b then Some k else None) (lt-leb k count (h k refl))
+within_none count o h = grind (arith, lt-leb)
 
 prefix_from : (n cookie : ℕ) (es more : List Operation) (count : ℕ) → count ≡ n + length es → target_from n cookie es ≡ within count (target_from n cookie (es ++ more))
 prefix_from n cookie [] more count c = sym (within_none count (target_from n cookie more) (λ k e. (let l : n < k = above n cookie more k e in omega (arith, l, c))))
-prefix_from n cookie (e ∷ es) more count c = grind (arith, within_some, prefix_from (suc n) cookie es more count (omega (arith, c)))
-
--- the outstanding request with a cookie, of the first requests only
-pub target_prefix : (cookie : ℕ) (es more : List Operation) → target cookie es ≡ within (length es) (target cookie (es ++ more))
-unfolding target
-target_prefix cookie es more = prefix_from 0 cookie es more (length es) (omega arith)
+prefix_from n cookie (e ∷ es) more count c = grind (arith, prefix_from (suc n) cookie es more count (omega (arith, c)), within_none, above, le-leb)
 
 -- where requests were only added, the count states the request that a cookie named before
 pub entry_is_counted : (old now : Core) → IsAppended old now → (cookie : ℕ) → operation_of old now cookie ≡ operation_counted (length old.entries) now cookie
-entry_is_counted old now a cookie =
-    ap (λ o. operation_if o now.entries) (target_prefix cookie old.entries a.more ∙ ap (λ es. within (length old.entries) (target cookie es)) (sym a.entries_are))
+unfolding target
+entry_is_counted old now a cookie = grind (arith, prefix_from)
 
 -- the decisions of a server's bytes are those by the count; no other decision looks at it
 pub decided_is_counted : (phase : Phase) (old now : Core) (s : Side) (bytes : List ℕ) → ((export : Exporting) → phase ≡ Transmission export → s ≡ Server → IsAppended old now) →
     decision phase old now s bytes ≡ decision_with phase (operation_counted (length old.entries) now) now s bytes
-decided_is_counted (Transmission export) old now Server bytes h = ap (λ to. decision_with (Transmission export) to now Server bytes) (λ i cookie. entry_is_counted old now (h export refl refl) cookie i)
-decided_is_counted (Transmission export) old now Client bytes h = refl
-decided_is_counted Greet old now Server bytes h = refl
-decided_is_counted Flags old now Server bytes h = refl
-decided_is_counted Choosing old now Server bytes h = refl
-decided_is_counted Naming old now Server bytes h = refl
-decided_is_counted Aborting old now Server bytes h = refl
-decided_is_counted (Answering option given info) old now Server bytes h = refl
-decided_is_counted Ended old now Server bytes h = refl
-decided_is_counted phase old now s bytes h = refl
+decided_is_counted phase old now s bytes h = grind (arith, entry_is_counted)
 
 none_added : (core : Core) → IsAppended core core
 none_added core = record { more = []; entries_are = sym (append-nil core.entries); structured_is = refl; profile_is = refl; extended_is = refl }
@@ -53,14 +35,10 @@ kept_appended {old} {now} {next} k m l =
       | inr (export, t) ↦ Later-appended later export t
     ]
 
-pub held_appended : {core : Core} {rest : Rest} → Held by_tests core Server rest → IsAppended (old_of core rest) core
-held_appended {core} {rest} (none_held r e) = subst (λ c. IsAppended c core) (sym (old-empty core rest e)) (none_added core)
-held_appended {core} {rest} (some_held r now f k m l) = subst (λ c. IsAppended c core) (sym (old-filled core rest f)) (kept_appended k m l)
-
 -- how many requests had completed before the first byte of a rest
 abbrev pub count_of : Core → Rest → ℕ
 count_of core rest = length (old_of core rest).entries
 
 -- what is decided of a reader's rest, by the count
 pub held_counted : {core : Core} {s : Side} {rest : Rest} → Held by_tests core s rest → (bytes : List ℕ) → decision core.phase (old_of core rest) core s bytes ≡ decision_by_count (count_of core rest) core s bytes
-held_counted {core} {s} {rest} h bytes = decided_is_counted core.phase (old_of core rest) core s bytes (λ export t q. held_appended (subst (λ u. Held by_tests core u rest) q h))
+held_counted {core} {s} {rest} h bytes = grind (arith, decided_is_counted, old-empty, none_added, old-filled, kept_appended)

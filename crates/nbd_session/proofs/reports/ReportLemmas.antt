@@ -1,11 +1,7 @@
 -- What a session that ends states is the report of the runs with its bytes.
-use Rattle.nbd_session.proofs.Common.{SessionFault, ◌≡◌, ℕ, suc, ◌+◌, List, [], ◌∷◌, map, refl, sym, ◌∙◌, ap, subst, arith, Option, Some, None, slice_get, Side, Client, Server, Item, pairs, report, asked_of, asked_list, Operation, Exporting, IsRunOf, IsRunBut, Core, Phase, Shown, Greet, export_in, Exchange, Held, State, get, holding_of, IsReported, IsShown, exporting_if, AreKnown, AreShown, known_if, Shows, ended_if, phase_shown, shown_if, shown_in, IsSoundReport, held_pairs, HoldsRun, Stands, bytes_come, session_view, report_of_request, export_of, transcript_report, reports_are_sound}
+use Rattle.nbd_session.proofs.Common.{SessionFault, ◌≡◌, ℕ, suc, ◌+◌, List, [], ◌∷◌, map, refl, sym, ◌∙◌, ap, subst, arith, Option, Some, None, slice_get, Item, pairs, report, asked_of, asked_list, Operation, Exporting, IsRunOf, IsRunBut, Core, Shown, export_in, Exchange, Held, State, holding_of, IsReported, IsShown, AreKnown, AreShown, known_if, Shows, ended_if, shown_if, shown_in, IsSoundReport, held_pairs, HoldsRun, Stands, bytes_come, session_view, report_of_request, export_of, transcript_report, reports_are_sound}
 use Rattle.nbd_laws.proofs.reading.NotedLemmas.{read_report, report_by}
 use Rattle.nbd_session.proofs.judge.PieceLemmas.{standing_run}
-
-export_same : (phase : Phase) → exporting_if (export_of (phase_shown phase)) ≡ export_in phase
-export_same Greet = refl
-export_same phase = refl
 
 one_told : (export : Exporting) (e : Operation) (x : Exchange) (known : Option ℕ) (shown : List Shown) (ended : Option ℕ) → IsShown export e x → x.asked.known_at ≡ known → shown_in x.asked ≡ shown → x.asked.ended_at ≡ ended →
     report_of_request x.asked ≡ asked_of (Some export) known shown ended e
@@ -41,28 +37,12 @@ all_told n core (Some export) q known [] (x ∷ xs) s h = absurd s
 all_told n core export q known es xs s h = absurd s
 
 told_by : (state : State) (core : Core) (noted : ℕ → Option ℕ) → Shows state core → AreKnown noted state.exchanges.items → transcript_report (export_of state.phase) state.exchanges.items ≡ report_by core noted
-told_by state core noted shows known = λ i. record {
-  export = (ap (λ phase. exporting_if (export_of phase)) shows.phase_is ∙ export_same core.phase) i;
-  asked = all_told 0 core (export_in core.phase) refl noted core.entries state.exchanges.items shows.are_shown (record {
-    known_are = λ place. ap (λ m. noted (suc m)) (from_none place) ∙ known place;
-    shown_are = λ place. ap (λ m. core.shown (suc m)) (from_none place) ∙ shows.shown place;
-    ended_are = λ place. ap (λ m. core.ended_at (suc m)) (from_none place) ∙ shows.ended place;
-  }) i;
-}
-  where
-    from_none : (place : ℕ) → 0 + place ≡ place
-    from_none place = omega arith
+told_by state core noted shows known = grind (arith, all_told)
 
 module _ (held : Held) (st : Stands held) (client : (bytes_come held.client) ≡ []) (server : (bytes_come held.server) ≡ []) where
-  none_left : (s : Side) → (get st.reader.rests s).bytes ≡ []
-  none_left Client = st.read_to.rests_are Client ∙ client
-  none_left Server = st.read_to.rests_are Server ∙ server
-
   -- any run with these bytes has what is told as its report
   told_of : (items : List Item) → IsRunOf held.state.profile items → pairs items ≡ held_pairs (holding_of held) → report items ≡ transcript_report (export_of held.state.phase) held.state.exchanges.items
-  told_of items run has =
-      read_report (held_pairs (holding_of held)) st.reader st.read_to.are_pairs st.read_to.reads_it none_left items run has
-      ∙ sym (told_by held.state st.reader.core st.reader.known st.shows st.known)
+  told_of items run has = grind (arith, read_report, told_by)
 
   whole_run : (run : HoldsRun (holding_of held)) → IsRunOf held.state.profile run.items
   whole_run run = subst (λ c. IsRunBut held.state.profile run.items c []) client (subst (λ s. IsRunBut held.state.profile run.items (bytes_come held.client) s) server run.is_run)

@@ -1,5 +1,5 @@
 -- A whole message is accepted.
-use Rattle.nbd_session.proofs.Common.{◌≡◌, List, [], ◌∷◌, ◌++◌, length, refl, sym, ◌∙◌, ap, subst, inl, inr, append-nil, Message, Side, Client, Server, MayComplete, complete, IsSendable, Memory, Held, Exchange, decision, Reader, Rest, Whole, get, old_of, State, MayTake, bytes_come, nothing_come, holding_of, incoming_of, IsKnown, decided, stretches_of, IsReached, at_once, behind, get-put_other, get-put_same, reached_of, same_or_not, AreKnown, Shows, Holding, IsReadTo, count_at_server, held_pairs, rest_of, with_bytes, HoldsRun, IsSame, IsShut, IsTaken, Stands, asks_only, noted, is_reply_to, is_this, suc, unnoted}
+use Rattle.nbd_session.proofs.Common.{arith, ◌≡◌, List, [], ◌∷◌, ◌++◌, length, refl, sym, ◌∙◌, ap, subst, inl, inr, append-nil, Message, Side, Client, Server, MayComplete, complete, IsSendable, Memory, Held, Exchange, decision, Reader, Rest, Whole, get, old_of, State, MayTake, bytes_come, nothing_come, holding_of, incoming_of, IsKnown, decided, stretches_of, IsReached, at_once, behind, get-put_other, get-put_same, reached_of, same_or_not, AreKnown, Shows, Holding, IsReadTo, count_at_server, held_pairs, rest_of, with_bytes, HoldsRun, IsSame, IsShut, IsTaken, Stands, asks_only, noted, is_reply_to, is_this, suc, unnoted}
 use Rattle.nbd_session.proofs.judge.PieceLemmas.{read_run}
 use Rattle.nbd_session.proofs.reports.CountLemmas.{count_of}
 use Rattle.nbd_session.proofs.steps.HoldingLemmas.{rest_is}
@@ -44,17 +44,7 @@ module _ (held : Held) (s : Side) (t : IsTaken held s) (m : Message) (whole : Is
 
   -- the message is one of those that complete, and its bytes are as they were
   pub same_but_message : (new : Held) → holding_of new ≡ with_message (holding_of held) s m → new.messages.items ≡ held.messages.items ++ m ∷ [] → new.taken ≡ held.taken → IsSame held new
-  same_but_message new holding messages same = record {
-    adds = λ u. record {
-      prefix = [];
-      more = m ∷ [];
-      parts = refl;
-      has_pairs = ap held_pairs (holding_after new holding) ∙ pairs_after ∙ sym (ap held_pairs t.holding_is) ∙ sym (append-nil (held_pairs (holding_of held)));
-      has_messages = messages;
-    };
-    taken_is = same;
-    profile_is = ap (λ (h : Holding). h.profile) holding ∙ profile_message (holding_of held) s m;
-  }
+  same_but_message new holding e same = grind (arith, holding_after, pairs_after, append-nil, profile_message)
 
   -- it is taken where the session stands
   pub may_take : (state : State) → state ≡ held.state → MayTake state m

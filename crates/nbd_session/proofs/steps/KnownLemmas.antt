@@ -1,5 +1,5 @@
 -- What is known of a side's bytes stays, where the other side's messages complete meanwhile.
-use Rattle.nbd_session.proofs.Common.{◌≡◌, ℕ, suc, ◌+◌, ◌<◌, ◌≤◌, List, [], ◌∷◌, ◌++◌, length, refl, sym, ◌∙◌, ap, subst, inl, inr, Option, Some, None, zero, Bool, true, false, arith, add-one, append-nil, length-append, lt-ltb, same_Some, Message, Side, Client, Server, BadMagic, UnknownCookie, Exporting, Operation, number_at, Core, Transmission, operation, target, awaited_length_by, awaited_length, Decision, operation_of, reply, reply_in, request, request_by, by_tests, decision, request_unless, IsFilled, More, Rest, old_of, chunk_head_fault, extended_head_fault, simple_fault, simple_last_fault, decision_of, IsAppended, Later-appended, Later-disconnected, Later-extended, Later-transmission, Later-turn, target-append, kept_later, turn_of_reading, IsDeciding, IsExtendedOrNot, as_chunk, as_extended, as_neither, as_other, as_simple, bytes_are_begun, deciding, entry-append, extended_or_not, is_chunk_reply, is_extended_reply, is_no_extended, is_no_reply, is_simple_reply, long_reply, short_reply, Later, Later-trans, at_once, none_held, old-empty, old-filled, some_held, RequestHead, Expected, IsPlaced, chunk_fault_to, expected_decision, last_fault_by, message_of, payload_length_of, request_with, chunk_with, IncomingView, bytes_come, incoming_with, incoming_with_by, nothing_come, IsCome, IsExpected, IsKnown, IsShort, is_known_by}
+use Rattle.nbd_session.proofs.Common.{◌≡◌, ℕ, suc, ◌+◌, ◌<◌, ◌≤◌, List, [], ◌∷◌, ◌++◌, length, refl, sym, ◌∙◌, ap, subst, inl, inr, Option, Some, None, zero, Bool, true, false, arith, add-one, append-nil, length-append, lt-ltb, same_Some, Message, Side, Client, Server, Exporting, Operation, number_at, Core, Transmission, operation, awaited_length_by, awaited_length, Decision, operation_of, reply, reply_in, request, by_tests, decision, request_unless, IsFilled, More, Rest, old_of, simple_fault, decision_of, IsAppended, Later-appended, Later-disconnected, Later-extended, Later-transmission, Later-turn, target-append, kept_later, turn_of_reading, IsDeciding, IsExtendedOrNot, bytes_are_begun, deciding, entry-append, extended_or_not, is_chunk_reply, is_extended_reply, is_no_extended, is_no_reply, is_simple_reply, long_reply, short_reply, Later, Later-trans, at_once, none_held, old-empty, old-filled, some_held, RequestHead, Expected, IsPlaced, chunk_fault_to, expected_decision, last_fault_by, message_of, payload_length_of, IncomingView, bytes_come, incoming_with, incoming_with_by, nothing_come, IsCome, IsExpected, IsKnown, IsShort, is_known_by}
 use Rattle.nbd_wire.specs.declared.message.Message.TheVariants as messages
 use Rattle.nbd_laws.proofs.judge.SteadyLemmas.{IsBegun}
 use Rattle.nbd_laws.proofs.reading.ReaderLemmas.{Held}
@@ -10,15 +10,9 @@ use Rattle.nbd_session.proofs.expecting.ReplyLemmas.{placed_within}
 -- where something is decided of a rest, it goes on as it began
 pub deciding_rest : {core : Core} {s : Side} {rest : Rest} → Held by_tests core s rest → (bytes : List ℕ) (d : Decision) → decision core.phase (old_of core rest) core s bytes ≡ Some d →
     IsDeciding s (old_of core rest) × Later s (old_of core rest) core
-deciding_rest {core} {s} {rest} (none_held r e) bytes d is =
-    let o : old_of core rest ≡ core = old-empty core rest e in
-    subst (λ c. IsDeciding s c × Later s c core) (sym o) (deciding core.phase s core bytes d refl (subst (λ c. decision core.phase c core s bytes ≡ Some d) o is), at_once)
+deciding_rest {core} {s} {rest} (none_held r e) bytes d is = grind (arith, old-empty, deciding, at_once, old-filled, decision_of, kept_later)
 deciding_rest {core} {s} {rest} (some_held r now f k m l) bytes d is =
     subst (λ c. IsDeciding s c × Later s c core) (sym (old-filled core rest f)) (decision_of k m, Later-trans (kept_later k) l)
-
--- before the first byte of a message no head is whole
-pub nothing_short : (core : Core) (s : Side) → IsShort (decision core.phase core core s) []
-nothing_short core s d is = grind (arith, deciding, at_once, same_Some)
 
 -- a head that is not whole
 pub short_stays : (s : Side) (old core next : Core) (head : List ℕ) → IsDeciding s old → Later s old core → Later s core next → IsShort (decision core.phase old core s) head → IsShort (decision next.phase old next s) head
@@ -47,9 +41,7 @@ operation_stays core next a place l =
     within (e ∷ es) (suc k) l = within es k (omega (arith, l))
 
 placed_stays : (core next : Core) → IsAppended core next → (x : Expected) → IsPlaced core x → IsPlaced next x
-placed_stays core next a (expectations.Simple head place len) t = ap (target head.cookie) a.entries_are ∙ target-append head.cookie core.entries a.more (suc place) t
-placed_stays core next a (expectations.Chunk head place) t = ap (target head.cookie) a.entries_are ∙ target-append head.cookie core.entries a.more (suc place) t
-placed_stays core next a x l = tt
+placed_stays core next a x t = grind (arith, target-append)
 
 -- the command and the cookie of a request
 abbrev sent : Message → Option (ℕ × ℕ)
@@ -57,41 +49,23 @@ sent (messages.Request flags command cookie offset len payload) = Some (command,
 sent (messages.ExtendedRequest flags command cookie offset len payload) = Some (command, cookie)
 sent m = None
 
-sent_by : (x : Bool) (core : Core) (bytes : List ℕ) → sent ((request_by x core bytes).message) ≡ Some (number_at 6 2 bytes, number_at 8 8 bytes)
-sent_by false core bytes = refl
-sent_by true core bytes = refl
-
-sent_with : (x : Bool) (r : RequestHead) (payload : List ℕ) → sent (request_with x r payload) ≡ Some (r.command, r.cookie)
-sent_with false r payload = refl
-sent_with true r payload = refl
-
-chunk_not_sent : (at : Option ℕ) (flags kind cookie : ℕ) (payload : List ℕ) → sent (chunk_with at flags kind cookie payload) ≡ None
-chunk_not_sent None flags kind cookie payload = refl
-chunk_not_sent (Some offset) flags kind cookie payload = refl
-
 request_only : (x : Expected) (payload : List ℕ) (s : ℕ × ℕ) → sent (message_of x payload) ≡ Some s → (r : RequestHead) × (x ≡ expectations.Request r)
-request_only (expectations.Request r) payload s e = (r, refl)
-request_only (expectations.Chunk head place) payload s e = absurd (let q : None ≡ Some s = sym (chunk_not_sent head.at head.flags head.kind head.cookie payload) ∙ e in cc)
-request_only x payload s e = absurd (cc)
+request_only x payload s e = grind arith
 
 -- what is decided of a request is so of a request alone
 module _ (core : Core) (bytes payload : List ℕ) (h : ℕ) (x : Expected) (e : request core bytes ≡ expected_decision core x h payload) where
   sent_here : sent (message_of x payload) ≡ Some (number_at 6 2 bytes, number_at 8 8 bytes)
-  sent_here = sym (ap (λ (d : Decision). sent d.message) e) ∙ sent_by core.extended core bytes
+  sent_here = grind arith
 
   is_request : (r : RequestHead) × (x ≡ expectations.Request r)
   is_request = request_only x payload _ sent_here
 
   fields_are : ◌≡◌ {A = ℕ × ℕ} (number_at 6 2 bytes, number_at 8 8 bytes) (is_request.0.command, is_request.0.cookie)
-  fields_are = same_Some _ _ (sym sent_here ∙ ap (λ y. sent (message_of y payload)) is_request.1 ∙ sent_with is_request.0.extended is_request.0 payload)
+  fields_are = grind (arith, same_Some, sent_here)
 
   -- a request answers no request
   placed_request : (next : Core) → IsPlaced next x
   placed_request next = subst (IsPlaced next) (sym is_request.1) tt
-
-  -- a request looks at what is outstanding at its last byte alone
-  request_stays : (next : Core) → next.extended ≡ core.extended → request next bytes ≡ expected_decision next x h payload
-  request_stays next extended = grind (arith, is_request, fields_are)
 
 module _ (export : Exporting) (old core next : Core) (bytes : List ℕ) (a : IsAppended core next) where
   abbrev cookie : ℕ
@@ -100,27 +74,15 @@ module _ (export : Exporting) (old core next : Core) (bytes : List ℕ) (a : IsA
   same_operation : (e : Operation) → operation_of old core cookie ≡ Some e → operation_of old next cookie ≡ operation_of old core cookie
   same_operation e h = grind (arith, entry-append)
 
-  found_chunk : (o : Option Operation) → chunk_head_fault core.structured o ≡ None → (e : Operation) × (o ≡ Some e)
-  found_chunk (Some e) h = (e, refl)
-  found_chunk None h = absurd (let q : Some UnknownCookie ≡ None = h in cc)
-
   found_simple : (o : Option Operation) (error : ℕ) → simple_fault core.structured o error ≡ None → (e : Operation) × (o ≡ Some e)
-  found_simple (Some e) error h = (e, refl)
-  found_simple None error h = absurd (let q : Some UnknownCookie ≡ None = h in cc)
-
-  found_extended : (o : Option Operation) (len : ℕ) → extended_head_fault core.structured o len ≡ None → (e : Operation) × (o ≡ Some e)
-  found_extended (Some e) len h = (e, refl)
-  found_extended None len h = grind arith
+  found_simple o error h = grind arith
 
   -- what is decided of a reply without a fault in its head does not change as requests are added
   short_reply_stays : IsBegun bytes → (short_reply export old core bytes).head_fault ≡ None → short_reply export old next bytes ≡ short_reply export old core bytes
-  short_reply_stays (as_chunk c) clean = grind (arith, is_chunk_reply, found_chunk, same_operation)
-  short_reply_stays (as_simple c s) clean = grind (arith, is_simple_reply, found_simple, same_operation)
-  short_reply_stays (as_neither c s) clean = absurd (let q : Some BadMagic ≡ None = sym (ap (λ (d : Decision). d.head_fault) (is_no_reply export old core bytes c s)) ∙ clean in cc)
+  short_reply_stays e clean = grind (arith, is_chunk_reply, same_operation, is_simple_reply, found_simple, is_no_reply)
 
   long_reply_stays : IsExtendedOrNot bytes → (long_reply export old core bytes).head_fault ≡ None → long_reply export old next bytes ≡ long_reply export old core bytes
-  long_reply_stays (as_extended c) clean = grind (arith, is_extended_reply, found_extended, same_operation)
-  long_reply_stays (as_other c) clean = absurd (let q : Some BadMagic ≡ None = sym (ap (λ (d : Decision). d.head_fault) (is_no_extended export old core bytes c)) ∙ clean in cc)
+  long_reply_stays e clean = grind (arith, is_extended_reply, same_operation, is_no_extended)
 
   reply_stays : (reply export old core bytes).head_fault ≡ None → reply export old next bytes ≡ reply export old core bytes
   reply_stays clean = grind (arith, short_reply_stays, bytes_are_begun, long_reply_stays, extended_or_not)
@@ -133,21 +95,13 @@ is_reply (messages.ExtendedChunk flags kind cookie offset payload) = true
 is_reply m = false
 
 reply_is : (x : Bool) (export : Exporting) (core : Core) (o : Option Operation) (bytes : List ℕ) → is_reply ((reply_in x export core o bytes).message) ≡ true
-reply_is false export core o bytes = grind arith
-reply_is true export core o bytes = grind arith
-
-no_request : (x : Bool) (r : RequestHead) (payload : List ℕ) → is_reply (request_with x r payload) ≡ false
-no_request false r payload = refl
-no_request true r payload = refl
+reply_is x export core o bytes = grind arith
 
 -- the fault at a reply's last byte
 last_stays : (core next : Core) (export : Exporting) → IsAppended core next → (x : Expected) (payload : List ℕ) → IsPlaced core x → is_reply (message_of x payload) ≡ true →
     last_fault_by (Transmission export) core x payload ≡ last_fault_by (Transmission export) next x payload
-last_stays core next export a (expectations.Simple head place len) payload l is = ap (λ o. simple_last_fault export o head.error) (sym (operation_stays core next a place (placed_within core.entries head.cookie place l)))
 last_stays core next export a (expectations.Chunk head place) payload l is = (λ i. chunk_fault_to (sym a.profile_is i) export (sym (operation_stays core next a place (placed_within core.entries head.cookie place l)) i) head payload)
-last_stays core next export a (expectations.Request head) payload l is = absurd (let q : false ≡ true = sym (no_request head.extended head payload) ∙ is in cc)
-last_stays core next export a (expectations.Answer head proper) payload l is = absurd (cc)
-last_stays core next export a x payload l is = refl
+last_stays core next export a x payload l is = grind (arith, operation_stays, placed_within)
 
 module _ (old core next : Core) (export : Exporting) (before : core.phase ≡ Transmission export) (after : next.phase ≡ Transmission export) (head : List ℕ) (x : Expected) where
   expected_reply : IsAppended core next → IsExpected (decision core.phase old core Server) core head x → IsExpected (decision next.phase old next Server) next head x
@@ -166,7 +120,7 @@ module _ (old core next : Core) (export : Exporting) (before : core.phase ≡ Tr
           ∙ (λ i. record { head_length = length head; head_fault = None; payload_length = payload_length_of x; last_fault = last i; message = message_of x payload }))
 
   expected_request : next.disconnected ≡ core.disconnected → next.extended ≡ core.extended → IsPlaced next x → IsExpected (decision core.phase old core Client) core head x → IsExpected (decision next.phase old next Client) next head x
-  expected_request disconnected extended placed known = grind (arith, request_stays, same_Some)
+  expected_request disconnected extended placed known = grind (arith, same_Some, is_request, fields_are)
 
 by_side : (s : Side) (old core next : Core) (export : Exporting) (head : List ℕ) (x : Expected) → Later s core next → core.phase ≡ Transmission export → next.phase ≡ Transmission export →
     IsExpected (decision core.phase old core s) core head x → IsExpected (decision next.phase old next s) next head x
@@ -199,14 +153,11 @@ no_head [] payload e = refl
 no_head (b ∷ head) payload e = absurd (cc)
 
 filled_with : (head payload : List ℕ) → IsFilled head → IsFilled (head ++ payload)
-filled_with [] payload f = absurd f
-filled_with (b ∷ head) payload f = tt
+filled_with head payload f = grind arith
 
 short_held : {core : Core} {s : Side} {rest : Rest} → Held by_tests core s rest → (next : Core) → Later s core next → (head payload : List ℕ) → head ++ payload ≡ rest.bytes →
     IsShort (decision core.phase (old_of core rest) core s) head → IsShort (decision next.phase (old_of next rest) next s) head
-short_held {core} {s} {rest} (none_held r e) next l head payload is short =
-    subst (λ bs. IsShort (decision next.phase (old_of next rest) next s) bs) (sym (no_head head payload (is ∙ e)))
-    (subst (λ c. IsShort (decision next.phase c next s) []) (sym (old-empty next rest e)) (nothing_short next s))
+short_held {core} {s} {rest} (none_held r e) next l head payload is short = grind (arith, no_head, old-empty, old-filled, short_stays, decision_of, kept_later, deciding, at_once, same_Some)
 short_held {core} {s} {rest} (some_held r now f k m j) next l head payload is short =
     subst (λ c. IsShort (decision next.phase c next s) head) (sym (old-filled next rest f))
     (short_stays s rest.since core next head (decision_of k m) (Later-trans (kept_later k) j) l (subst (λ c. IsShort (decision core.phase c core s) head) (old-filled core rest f) short))
@@ -222,7 +173,7 @@ known_stays {core} {s} {rest} held next l v is known = go v.expected known
 
 -- before the first byte of a message
 pub nothing_known : (core : Core) (s : Side) (rest : Rest) → rest.bytes ≡ [] → IsKnown (decision core.phase (old_of core rest) core s) core nothing_come
-nothing_known core s rest e = (refl, subst (λ c. IsShort (decision core.phase c core s) []) (sym (old-empty core rest e)) (nothing_short core s))
+nothing_known core s rest e = grind (arith, old-empty, deciding, at_once, same_Some)
 
 -- bytes that were taken up to the awaited length
 pub come_with : {core : Core} {s : Side} {rest : Rest} → Held by_tests core s rest → (v : IncomingView) → bytes_come v ≡ rest.bytes → (more : List ℕ) →

@@ -1,5 +1,5 @@
 -- How many bytes of a side are missing until something is decided of them.
-use Rattle.nbd_session.proofs.Common.{◌≡◌, ◌⊎◌, ℕ, ◌+◌, ◌<◌, List, [], ◌++◌, length, sym, ◌∙◌, ap, subst, inl, inr, Option, Some, None, append-nil, arith, length-append, Bool, if◌then◌else◌, lt-ltb, Side, WireFault, Core, awaited_length_by, awaited_length, decision_by_count, Decision, by_tests, reading_by_decision, decision, Bad, IsFilled, More, Rest, get, old_of, held_short, in_head, deciding, at_once, none_held, old-empty, some_held, Shows, Expected, bytes_come, HasHeadLength, payload_length_of, holding_of, incoming_of, awaited, decided, is_known_by, count_at_server, Stands}
+use Rattle.nbd_session.proofs.Common.{◌≡◌, ◌⊎◌, ℕ, ◌+◌, ◌<◌, List, [], ◌++◌, length, sym, ◌∙◌, ap, subst, inl, Option, Some, None, append-nil, arith, length-append, Bool, if◌then◌else◌, lt-ltb, Side, WireFault, Core, awaited_length_by, awaited_length, decision_by_count, Decision, by_tests, reading_by_decision, decision, Bad, IsFilled, More, Rest, get, old_of, held_short, in_head, deciding, at_once, none_held, old-empty, some_held, Shows, Expected, bytes_come, HasHeadLength, payload_length_of, holding_of, incoming_of, awaited, decided, is_known_by, count_at_server, Stands}
 use Rattle.nbd_laws.proofs.reading.ReaderLemmas.{Held}
 use Rattle.nbd_session.specs.declared.held.Held as program
 use Rattle.nbd_session.proofs.expecting.KnownLemmas.{expected_awaited}
@@ -10,12 +10,8 @@ use Rattle.nbd_session.proofs.steps.StepLemmas.{decided_held, held_of}
 abbrev IsOpen : Option Decision → List ℕ → Type 0
 IsOpen o bytes = (reading_by_decision o bytes ≡ More) ⊎ (o ≡ None) × (bytes ≡ [])
 
-open_first : (core : Core) (s : Side) → IsOpen (decision core.phase core core s []) []
-open_first core s = grind (arith, deciding, at_once, in_head)
-
 open_held : {core : Core} {s : Side} {rest : Rest} → Held by_tests core s rest → IsOpen (decision core.phase (old_of core rest) core s rest.bytes) rest.bytes
-open_held {core} {s} {rest} (none_held r e) =
-    subst (λ c. IsOpen (decision core.phase c core s rest.bytes) rest.bytes) (sym (old-empty core rest e)) (subst (λ bytes. IsOpen (decision core.phase core core s bytes) bytes) (sym e) (open_first core s))
+open_held {core} {s} {rest} (none_held r e) = grind (arith, old-empty, some_held, held_short, append-nil, deciding, at_once, in_head)
 open_held {core} {s} {rest} (some_held r now f k m l) =
     let held : Held by_tests core s rest = some_held r now f k m l in
     let short = (held_short held).short in
@@ -24,8 +20,7 @@ open_held {core} {s} {rest} (some_held r now f k m l) =
 
 -- bytes that are refused are none, of a side that may not send
 refused_first : (o : Option Decision) (bytes : List ℕ) (fault : WireFault) → IsOpen o bytes → reading_by_decision o bytes ≡ Bad fault → (awaited_length_by o bytes ≡ 1) × (length bytes ≡ 0)
-refused_first o bytes fault (inl more) e = absurd (let q : More ≡ Bad fault = sym more ∙ e in cc)
-refused_first o bytes fault (inr (none, empty)) e = (ap (λ p. awaited_length_by p bytes) none, ap length empty)
+refused_first o bytes fault q e = grind arith
 
 module _ (held : program.Held) (s : Side) (st : Stands held) where
   come_is : bytes_come (incoming_of held s) ≡ (get st.reader.rests s).bytes

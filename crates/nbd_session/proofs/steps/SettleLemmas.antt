@@ -1,5 +1,6 @@
 -- What was taken of a side is judged.
-use Rattle.nbd_session.proofs.Common.{◌≡◌, ℕ, List, [], length, refl, sym, ◌∙◌, ap, subst, Option, Result, Ok, Err, IfErr, IsErrAnd, append-nil, arith, same_Some, Side, Client, Server, Memory, Wire, WireFault, Held, Core, by_tests, reading_by_decision, Bad, IsFilled, Reader, More, Reading, Rest, get, old_of, put, holding_of, incoming_of, Expected, bytes_come, IsKnown, decided, get-put_other, get-put_same, old-filled, same_or_not, Holding, IsReadTo, held_pairs, rest_of, with_bytes, HoldsRun, IsSame, IsShut, IsTaken, Stands, knows_by, IsStopped, extended}
+use Rattle.nbd_session.proofs.Common.{◌≡◌, [], length, refl, sym, ◌∙◌, ap, subst, Option, Result, IfErr, IsErrAnd, append-nil, arith, same_Some, Side, Client, Server, Memory, Wire, WireFault, Held, by_tests, reading_by_decision, Bad, Reader, More, Reading, get, old_of, put, holding_of, incoming_of, Expected, bytes_come, IsKnown, decided, get-put_other, get-put_same, old-filled, same_or_not, Holding, IsReadTo, held_pairs, rest_of, with_bytes, HoldsRun, IsSame, IsShut, IsTaken, Stands, knows_by, extended}
+use Rattle.nbd_wire.specs.protocol.Places.{IsPlaceOf}
 use Rattle.nbd_session.proofs.pushed.OpenByteLemmas.{more_is_run_but}
 use Rattle.nbd_session.proofs.judge.RefusalLemmas.{stopped}
 use Rattle.nbd_session.proofs.steps.HoldingLemmas.{rest_is}
@@ -19,19 +20,13 @@ same_held held = same_holding held held refl refl
 abbrev pub IsRead : (held : Held) (s : Side) → IsTaken held s → Reading → Type 0
 IsRead held s t reading = reading_by_decision (decided t.reader s (bytes_come (incoming_of held s))) (bytes_come (incoming_of held s)) ≡ reading
 
--- with bytes after it a side's rest began where it began
-same_old : (core : Core) (rest : Rest) (more : List ℕ) → IsFilled more → old_of core (extended core rest more) ≡ old_of core rest
-same_old core rest more f = grind (arith, old-filled, extended)
-
 module _ (held : Held) (s : Side) (t : IsTaken held s) where
   abbrev after : Holding
   after = with_bytes t.before s t.more (length t.reader.core.entries)
 
   -- the reader's word on them
   pub says_so : (reading : Reading) → IsRead held s t reading → by_tests (old_of t.reader.core (get t.reader.rests s)) t.reader.core s (rest_of after s) ≡ reading
-  says_so reading e =
-      subst (λ (h : Holding). by_tests (old_of t.reader.core (get t.reader.rests s)) t.reader.core s (rest_of h s) ≡ reading) t.holding_is
-      (subst (λ bs. by_tests (old_of t.reader.core (get t.reader.rests s)) t.reader.core s bs ≡ reading) (sym (rest_is held s)) e)
+  says_so reading e = grind (arith, rest_is)
 
   abbrev longer : Reader
   longer = record t.reader { rests = put t.reader.rests s (extended t.reader.core (get t.reader.rests s) t.more) }
@@ -41,7 +36,7 @@ module _ (held : Held) (s : Side) (t : IsTaken held s) where
   known_longer e k is = grind (arith, same_Some)
 
   all_known : IsKnown (decided t.reader s) t.reader.core (incoming_of held s) → (u : Side) → IsKnown (decided longer u) t.reader.core (incoming_of held u)
-  all_known here u = grind (arith, same_or_not, get-put_same, extended, same_old, get-put_other)
+  all_known here u = grind (arith, same_or_not, get-put_same, extended, get-put_other, old-filled)
 
   -- more is awaited
   pub settled_more : IsRead held s t More → (e : Option Expected) → (incoming_of held s).expected ≡ e → knows_by (decided t.reader s) t.reader.core (incoming_of held s).head (incoming_of held s).payload e → Stands held
@@ -74,7 +69,7 @@ module _ (held : Held) (s : Side) (t : IsTaken held s) where
     taken_is = t.taken_is;
     cause = (
       refl,
-      subst (λ h. IsStopped h fault) (sym t.holding_is)
+      subst (λ h. IsPlaceOf h.profile (held_pairs h) h.messages fault) (sym t.holding_is)
           (stopped t.before t.reader t.read_to s t.more (length t.reader.core.entries) t.filled (pairs_taken t.before t.reader t.read_to s t.more t.filled t.are_bytes t.up_to) t.up_to fault
           (refused_taken t.before t.reader t.read_to s t.more t.filled t.are_bytes t.up_to fault (says_so (Bad fault) e))),
     );
@@ -85,5 +80,4 @@ module _ (held : Held) (s : Side) (t : IsTaken held s) where
 
 -- the fault of a call is handed on
 pub handed_on : {E : Type 0} (A : Type 0) (r : Result A E) (fault : E) (Q : E → Type 0) → IsErrAnd r (λ other. other ≡ fault) → Q fault → IfErr r Q
-handed_on A (Ok a) fault Q e q = tt
-handed_on A (Err other) fault Q e q = subst Q (sym e) q
+handed_on A r fault Q e q = grind arith

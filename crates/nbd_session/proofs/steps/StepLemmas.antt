@@ -1,5 +1,5 @@
 -- What a session holds after one more piece, and after one more message.
-use Rattle.nbd_session.proofs.Common.{◌≡◌, ℕ, ◌≤◌, List, [], ◌∷◌, ◌++◌, length, refl, sym, ◌∙◌, ap, subst, append_assoc, append-nil, Err, if◌then◌else◌, Side, Client, Server, Message, AreBytes, enc, Pair, ArePairs, side_pairs, bytes_of, mixture, side, same_side, Core, Phase, Greet, WireFault, awaited_length, decision_by_count, operation_counted, by_tests, decision, decision_with, Reader, Rest, Reading, More, Whole, Bad, get, put, reads, fresh_of, old_of, settle, on_ok, IsFilled, IsSoundAt, AreHeld, reads_held, old-empty, old-filled, Holding, IsReadTo, AreStretchesOf, stretches_with, held_pairs, rest_of, with_more, with_bytes, count_at_server, reads_up_to, judged_at_once, extended, reads-append, fresh_held, sound}
+use Rattle.nbd_session.proofs.Common.{arith, ◌≡◌, ℕ, ◌≤◌, List, [], ◌∷◌, ◌++◌, length, refl, sym, ◌∙◌, ap, subst, append_assoc, append-nil, Err, Side, Client, Server, Message, AreBytes, enc, Pair, ArePairs, side_pairs, bytes_of, side, Core, WireFault, awaited_length, decision_by_count, by_tests, decision, Reader, Rest, Reading, More, Whole, Bad, get, put, reads, fresh_of, old_of, settle, on_ok, IsFilled, IsSoundAt, AreHeld, reads_held, old-empty, old-filled, Holding, IsReadTo, AreStretchesOf, stretches_with, held_pairs, rest_of, with_more, with_bytes, count_at_server, reads_up_to, judged_at_once, extended, reads-append, fresh_held, sound}
 use Rattle.nbd_session.proofs.reports.CountLemmas.{held_counted, count_of}
 use Rattle.nbd_session.proofs.pushed.PushLemmas.{bytes_of-snoc, mixed-noted, stretches-noted}
 use Rattle.nbd_session.proofs.steps.TakeLemmas.{kept_more}
@@ -11,21 +11,14 @@ with_message h Client m = record h { messages = h.messages ++ m ∷ []; client =
 with_message h Server m = record h { messages = h.messages ++ m ∷ []; server = [] }
 
 pub profile_message : (h : Holding) (s : Side) (m : Message) → (with_message h s m).profile ≡ h.profile
-profile_message h Client m = refl
-profile_message h Server m = refl
+profile_message h s m = grind arith
 
 behind : (s u : Side) (more prefix bytes : List ℕ) → prefix ++ with_more s u more bytes ≡ with_more s u more (prefix ++ bytes)
-behind Client Client more prefix bytes = sym (append_assoc prefix bytes more)
-behind Client Server more prefix bytes = refl
-behind Server Client more prefix bytes = refl
-behind Server Server more prefix bytes = sym (append_assoc prefix bytes more)
+behind s u more prefix bytes = grind (arith, append_assoc)
 
 pub pairs-taken : (h : Holding) (s : Side) (more : List ℕ) (entries : ℕ) → AreStretchesOf h.stretches (bytes_of Client h.messages ++ h.client) (bytes_of Server h.messages ++ h.server) →
     held_pairs (with_bytes h s more entries) ≡ held_pairs h ++ side_pairs s more
-pairs-taken h s more entries are =
-    ap (λ l. mixture (stretches_with h.stretches s (length more)) l (bytes_of Server h.messages ++ with_more s Server more h.server)) (behind s Client more (bytes_of Client h.messages) h.client)
-    ∙ ap (λ l. mixture (stretches_with h.stretches s (length more)) (with_more s Client more (bytes_of Client h.messages ++ h.client)) l) (behind s Server more (bytes_of Server h.messages) h.server)
-    ∙ mixed-noted h.stretches (bytes_of Client h.messages ++ h.client) (bytes_of Server h.messages ++ h.server) s more are
+pairs-taken h s more entries are = grind (arith, behind, mixed-noted)
 
 pub stretches-taken : (h : Holding) (s : Side) (more : List ℕ) (entries : ℕ) → AreStretchesOf h.stretches (bytes_of Client h.messages ++ h.client) (bytes_of Server h.messages ++ h.server) →
     AreStretchesOf (stretches_with h.stretches s (length more)) (bytes_of Client h.messages ++ with_more s Client more h.client) (bytes_of Server h.messages ++ with_more s Server more h.server)
@@ -34,42 +27,20 @@ stretches-taken h s more entries are =
     (subst (λ l. AreStretchesOf (stretches_with h.stretches s (length more)) (with_more s Client more (bytes_of Client h.messages ++ h.client)) l) (sym (behind s Server more (bytes_of Server h.messages) h.server))
     (stretches-noted h.stretches (bytes_of Client h.messages ++ h.client) (bytes_of Server h.messages ++ h.server) s more are))
 
--- a side's bytes are the same when its rest becomes a message
-of_side-completed : (s : Side) (messages : List Message) (m : Message) (bytes : List ℕ) → bytes ≡ enc m → side m ≡ s → bytes_of s (messages ++ m ∷ []) ++ [] ≡ bytes_of s messages ++ bytes
-of_side-completed s messages m bytes e sd = append-nil (bytes_of s (messages ++ m ∷ [])) ∙ bytes_of-snoc s messages m ∙ ap (λ l. bytes_of s messages ++ l) (own s (side m) sd ∙ sym e)
-  where
-    own : (s u : Side) → u ≡ s → (if same_side s u then enc m else []) ≡ enc m
-    own Client Client q = refl
-    own Server Server q = refl
-    own Client Server q = absurd (cc)
-    own Server Client q = absurd (cc)
-
 of_other-completed : (s u : Side) (messages : List Message) (m : Message) (bytes : List ℕ) → side m ≡ u → (s ≡ u → ⊥) → bytes_of s (messages ++ m ∷ []) ++ bytes ≡ bytes_of s messages ++ bytes
-of_other-completed s u messages m bytes sd ne = ap (λ l. l ++ bytes) (bytes_of-snoc s messages m ∙ ap (λ l. bytes_of s messages ++ l) (none s (side m) (λ q. ne (q ∙ sd))) ∙ append-nil (bytes_of s messages))
-  where
-    none : (s v : Side) → (s ≡ v → ⊥) → (if same_side s v then enc m else []) ≡ []
-    none Client Client n = absurd (n refl)
-    none Server Server n = absurd (n refl)
-    none Client Server n = refl
-    none Server Client n = refl
+of_other-completed s u messages m bytes sd ne = grind (arith, bytes_of-snoc, append-nil)
 
 -- both sides' bytes are the same
 pub both-completed : (h : Holding) (s : Side) (m : Message) → rest_of h s ≡ enc m → side m ≡ s →
     (bytes_of Client (with_message h s m).messages ++ (with_message h s m).client ≡ bytes_of Client h.messages ++ h.client)
     × (bytes_of Server (with_message h s m).messages ++ (with_message h s m).server ≡ bytes_of Server h.messages ++ h.server)
-both-completed h Client m e sd = (of_side-completed Client h.messages m h.client e sd, of_other-completed Server Client h.messages m h.server sd (λ q. (cc)))
-both-completed h Server m e sd = (of_other-completed Client Server h.messages m h.client sd (λ q. (cc)), of_side-completed Server h.messages m h.server e sd)
+both-completed h s m e sd = grind (arith, of_other-completed, append-nil, bytes_of-snoc)
 
 stretches_message : (h : Holding) (s : Side) (m : Message) → (with_message h s m).stretches ≡ h.stretches
-stretches_message h Client m = refl
-stretches_message h Server m = refl
+stretches_message h s m = grind arith
 
 pub pairs-message : (h : Holding) (s : Side) (m : Message) → rest_of h s ≡ enc m → side m ≡ s → held_pairs (with_message h s m) ≡ held_pairs h
-pairs-message h s m e sd =
-    let both = both-completed h s m e sd in
-    ap (λ stretches. mixture stretches (bytes_of Client (with_message h s m).messages ++ (with_message h s m).client) (bytes_of Server (with_message h s m).messages ++ (with_message h s m).server)) (stretches_message h s m)
-    ∙ ap (λ l. mixture h.stretches l (bytes_of Server (with_message h s m).messages ++ (with_message h s m).server)) both.0
-    ∙ ap (λ l. mixture h.stretches (bytes_of Client h.messages ++ h.client) l) both.1
+pairs-message h s m e sd = grind (arith, both-completed, stretches_message)
 
 are_pairs-append : (ps qs : List Pair) → ArePairs ps → ArePairs qs → ArePairs (ps ++ qs)
 are_pairs-append [] qs a b = b
@@ -105,21 +76,13 @@ module _ (h : Holding) (reader : Reader) (r : IsReadTo h reader) (s : Side) (mor
 -- the count at the first byte of the server's rest
 pub count_at : (server : List ℕ) (rest : Rest) (core : Core) (counted : ℕ) → rest.bytes ≡ server → (IsFilled server → counted ≡ length rest.since.entries) →
     count_at_server Server server counted (length core.entries) ≡ count_of core rest
-count_at [] rest core counted e h = ap (λ c. length c.entries) (sym (old-empty core rest e))
-count_at (b ∷ bytes) rest core counted e h = h tt ∙ ap (λ c. length c.entries) (sym (old-filled core rest (subst IsFilled (sym e) tt)))
-
--- no decision of a client's bytes looks at the count
-client_alike : (phase : Phase) (a b : ℕ) (core : Core) (bytes : List ℕ) → decision_with phase (operation_counted a core) core Client bytes ≡ decision_with phase (operation_counted b core) core Client bytes
-client_alike Greet a b core bytes = refl
-client_alike phase a b core bytes = refl
+count_at server rest core counted e h = grind (arith, old-empty, old-filled)
 
 -- what is decided of a side's bytes, by the count that is held
 pub decided_held : (h : Holding) (reader : Reader) (s : Side) → IsReadTo h reader → (bytes : List ℕ) →
     decision reader.core.phase (old_of reader.core (get reader.rests s)) reader.core s bytes
     ≡ decision_by_count (count_at_server s h.server h.counted (length reader.core.entries)) reader.core s bytes
-decided_held h reader Client r bytes =
-    held_counted (held_of h reader r Client) bytes
-    ∙ client_alike reader.core.phase (count_of reader.core reader.rests.client) h.counted reader.core bytes
+decided_held h reader Client r bytes = grind (arith, held_counted, held_of, count_of, count_at)
 decided_held h reader Server r bytes =
     held_counted (held_of h reader r Server) bytes
     ∙ ap (λ n. decision_by_count n reader.core Server bytes) (sym (count_at h.server reader.rests.server reader.core h.counted (r.rests_are Server) r.count_is))
@@ -133,13 +96,11 @@ rest_taken h reader Server Server more entries r = ap (λ l. l ++ more) (r.rests
 
 count_taken : (h : Holding) (reader : Reader) (s : Side) (more : List ℕ) → IsReadTo h reader → IsFilled (with_more s Server more h.server) →
     count_at_server s h.server h.counted (length reader.core.entries) ≡ length (get (put reader.rests s (extended reader.core (get reader.rests s) more)) Server).since.entries
-count_taken h reader Client more r f = r.count_is f
-count_taken h reader Server more r f = count_at h.server reader.rests.server reader.core h.counted (r.rests_are Server) r.count_is
+count_taken h reader s more r f = grind (arith, count_at)
 
 -- the bytes of a side with more
 pub bytes_taken : (h : Holding) (reader : Reader) (s : Side) (more : List ℕ) (entries : ℕ) → IsReadTo h reader → (get reader.rests s).bytes ++ more ≡ rest_of (with_bytes h s more entries) s
-bytes_taken h reader Client more entries r = ap (λ l. l ++ more) (r.rests_are Client)
-bytes_taken h reader Server more entries r = ap (λ l. l ++ more) (r.rests_are Server)
+bytes_taken h reader s more entries r = grind arith
 
 module _ (h : Holding) (reader : Reader) (r : IsReadTo h reader) (s : Side) (more : List ℕ) (filled : IsFilled more) (bytes : AreBytes more)
     (up_to : length ((get reader.rests s).bytes ++ more) ≤ awaited_length (old_of reader.core (get reader.rests s)) reader.core s (get reader.rests s).bytes) where
@@ -181,13 +142,11 @@ rest_message h reader Server Client m more entries r = r.rests_are Client
 rest_message h reader Server Server m more entries r = refl
 
 messages_message : (h : Holding) (s : Side) (m : Message) → (with_message h s m).messages ≡ h.messages ++ m ∷ []
-messages_message h Client m = refl
-messages_message h Server m = refl
+messages_message h s m = grind arith
 
 count_message : (h : Holding) (reader : Reader) (s : Side) (m : Message) (more : List ℕ) (entries : ℕ) → IsReadTo h reader → IsFilled (with_message (with_bytes h s more entries) s m).server →
     (with_message (with_bytes h s more entries) s m).counted ≡ length (get (put reader.rests s (record (extended reader.core (get reader.rests s) more) { bytes = [] })) Server).since.entries
-count_message h reader Client m more entries r f = r.count_is f
-count_message h reader Server m more entries r f = absurd f
+count_message h reader s m more entries r f = grind arith
 
 -- what was read once a side's bytes have become this message
 abbrev pub reader_behind : Reader → Side → Message → Reader

@@ -1,10 +1,7 @@
 -- What a side's bytes state once they are as long as a head.
-use Rattle.std.specs.Prelude.{ℕ, List, Bool, true, false, ◌==◌, ◌&&◌, Option, Some, None}
-use Rattle.nbd_wire.specs.declared.magics.TheConstants.{GREETING_MAGIC, OPTION_MAGIC, ANSWER_MAGIC, REQUEST_MAGIC, SIMPLE_MAGIC, CHUNK_MAGIC, EXTENDED_REQUEST_MAGIC, EXTENDED_CHUNK_MAGIC}
-use Rattle.nbd_wire.specs.declared.heads.negotiation.ChoiceHead.{ChoiceHead}
-use Rattle.nbd_wire.specs.declared.heads.negotiation.AnswerHead.{AnswerHead}
+use Rattle.std.specs.Prelude.{ℕ, List, Bool, true, false, ◌==◌, Option, Some, None}
+use Rattle.nbd_wire.specs.declared.magics.TheConstants.{REQUEST_MAGIC, CHUNK_MAGIC, EXTENDED_REQUEST_MAGIC, EXTENDED_CHUNK_MAGIC}
 use Rattle.nbd_wire.specs.declared.heads.transmission.RequestHead.{RequestHead}
-use Rattle.nbd_wire.specs.declared.heads.transmission.SimpleHead.{SimpleHead}
 use Rattle.nbd_wire.specs.declared.heads.transmission.ChunkHead.{ChunkHead}
 use Rattle.nbd_wire.specs.protocol.Payloads.{number_at}
 
@@ -12,27 +9,6 @@ use Rattle.nbd_wire.specs.protocol.Payloads.{number_at}
 abbrev pub some_if : {A : Type 0} → Bool → A → Option A
 some_if true value = Some value
 some_if false value = None
-
--- a greeting's flags (proto.md, "Newstyle negotiation")
-abbrev pub greeting_flags_of : List ℕ → Option ℕ
-greeting_flags_of bytes = some_if ((number_at 0 8 bytes == GREETING_MAGIC) && (number_at 8 8 bytes == OPTION_MAGIC))
-    (number_at 16 2 bytes)
-
--- an option's head (proto.md, "Newstyle negotiation")
-abbrev pub choice_head_of : List ℕ → Option ChoiceHead
-choice_head_of bytes = some_if (number_at 0 8 bytes == OPTION_MAGIC)
-    (record { id = number_at 8 4 bytes; length = number_at 12 4 bytes })
-
--- the fields of an answer's head (proto.md, "Fixed newstyle negotiation")
-abbrev pub answer_fields_of : List ℕ → AnswerHead
-answer_fields_of bytes = record {
-  option = number_at 8 4 bytes;
-  kind = number_at 12 4 bytes;
-  length = number_at 16 4 bytes;
-}
-
-abbrev pub answer_head_of : List ℕ → Option AnswerHead
-answer_head_of bytes = some_if (number_at 0 8 bytes == ANSWER_MAGIC) (answer_fields_of bytes)
 
 -- the number that a request begins with, how many bytes its length takes, and how many its head (proto.md, "Request
 -- message", "Reserved Magic values")
@@ -63,11 +39,6 @@ abbrev pub request_head_of : (extended : Bool) → List ℕ → Option RequestHe
 request_head_of extended bytes =
     some_if (number_at 0 4 bytes == request_magic extended) (request_fields extended bytes)
 
--- a simple reply's head (proto.md, "Simple reply message")
-abbrev pub simple_head_of : List ℕ → Option SimpleHead
-simple_head_of bytes = some_if (number_at 0 4 bytes == SIMPLE_MAGIC)
-    (record { error = number_at 4 4 bytes; cookie = number_at 8 8 bytes })
-
 -- the fields of a chunk's head (proto.md, "Structured reply chunk message", "Reserved Magic values")
 abbrev pub chunk_fields : (extended : Bool) → List ℕ → ChunkHead
 chunk_fields false bytes = record {
@@ -93,6 +64,3 @@ chunk_magic true = EXTENDED_CHUNK_MAGIC
 abbrev pub chunk_head_length : (extended : Bool) → ℕ
 chunk_head_length false = 20
 chunk_head_length true = 32
-
-abbrev pub chunk_head_of : (extended : Bool) → List ℕ → Option ChunkHead
-chunk_head_of extended bytes = some_if (number_at 0 4 bytes == chunk_magic extended) (chunk_fields extended bytes)

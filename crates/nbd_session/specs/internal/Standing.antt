@@ -6,20 +6,14 @@ use Rattle.nbd_wire.specs.declared.message.Side.TheVariants.{Client, Server}
 use Rattle.nbd_wire.specs.declared.message.Message.{Message}
 use Rattle.nbd_wire.specs.protocol.Captures.{Pair, ArePairs}
 use Rattle.nbd_laws.specs.Bytes.{bytes_of}
-use Rattle.nbd_session.specs.Pushed.{Stretch, pushed_pairs}
+use Rattle.nbd_session.specs.Pushed.{Stretch, pushed_pairs, stretch_bytes}
 use Rattle.nbd_wire.specs.protocol.Sides.{same_side}
 use Rattle.nbd_wire.specs.protocol.Reading.{by_tests, Reader, get, reads, fresh_of, IsFilled}
 
--- the stretches' bytes of a side
-abbrev pub stretch_total : Side → List Stretch → ℕ
-stretch_total s [] = 0
-stretch_total s (stretch ∷ stretches) = (if same_side s stretch.from then stretch.length else 0)
-    + stretch_total s stretches
-
 -- the stretches are of exactly these bytes
 pub record AreStretchesOf (stretches : List Stretch) (client server : List ℕ) : Type 0 where
-  pub of_client : stretch_total Client stretches ≡ length client
-  pub of_server : stretch_total Server stretches ≡ length server
+  pub of_client : stretch_bytes Client stretches ≡ length client
+  pub of_server : stretch_bytes Server stretches ≡ length server
 
 -- what is held: the session's profile, the accepted messages, each side's bytes after them, how many requests had
 -- completed before the first of the server's, and the stretches of all

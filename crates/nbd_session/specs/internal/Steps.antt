@@ -9,6 +9,7 @@ use Rattle.nbd_session.specs.declared.fault.SessionFault.{SessionFault}
 use Rattle.nbd_session.specs.declared.fault.SessionFault.TheVariants.{Memory, Wire}
 use Rattle.nbd_session.specs.declared.held.Held.{Held}
 use Rattle.nbd_wire.specs.protocol.Decisions.{Decision}
+use Rattle.nbd_wire.specs.protocol.Places.{IsPlaceOf}
 use Rattle.nbd_wire.specs.protocol.Reading.{reading_by_decision, Bad, IsFilled, Reader, get}
 use Rattle.nbd_session.specs.internal.Holdings.{holding_of, incoming_of}
 use Rattle.nbd_session.specs.internal.Known.{IsCome, IsExpected, IsKnown, awaited, decided}
@@ -16,7 +17,6 @@ use Rattle.nbd_session.specs.internal.Expecting.{last_fault_by, payload_length_o
 use Rattle.nbd_session.specs.Sessions.{Adds, HasRunOf}
 use Rattle.nbd_state.specs.Shows.{AreKnown, Shows}
 use Rattle.nbd_session.specs.internal.Standing.{Holding, IsReadTo, held_pairs, with_bytes}
-use Rattle.nbd_session.specs.internal.Stopped.{IsStopped}
 
 -- a session under way
 pub record Stands (held : Held) : Type 0 where
@@ -31,9 +31,10 @@ pub record Stands (held : Held) : Type 0 where
 abbrev pub HoldsRun : Holding → Type 0
 HoldsRun h = HasRunOf h.profile (held_pairs h) h.messages h.client h.server
 
--- why it is closed: at a wire fault the reader refuses exactly what was taken, at its last byte
+-- why it is closed: at a wire fault the place is the last byte that was taken
 abbrev pub IsCause : Held → SessionFault → Type 0
-IsCause held (Wire at fault) = (at ≡ held.taken) × IsStopped (holding_of held) fault
+IsCause held (Wire at fault) = (at ≡ held.taken)
+    × IsPlaceOf held.state.profile (held_pairs (holding_of held)) held.messages.items fault
 IsCause held Memory = Unit {0}
 
 -- a closed session

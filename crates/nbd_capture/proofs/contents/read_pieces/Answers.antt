@@ -1,4 +1,4 @@
-use Rattle.nbd_capture.proofs.Common.{◌≡◌, ◌≤◌, arith, refl, subst, sym, ◌∙◌, IsContentsLine, Seen, up_to, held_from}
+use Rattle.nbd_capture.proofs.Common.{◌≡◌, arith, refl, subst, sym, ◌∙◌, Seen, up_to, held_from}
 use Rattle.nbd_export.specs.Extents.{byte_of, size_of}
 use Rattle.nbd_export.proofs.HeldLemmas.{length-held_from}
 use Rattle.nbd_capture.proofs.ContentsTextLemmas.{bad_line, line_seen, no_rest, shorter, short_text, some_rest, told_all, whole_text}
@@ -15,16 +15,7 @@ returns-in_default-2-clause-fault c = λ whole past.
     (rw c.in_default-2.is at c.in_ok-end.ensures.taken)
 
 pub loop-line-preserved : goal.loop-line-preserved
-loop-line-preserved c =
-    let less = shorter c.loop-line.rest.now c.in-Some.line.now c.in-Some.after.now c.in-Some.ensures.1 in
-    let form : (c.in-Some-2.end ≤ size_of c.loop-line.contents) × IsContentsLine (up_to c.loop-line.contents c.loop-line.at) c.in-Some.line.now (up_to c.take_line.new.contents c.in-Some-2.end) = rw c.in-Some-2.is at c.in_ok-end.ensures.taken in
-    let size = c.in_ok-end.ensures.size in
-    record {
-      size = size ∙ c.loop-line.invariant.size;
-      at = omega (arith, form.0, size);
-      count = omega (arith, less, c.loop-line.invariant.count);
-      seen = λ whole past. line_seen whole c.loop-line.rest.now c.in-Some.line.now c.in-Some.after.now c.loop-line.number _ _ (c.loop-line.invariant.seen whole past) c.in-Some.ensures.0 c.in-Some.ensures.1 form.1;
-    }
+loop-line-preserved c = grind (arith, shorter, line_seen)
 
 pub returns-then-not-is_empty-clause-fault : goal.returns-then-not-is_empty-clause-fault
 returns-then-not-is_empty-clause-fault c = λ whole past.

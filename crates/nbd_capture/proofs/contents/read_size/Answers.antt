@@ -12,22 +12,13 @@ returns-in-None-clause-fault c =
     (no_beginning c.in-Some.line.now (loud c.is_silent.result c.in-Some.line.now c.if-not-is_silent.true c.is_silent.ensures) c.in-None.ensures)
 
 pub returns-in-Some-size_on-clause-read : goal.returns-in-Some-size_on-clause-read
-returns-in-Some-size_on-clause-read c =
-    line_seen c.args.text.now c.loop-line.rest.now c.in-Some.line.now c.in-Some.after.now c.loop-line.number nothing _ c.loop-line.invariant.seen c.in-Some.ensures.0 c.in-Some.ensures.1 c.in-Some-size_on.ensures
+returns-in-Some-size_on-clause-read c = grind (arith, line_seen)
 
 pub returns-in-Some-size_on-clause-counted : goal.returns-in-Some-size_on-clause-counted
-returns-in-Some-size_on-clause-counted c =
-    let less = shorter c.loop-line.rest.now c.in-Some.line.now c.in-Some.after.now c.in-Some.ensures.1 in
-    omega (arith, less, c.loop-line.invariant.count)
+returns-in-Some-size_on-clause-counted c = grind (arith, shorter)
 
 pub loop-line-preserved : goal.loop-line-preserved
-loop-line-preserved c =
-    let less = shorter c.loop-line.rest.now c.in-Some.line.now c.in-Some.after.now c.in-Some.ensures.1 in
-    record {
-      seen = line_seen c.args.text.now c.loop-line.rest.now c.in-Some.line.now c.in-Some.after.now c.loop-line.number nothing nothing c.loop-line.invariant.seen c.in-Some.ensures.0 c.in-Some.ensures.1
-          (silent c.is_silent.result c.in-Some.line.now nothing c.if-not-is_silent.false c.is_silent.ensures);
-      count = omega (arith, less, c.loop-line.invariant.count);
-    }
+loop-line-preserved c = grind (arith, shorter, line_seen, silent)
 
 pub returns-clause-fault : goal.returns-clause-fault
 returns-clause-fault c = short_text c.args.text.now c.loop-line.rest.now c.loop-line.number nothing c.loop-line.invariant.seen c.in_default.ensures (λ bytes e is. cc is)

@@ -1,4 +1,4 @@
-use Rattle.nbd_capture.proofs.Common.{◌≡◌, ◌∙◌, ◌+◌, ◌≤◌, ◌<◌, List, ℕ, length, ap, subst, arith, told, known, AreDigits}
+use Rattle.nbd_capture.proofs.Common.{◌≡◌, ◌∙◌, ◌+◌, ◌≤◌, ◌<◌, length, subst, arith, told, known, AreDigits}
 use Rattle.nbd_capture.proofs.HeldLemmas.{laid_here, length-known, known_at}
 use Rattle.nbd_capture.proofs.FormLemmas.{same_bytes}
 use Rattle.nbd_export.specs.Extents.{byte_of, size_of}
@@ -6,17 +6,10 @@ use Rattle.nbd_export.specs.Ranges as ranges
 use Rattle.nbd_capture.proofs.contents_line.lay_bytes.Goals as goal
 
 pub returns-then-not-branch-clause-laid : goal.returns-then-not-branch-clause-laid
-returns-then-not-branch-clause-laid c =
-    let none : (bytes : List ℕ) → AreDigits c.args.value.now bytes → 0 < length bytes → ⊥ = rw c.if-not-branch.true at c.in_ok-spell.ensures in
-    λ x v fits. none x v.0 v.1
+returns-then-not-branch-clause-laid c = grind arith
 
 pub returns-then-len-size-clause-laid : goal.returns-then-len-size-clause-laid
-returns-then-len-size-clause-laid c =
-    let spelled : AreDigits c.args.value.now c.spell.new.buffer.items × (0 < length c.spell.new.buffer.items) = rw c.if-not-branch.false at c.in_ok-spell.ensures in
-    λ x v fits.
-    let same = ap length (same_bytes c.args.value.now c.args.value.now x c.spell.new.buffer.items (λ i. c.args.value.now) v.0 spelled.0) in
-    let len = length-known x in
-    omega (arith, same, len, fits, c.if-len-size.true, c.size.ensures, c.len-len.ensures, c.spell.new.buffer.ok.0)
+returns-then-len-size-clause-laid c = grind (arith, same_bytes, length-known)
 
 pub returns-clause-laid : goal.returns-clause-laid
 returns-clause-laid c =

@@ -1,14 +1,12 @@
-use Rattle.nbd_capture.proofs.Common.{◌∷◌, ◌++◌, ap, ◌∙◌, codes, known, space, unknown, up_to, word_text, zeroes}
+use Rattle.nbd_capture.proofs.Common.{arith, ◌∷◌, ◌++◌, ap, ◌∙◌, codes, known, space, unknown, word_text, zeroes}
 use Rattle.nbd_capture.proofs.ContentsLineLemmas.{known_kind, loud, no_piece, silent, taken_or_refused, unknown_kind, zeroes_kind}
 use Rattle.nbd_capture.proofs.contents_line.take_line.Goals as goal
 
 pub returns-then-is_silent-clause-taken : goal.returns-then-is_silent-clause-taken
-returns-then-is_silent-clause-taken c =
-    (c.requires, silent c.is_silent.result c.args.line.now (up_to c.args.contents.now c.args.at) c.if-is_silent.true c.is_silent.ensures)
+returns-then-is_silent-clause-taken c = grind (arith, silent)
 
 pub returns-in-None-clause-taken : goal.returns-in-None-clause-taken
-returns-in-None-clause-taken c =
-    no_piece c.args.contents.now c.args.at c.args.line.now (loud c.is_silent.result c.args.line.now c.if-is_silent.false c.is_silent.ensures) c.in-None.ensures
+returns-in-None-clause-taken c = grind (arith, no_piece, loud)
 
 pub returns-in-Some-Zero-default-clause-taken : goal.returns-in-Some-Zero-default-clause-taken
 returns-in-Some-Zero-default-clause-taken c =

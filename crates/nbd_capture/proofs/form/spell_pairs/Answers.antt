@@ -9,6 +9,4 @@ returns-then-branch c = λ before b.
     ((λ i. c.split_at.ensures.front i ++ c.split_at.ensures.back i) ∙ take-append-drop _ c.args.digits.now) (let n = c.split_at.ensures.back_len in omega (arith, n)) (c.copied-half.ensures ∙ c.first.ensures.value) spelled b
 
 pub returns-else-branch : goal.returns-else-branch
-returns-else-branch c = λ before b more said f.
-    let bad = rw c.if-branch.false at c.in_ok-append_spelled.ensures.spelled in
-    no_line c.args.side c.args.digits.now c.split_at.result.0.now c.split_at.result.1.now before c.args.bytes.now.items ((λ i. c.split_at.ensures.front i ++ c.split_at.ensures.back i) ∙ take-append-drop _ c.args.digits.now) (let n = c.split_at.ensures.front_len in omega (arith, n)) bad b more said f
+returns-else-branch c = grind (arith, no_line, take-append-drop)

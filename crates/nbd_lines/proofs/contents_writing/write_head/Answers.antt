@@ -1,11 +1,9 @@
-use Rattle.nbd_lines.proofs.Common.{◌∷◌, ◌++◌, [], err_from_is_err_and, on_err_weaker, decimal, space, AppendsPrefix}
+use Rattle.nbd_lines.proofs.Common.{arith, ◌∷◌, ◌++◌, [], err_from_is_err_and, on_err_weaker, decimal, space, AppendsPrefix}
 use Rattle.nbd_capture.proofs.WriterLemmas.{prefix_then, then_prefix}
 use Rattle.nbd_lines.proofs.contents_writing.write_head.Goals as goal
 
 pub returns-in_err-write_whole-clause-err : goal.returns-in_err-write_whole-clause-err
-returns-in_err-write_whole-clause-err g c =
-    let p = err_from_is_err_and c.from_residual.result c.from_residual.ensures.1 in
-    rw p.1 (prefix_then _ _ c.args.word.now ((decimal c.args.offset) ++ (space ∷ [])) c.in_err-write_whole.ensures.err)
+returns-in_err-write_whole-clause-err g c = grind (arith, err_from_is_err_and, prefix_then)
 
 pub returns-in_err-write_number-clause-err : goal.returns-in_err-write_number-clause-err
 returns-in_err-write_number-clause-err g c =

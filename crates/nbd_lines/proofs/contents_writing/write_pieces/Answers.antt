@@ -11,12 +11,7 @@ use denote.Enum.Bare.{same_false, same_true}
 use Rattle.nbd_lines.proofs.contents_writing.write_pieces.Goals as goal
 
 pub loop-at-init : goal.loop-at-init
-loop-at-init g c = record {
-  begun = omega arith;
-  within = omega arith;
-  bytes = λ x lo hi. absurd (omega arith);
-  wrote = nothing_yet (λ (bytes : List ℕ). bytes) plainly (g.W.Write.contents c.args.out.now) (piece_lines 0 (left c.args.contents.now 0));
-}
+loop-at-init g c = grind (arith, nothing_yet, plainly)
 
 pub returns-in_err-from-clause-err : goal.returns-in_err-from-clause-err
 returns-in_err-from-clause-err g c =

@@ -10,8 +10,7 @@ returns-in_err-number c =
     rw c.from_residual.ensures (none_ahead c.args.fields.now c.args.text.now c.loop-k.k c.loop-k.numbers c.loop-k.rest.now _ c.loop-k-test.true c.loop-k.invariant c.in_err-number.ensures)
 
 pub loop-k-preserved : goal.loop-k-preserved
-loop-k-preserved c =
-    one_past c.args.fields.now c.args.text.now c.loop-k.k c.loop-k.numbers c.loop-k.rest.now _ c.in_ok-number.number c.in_ok-number.after.now c.loop-k-test.true (omega arith) c.loop-k.invariant c.in_ok-number.ensures
+loop-k-preserved c = grind (arith, one_past)
 
 pub returns : goal.returns
 returns c = all_past c.args.fields.now c.args.text.now c.loop-k.k c.loop-k.numbers c.loop-k.rest.now (omega arith) c.loop-k.invariant

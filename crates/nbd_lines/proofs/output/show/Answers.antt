@@ -1,4 +1,4 @@
-use Rattle.nbd_lines.proofs.Common.{◌≡◌, ◌++◌, ◌∷◌, [], ap, ◌∙◌, Appends, err_from_is_err_and, line_feed, AppendsPrefix, shown_line}
+use Rattle.nbd_lines.proofs.Common.{arith, ◌≡◌, ◌++◌, ◌∷◌, [], ap, ◌∙◌, err_from_is_err_and, line_feed, AppendsPrefix, shown_line}
 use Rattle.nbd_lines.proofs.WrittenLineLemmas.{all_written, broken_line, none_written, one_written, stopped_before}
 use Rattle.nbd_lines.proofs.output.show.Goals as goal
 
@@ -9,14 +9,10 @@ pub returns-clause-ok : goal.returns-clause-ok
 returns-clause-ok g c = all_written shown_line (g.W.Write.contents c.args.out.now) (g.W.Write.contents c.loop-message.out) c.args.messages.now c.loop-message.message-index c.loop-message-test.false c.loop-message.invariant
 
 pub returns-in_err-append_line-clause-err : goal.returns-in_err-append_line-clause-err
-returns-in_err-append_line-clause-err g c =
-    let p = err_from_is_err_and c.from_residual.result c.from_residual.ensures.1 in
-    rw p.1 (stopped_before shown_line (g.W.Write.contents c.args.out.now) (g.W.Write.contents c.loop-message.out) c.args.messages.now c.loop-message.message-index c.loop-message.invariant)
+returns-in_err-append_line-clause-err g c = grind (arith, err_from_is_err_and, stopped_before)
 
 pub returns-in_err-extend_from_slice-clause-err : goal.returns-in_err-extend_from_slice-clause-err
-returns-in_err-extend_from_slice-clause-err g c =
-    let p = err_from_is_err_and c.from_residual-in_err-extend_from_slice.result c.from_residual-in_err-extend_from_slice.ensures.1 in
-    rw p.1 (stopped_before shown_line (g.W.Write.contents c.args.out.now) (g.W.Write.contents c.loop-message.out) c.args.messages.now c.loop-message.message-index c.loop-message.invariant)
+returns-in_err-extend_from_slice-clause-err g c = grind (arith, err_from_is_err_and, stopped_before)
 
 pub returns-in_err-write_whole-clause-err : goal.returns-in_err-write_whole-clause-err
 returns-in_err-write_whole-clause-err g c =
@@ -26,7 +22,4 @@ returns-in_err-write_whole-clause-err g c =
     rw p.1 (broken_line shown_line _ (g.W.Write.contents c.loop-message.out) _ c.args.messages.now c.loop-message.message-index c.message-item.result c.loop-message-test.true c.message-item.is c.loop-message.invariant prefix)
 
 pub loop-message-preserved : goal.loop-message-preserved
-loop-message-preserved g c =
-    let text : c.as_slice.result.now ≡ shown_line c.message-item.result = c.as_slice.ensures.value ∙ c.in_ok-extend_from_slice.ensures.items ∙ ap (λ l. l ++ line_feed ∷ []) (rw c.clear.ensures.items at c.in_ok-append_line.ensures.ok) in
-    let grown : Appends (g.W.Write.contents c.loop-message.out) (g.W.Write.contents c.write_whole.new.out) (shown_line c.message-item.result) = rw text at c.in_ok-write_whole.ensures.ok in
-    one_written shown_line _ (g.W.Write.contents c.loop-message.out) _ c.args.messages.now c.loop-message.message-index c.message-item.result c.loop-message-test.true c.message-item.is c.loop-message.invariant grown
+loop-message-preserved g c = grind (arith, one_written)

@@ -1,4 +1,4 @@
-use Rattle.nbd_session.proofs.Common.{◌∙◌, ap, sym, elsewhere_fault}
+use Rattle.nbd_session.proofs.Common.{arith, ◌∙◌, sym}
 use Rattle.nbd_session.proofs.judge.ChunkFaultLemmas.{elsewhere_last, fault_first}
 use Rattle.nbd_session.proofs.chunks.chunk_fault.Goals as goal
 
@@ -8,7 +8,4 @@ returns-in-Some c = λ core export e s contexts h u.
     sym (fault_first head.at core.profile export e head.flags head.kind head.cookie c.args.payload.now c.in-Some.fault (sym (c.payload_fault.ensures core export e s contexts h u) ∙ c.in-Some.is))
 
 pub returns-in-None : goal.returns-in-None
-returns-in-None c = λ core export e s contexts h u.
-    let head = c.args.head.now in
-    c.offset_fault.ensures ∙ ap (elsewhere_fault head.at) h.offset
-    ∙ sym (elsewhere_last head.at core.profile export e head.flags head.kind head.cookie c.args.payload.now (sym (c.payload_fault.ensures core export e s contexts h u) ∙ c.in-None.is))
+returns-in-None c = grind (arith, elsewhere_last)

@@ -1,10 +1,9 @@
-use Rattle.nbd_session.proofs.Common.{◌≡◌, ◌==◌, ◌&&◌, ℕ, List, [], ◌∷◌, refl, ◌∙◌, ap, rules, list_all, YieldsList-from_slice, all_from_yields_List, are_zeroes}
+use Rattle.nbd_session.proofs.Common.{arith, ◌≡◌, ◌==◌, ℕ, List, ◌∙◌, rules, list_all, YieldsList-from_slice, all_from_yields_List, are_zeroes}
 use Rattle.std.proofs.Common.{tests}
 use Rattle.nbd_session.proofs.ending.are_zeroes.Goals as goal
 
 are_zeroes-all : (bytes : List ℕ) → list_all (λ b. b == 0) bytes ≡ are_zeroes bytes
-are_zeroes-all [] = refl
-are_zeroes-all (b ∷ bytes) = ap (λ rest. (b == 0) && rest) (are_zeroes-all bytes)
+are_zeroes-all bytes = grind arith
 
 pub returns : goal.returns
 returns c =

@@ -1,4 +1,4 @@
-use Rattle.nbd_session.proofs.Common.{◌≡◌, sym, ◌∙◌, ap, slice_get, None, Some, rules, option_copied, simple_fault}
+use Rattle.nbd_session.proofs.Common.{arith, ◌≡◌, sym, ◌∙◌, ap, slice_get, Some, rules, option_copied, simple_fault}
 use Rattle.nbd_session.proofs.expecting.ReplyLemmas.{forbidden_of, simple_is}
 use Rattle.nbd_session.proofs.parsing.ShownOperationLemmas.{copied_at, not_both}
 use Rattle.nbd_session.proofs.replies.simple.Goals as goal
@@ -26,8 +26,4 @@ pub returns-in_default-clause-refused : goal.returns-in_default-clause-refused
 returns-in_default-clause-refused c = λ core export s p. ap (λ to. simple_fault core.structured to c.args.head.error) (c.in_default.ensures core export s p)
 
 pub returns-in_default-get-clause-refused : goal.returns-in_default-get-clause-refused
-returns-in_default-get-clause-refused c = λ core export s p.
-    let place = c.in-Some.place in
-    let none : slice_get c.args.state.now.exchanges.items place ≡ None =
-    ap (λ xs. slice_get xs place) (sym c.deref.ensures.value) ∙ sym (copied_at c.deref.result.now place c.get.result c.get.ensures.lookup) ∙ ap option_copied c.in_default-get.is in
-    absurd (not_both (slice_get c.args.state.now.exchanges.items place) _ none (c.in-Some.ensures core export s p).4)
+returns-in_default-get-clause-refused c = grind (arith, copied_at, not_both)

@@ -3,18 +3,13 @@ use Rattle.nbd_session.proofs.expecting.RequestLemmas.{bad_request, beyond_reque
 use Rattle.nbd_session.proofs.requests.request.Goals as goal
 
 pub returns-in_default-clause-refused : goal.returns-in_default-clause-refused
-returns-in_default-clause-refused c = λ now s.
-    no_request c.args.state.now.extended now (sym s.extended_is) c.args.head.now (sym c.in_default.is ∙ c.read_head.ensures)
+returns-in_default-clause-refused c = grind (arith, no_request)
 
 pub returns-then-is_beyond-clause-refused : goal.returns-then-is_beyond-clause-refused
-returns-then-is_beyond-clause-refused c = λ now s.
-    beyond_request c.args.state.now.extended now (sym s.extended_is) c.args.head.now c.in-Some.head (sym c.in-Some.is ∙ c.read_head.ensures)
-    (sym c.is_beyond.ensures ∙ c.if-is_beyond.true)
+returns-then-is_beyond-clause-refused c = grind (arith, beyond_request)
 
 pub returns-then-is_bad_disconnect-clause-refused : goal.returns-then-is_bad_disconnect-clause-refused
-returns-then-is_bad_disconnect-clause-refused c = λ now s.
-    bad_request c.args.state.now.extended now (sym s.extended_is) c.args.head.now c.in-Some.head (sym c.in-Some.is ∙ c.read_head.ensures)
-    (sym c.is_beyond.ensures ∙ c.if-is_beyond.false) (sym c.is_bad_disconnect.ensures ∙ c.if-is_bad_disconnect.true)
+returns-then-is_bad_disconnect-clause-refused c = grind (arith, bad_request)
 
 pub returns-clause-expected : goal.returns-clause-expected
 returns-clause-expected c = λ now payload s.

@@ -1,4 +1,4 @@
-use Rattle.nbd_session.proofs.Common.{◌≡◌, ◌∷◌, ap, arith, length, refl, sym, extent_of, extents_of}
+use Rattle.nbd_session.proofs.Common.{ap, arith, refl, sym, extent_of, extents_of}
 use Rattle.nbd_session.proofs.judge.ExtentLemmas.{Within, within_last, within_next, within_passed}
 use Rattle.nbd_session.proofs.statuses.last_begins_within.Goals as goal
 
@@ -11,8 +11,7 @@ returns-then-extent-left c =
     refl c.in-Some-first_extent.ensures c.if-extent-left.true c.loop-next.invariant)
 
 pub loop-next-smaller : goal.loop-next-smaller
-loop-next-smaller c =
-    let one : length (extents_of c.args.extended c.loop-next.rest.now) ≡ length (extent_of c.in-Some-first_extent.next ∷ extents_of c.args.extended c.in-Some-first_extent.later.now) = ap length c.in-Some-first_extent.ensures in omega (arith, one)
+loop-next-smaller c = grind arith
 
 pub loop-next-preserved : goal.loop-next-preserved
 loop-next-preserved c =
@@ -20,5 +19,4 @@ loop-next-preserved c =
     refl c.in-Some-first_extent.ensures (omega (arith, c.if-extent-left.false)) c.loop-next.invariant
 
 pub returns : goal.returns
-returns c =
-    sym (within_last c.args.size c.loop-next.left (extents_of c.args.extended c.args.descriptors.now) (extent_of c.loop-next.extent) _ (extents_of c.args.extended c.loop-next.rest.now) refl c.in_default-first_extent.ensures c.loop-next.invariant)
+returns c = grind (arith, within_last)

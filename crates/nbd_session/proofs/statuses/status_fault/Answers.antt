@@ -4,12 +4,10 @@ use Rattle.nbd_session.proofs.judge.ChunkFaultLemmas.{lacks, malformed_status, r
 use Rattle.nbd_session.proofs.statuses.status_fault.Goals as goal
 
 pub returns-then-not-has_contexts : goal.returns-then-not-has_contexts
-returns-then-not-has_contexts c = λ core export e at cookie s q shown u is.
-    sym (unknown_status c.args.extended at export e c.args.flags cookie c.args.payload.now (ap (λ cs. length cs == 0) q ∙ not-false _ (sym (c.has_contexts.ensures core s) ∙ c.if-not-has_contexts.true)))
+returns-then-not-has_contexts c = grind (arith, unknown_status, not-false)
 
 pub returns-in_default : goal.returns-in_default
-returns-in_default c = λ core export e at cookie s q shown u is.
-    sym (malformed_status c.args.extended at export e c.args.flags cookie c.args.payload.now (sym c.in_default.ensures))
+returns-in_default c = grind (arith, malformed_status)
 
 pub returns-then-not-fits_status : goal.returns-then-not-fits_status
 returns-then-not-fits_status c = λ core export e at cookie s q shown u is.

@@ -1,22 +1,15 @@
-use Rattle.nbd_state.proofs.Common.{◌≡◌, ◌+◌, ◌-◌, ◌∷◌, ◌++◌, ◌∙◌, ap, append-nil, append_assoc, arith, length, min, sym, extent_of, extents_of, zeroes_in, zero_part}
+use Rattle.nbd_state.proofs.Common.{◌≡◌, ◌+◌, ◌-◌, ◌++◌, ◌∙◌, ap, append-nil, append_assoc, arith, min, sym, extent_of, extents_of, zeroes_in, zero_part}
 use Rattle.nbd_state.proofs.ZeroLemmas.{next_zeroes}
 use Rattle.nbd_state.proofs.statuses.zeroes_in.Goals as goal
 
 pub loop-extent-init : goal.loop-extent-init
-loop-extent-init c = (
-  omega arith,
-  λ fits. (λ i. c.new-pieces.ensures.items i ++ zeroes_in (start i) c.args.length (extents_of c.args.extended c.args.descriptors.now)),
-)
-  where
-    start : c.args.offset + (c.args.length - c.args.length) ≡ c.args.offset
-    start = omega arith
+loop-extent-init c = grind arith
 
 pub overflow_sub-length : goal.overflow_sub-length
 overflow_sub-length c = c.loop-extent.invariant.0
 
 pub loop-extent-smaller : goal.loop-extent-smaller
-loop-extent-smaller c =
-    let one : length (extents_of c.args.extended c.loop-extent.rest.now) ≡ length (extent_of c.in-Some.extent ∷ extents_of c.args.extended c.in-Some.later.now) = ap length c.in-Some.ensures in omega (arith, one)
+loop-extent-smaller c = grind arith
 
 pub loop-extent-preserved : goal.loop-extent-preserved
 loop-extent-preserved c = (
@@ -39,7 +32,4 @@ loop-extent-preserved c = (
 )
 
 pub returns : goal.returns
-returns c = λ fits.
-    sym (append-nil c.loop-extent.pieces.items)
-    ∙ ap (λ es. c.loop-extent.pieces.items ++ zeroes_in (c.args.offset + (c.args.length - c.loop-extent.left)) c.loop-extent.left es) (sym c.in_default.ensures)
-    ∙ c.loop-extent.invariant.1 fits
+returns c = grind (arith, append-nil)

@@ -1,4 +1,4 @@
-use Rattle.nbd_capture.proofs.Common.{refl, subst, ◌∙◌, ap, Digits, IsOf}
+use Rattle.nbd_capture.proofs.Common.{arith, refl, subst, ◌∙◌, ap, Digits, IsOf}
 use Rattle.nbd_capture.proofs.SpellLemmas.{bad, letter_alone, odd_digits, sent, silent}
 use Rattle.nbd_capture.proofs.form.Form.sender.Goals as goal
 
@@ -6,8 +6,7 @@ pub returns-in-Empty-clause-said : goal.returns-in-Empty-clause-said
 returns-in-Empty-clause-said c = λ bytes line h. silent c.args.self bytes line c.in-Empty.is h
 
 pub returns-in-None-clause-said : goal.returns-in-None-clause-said
-returns-in-None-clause-said c = λ bytes line h.
-    sent c.in-Digits.side bytes line (subst (λ f. IsOf f bytes line) (c.in-Digits.is ∙ ap (Digits c.in-Digits.side) c.in-None.is) h)
+returns-in-None-clause-said c = grind (arith, sent)
 
 pub returns-in-Some-clause-fault : goal.returns-in-Some-clause-fault
 returns-in-Some-clause-fault c = λ bytes line h.

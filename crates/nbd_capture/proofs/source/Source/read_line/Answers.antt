@@ -1,4 +1,4 @@
-use Rattle.nbd_capture.proofs.Common.{err_from_is_err_and, kept}
+use Rattle.nbd_capture.proofs.Common.{arith, err_from_is_err_and}
 use Rattle.nbd_capture.proofs.PieceLemmas.{begins_fault, begins_last, begins_on, begins_whole}
 use Rattle.nbd_capture.proofs.source.Source.read_line.Goals as goal
 
@@ -12,6 +12,4 @@ pub returns-in-End : goal.returns-in-End
 returns-in-End g c = begins_last _ _ _ _ _ c.loop.invariant (rw c.in-End.is at c.in_ok-read_piece.ensures)
 
 pub returns-in_err-read_piece : goal.returns-in_err-read_piece
-returns-in_err-read_piece g c =
-    let p = err_from_is_err_and c.from_residual.result c.from_residual.ensures.1 in
-    rw (p.1, p.2) (begins_fault _ _ _ _ (kept c.read_piece.new.self.line c.read_piece.new.bytes.items) c.in_err-read_piece.field-0.0 c.loop.invariant c.in_err-read_piece.ensures)
+returns-in_err-read_piece g c = grind (arith, err_from_is_err_and, begins_fault)

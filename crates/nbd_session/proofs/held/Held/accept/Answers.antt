@@ -1,6 +1,7 @@
-use Rattle.nbd_session.proofs.Common.{rules, ◌≡◌, ◌∙◌, ◌++◌, ◌∷◌, [], ap, sym, refl, subst, Side, Answers, AreKnown, Shows, State, Whole, Held, IncomingView, message_of, holding_of, incoming_of, is_reply_to, noted, Stands}
+use Rattle.nbd_session.proofs.Common.{rules, nothing_come, ◌≡◌, ◌∙◌, ◌++◌, ◌∷◌, [], ap, sym, refl, subst, Side, Answers, AreKnown, Shows, State, Whole, Held, IncomingView, message_of, holding_of, incoming_of, is_reply_to, noted, Stands}
 use Rattle.nbd_session.proofs.steps.ConcludeLemmas.{answers_at, on_err, on_ok_both, whole_read}
-use Rattle.nbd_session.proofs.steps.EmptiedLemmas.{emptied_here, kept_other, mid_counted, mid_messages, mid_state, mid_stretches, mid_taken, new_holding, same_room, sides_same}
+use Rattle.nbd_session.proofs.steps.EmptiedLemmas.{emptied_here, kept_other, new_holding, same_incoming, same_room}
+use Rattle.nbd_session.proofs.steps.HoldingLemmas.{same_but}
 use Rattle.nbd_session.proofs.steps.AcceptLemmas.{accepted_shut, accepted_stands, may_take, same_but_message}
 use Rattle.nbd_session.proofs.steps.SettleLemmas.{IsRead, same_holding, shut_memory}
 use Rattle.nbd_session.proofs.held.Held.accept.Goals as goal
@@ -37,13 +38,13 @@ complete-completed-requires c =
     let roomy : Held = record held { messages = c.reserve.new.self } in
     let mid = c.take_payload.new.self in
     let m = c.message-message.result in
-    let sides : (u : Side) → incoming_of roomy u ≡ incoming_of held u = sides_same roomy held refl refl in
+    let sides : (u : Side) → incoming_of roomy u ≡ incoming_of held u = same_incoming held roomy refl refl in
     let is = c.in_ok-payload.ensures.empty in
     let t = c.requires.expecting.taken in
     let payload = c.in_ok-payload.ensures.payload ∙ ap (λ (v : IncomingView). v.payload) (sides s) in
     let is_m : m ≡ message_of c.args.expected (incoming_of held s).payload = c.message-message.ensures ∙ ap (message_of c.args.expected) payload in
     let whole : IsRead held s t (Whole m) = subst (λ n. IsRead held s t (Whole n)) (sym is_m) (whole_read held s c.args.expected c.requires) in
-    let state = mid_state held roomy mid mid s is sides refl refl in
+    let state = ap (λ (h : Held). h.state) (is ∙ same_but roomy s nothing_come) in
     record {
       may = may_take held s t m whole mid.state state;
       place = subst (λ (z : State). Answers z m c.place-place.result) (sym state)
@@ -60,17 +61,18 @@ returns c =
     let mid = c.take_payload.new.self in
     let m = c.message-message.result in
     let new : Held = record mid { state = c.complete-completed.new.self; messages = c.push.new.self } in
-    let sides : (u : Side) → incoming_of roomy u ≡ incoming_of held u = sides_same roomy held refl refl in
+    let sides : (u : Side) → incoming_of roomy u ≡ incoming_of held u = same_incoming held roomy refl refl in
     let is = c.in_ok-payload.ensures.empty in
     let t = c.requires.expecting.taken in
     let payload = c.in_ok-payload.ensures.payload ∙ ap (λ (v : IncomingView). v.payload) (sides s) in
     let is_m : m ≡ message_of c.args.expected (incoming_of held s).payload = c.message-message.ensures ∙ ap (message_of c.args.expected) payload in
     let whole : IsRead held s t (Whole m) = subst (λ n. IsRead held s t (Whole n)) (sym is_m) (whole_read held s c.args.expected c.requires) in
-    let messages = c.in_ok-push.ensures.items ∙ ap (λ l. l ++ m ∷ []) (ap (λ v. v.items) (mid_messages held roomy mid new s is sides refl refl) ∙ c.reserve.ensures.items) in
-    let holding = new_holding held roomy mid new s is sides refl refl m (c.complete-completed.ensures.profile ∙ ap (λ (z : State). z.profile) (mid_state held roomy mid new s is sides refl refl)) messages (mid_counted held roomy mid new s is sides refl refl) (mid_stretches held roomy mid new s is sides refl refl) in
-    let same = mid_taken held roomy mid new s is sides refl refl in
-    let state = mid_state held roomy mid new s is sides refl refl in
-    let counted = mid_counted held roomy mid new s is sides refl refl in
+    let still = is ∙ same_but roomy s nothing_come in
+    let state = ap (λ (h : Held). h.state) still in
+    let counted = ap (λ (h : Held). h.counted) still in
+    let same = ap (λ (h : Held). h.taken) still in
+    let messages = c.in_ok-push.ensures.items ∙ ap (λ l. l ++ m ∷ []) (ap (λ (h : Held). h.messages.items) still ∙ c.reserve.ensures.items) in
+    let holding = new_holding held roomy mid new s is sides refl refl m (c.complete-completed.ensures.profile ∙ ap (λ (z : State). z.profile) state) messages counted (ap (λ (h : Held). h.stretches) still) in
     record {
       stands =
           on_ok_both c.complete-completed.result _ _ (Stands new) c.complete-completed.ensures.shown c.complete-completed.ensures.known (λ shown known.

@@ -25,12 +25,7 @@ returns-in-Some-clause-awaited c = λ st.
     omega (arith, m, p, rest, len)
 
 pub returns-in-Ok-clause-awaited : goal.returns-in-Ok-clause-awaited
-returns-in-Ok-clause-awaited c = λ st.
-    let none : (incoming_of c.args.self.now c.args.side).expected ≡ None = ap (λ (v : IncomingView). v.expected) (sym c.incoming-incoming.ensures) ∙ sym c.expected.ensures ∙ c.in_default.is in
-    let is = c.head-head.ensures ∙ ap (λ (v : IncomingView). v.head) c.incoming-incoming.ensures in
-    let m = head_is_missing c.args.self.now c.args.side st none c.head-head.result.now c.in-Ok.length is c.in-Ok.ensures.known in
-    let rest = ap length (rest_is c.args.self.now c.args.side ∙ bare c.args.self.now c.args.side st none ∙ sym is) in
-    omega (arith, m, rest)
+returns-in-Ok-clause-awaited c = grind (arith, head_is_missing, rest_is, bare)
 
 pub returns-in-Ok-clause-room : goal.returns-in-Ok-clause-room
 returns-in-Ok-clause-room c = λ none.

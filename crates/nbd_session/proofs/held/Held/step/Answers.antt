@@ -1,21 +1,14 @@
-use Rattle.nbd_session.proofs.Common.{◌≤◌, ◌∙◌, ap, arith, length, drop, take, length-take-le, State, IsRefused, Memory}
+use Rattle.nbd_session.proofs.Common.{ap, arith, length, drop, take, length-take-le, State, IsRefused}
 use Rattle.nbd_session.proofs.judge.PieceLemmas.{awaits_some, prefix_added, is_taken, refused_memory, refused_settling, settled_added, total_fits}
 use Rattle.nbd_session.proofs.steps.SettleLemmas.{handed_on}
 use Rattle.nbd_session.proofs.steps.TakenLemmas.{taken_count, taken_here, taken_holding, taken_other, taken_state}
 use Rattle.nbd_session.proofs.held.Held.step.Goals as goal
 
 pub take-requires-clause-stretches : goal.take-requires-clause-stretches
-take-requires-clause-stretches c =
-    let fits = total_fits c.args.self.now c.args.side c.requires.stands in
-    let count : c.min-count.result ≤ length c.args.left.now = omega arith in
-    let len = length-take-le c.min-count.result c.args.left.now count in
-    let all = c.requires.fits in
-    omega (arith, fits, count, len, all)
+take-requires-clause-stretches c = grind (arith, total_fits, length-take-le)
 
 pub returns-in_err-take-clause-refused : goal.returns-in_err-take-clause-refused
-returns-in_err-take-clause-refused c =
-    handed_on _ c.from_residual.result Memory (IsRefused c.args.self.now c.take.new.self c.args.side c.args.left.now) c.from_residual.ensures.1
-    (refused_memory c.args.self.now c.take.new.self c.args.side c.args.left.now c.requires.stands c.in_err-take.ensures.unchanged.0 c.in_err-take.ensures.unchanged.1)
+returns-in_err-take-clause-refused c = grind (arith, handed_on, refused_memory)
 
 pub settle-requires : goal.settle-requires
 settle-requires c =
@@ -67,6 +60,4 @@ returns-clause-adds c =
     c.in_ok-settle.ensures.same
 
 pub returns-clause-profile : goal.returns-clause-profile
-returns-clause-profile c =
-    c.in_ok-settle.ensures.same.profile_is
-    ∙ ap (λ (z : State). z.profile) (taken_state c.args.self.now c.take.new.self c.args.side (take c.min-count.result c.args.left.now) c.requires.stands c.in_ok-take.ensures.incoming)
+returns-clause-profile c = grind (arith, taken_state)

@@ -1,11 +1,10 @@
-use Rattle.nbd_session.proofs.Common.{◌∙◌, ap, sym, IncomingView, IsHeadRefused}
+use Rattle.nbd_session.proofs.Common.{arith, ◌∙◌, ap, sym, IncomingView, IsHeadRefused}
 use Rattle.nbd_session.proofs.steps.ConcludeLemmas.{head_refused, head_whole, knows_again, knows_expected, knows_short, length_refused}
 use Rattle.nbd_session.proofs.steps.SettleLemmas.{handed_on}
 use Rattle.nbd_session.proofs.held.Held.told.Goals as goal
 
 pub returns-in-Some-clause-known : goal.returns-in-Some-clause-known
-returns-in-Some-clause-known c =
-    knows_again c.args.self.now c.args.side c.in-Some.expected (ap (λ (v : IncomingView). v.expected) (sym c.incoming-incoming.ensures) ∙ sym c.expected.ensures ∙ c.in-Some.is)
+returns-in-Some-clause-known c = grind (arith, knows_again)
 
 pub returns-in_err-head_length-clause-refused : goal.returns-in_err-head_length-clause-refused
 returns-in_err-head_length-clause-refused c =
@@ -17,8 +16,7 @@ returns-then-branch-clause-known c =
     knows_short c.args.self.now c.args.side c.head-head.result.now (c.head-head.ensures ∙ ap (λ (v : IncomingView). v.head) c.incoming-incoming.ensures) (ap (λ (v : IncomingView). v.expected) (sym c.incoming-incoming.ensures) ∙ sym c.expected.ensures ∙ c.in_default.is) c.in_ok-head_length.field-0 c.in_ok-head_length.ensures.known c.if-branch.true
 
 pub decide-requires : goal.decide-requires
-decide-requires c =
-    head_whole c.args.self.now c.args.side c.head-head.result.now (c.head-head.ensures ∙ ap (λ (v : IncomingView). v.head) c.incoming-incoming.ensures) (ap (λ (v : IncomingView). v.expected) (sym c.incoming-incoming.ensures) ∙ sym c.expected.ensures ∙ c.in_default.is) c.in_ok-head_length.field-0 c.in_ok-head_length.ensures.known c.requires c.if-branch.false
+decide-requires c = grind (arith, head_whole)
 
 pub returns-in_err-decide-clause-refused : goal.returns-in_err-decide-clause-refused
 returns-in_err-decide-clause-refused c =
@@ -26,8 +24,7 @@ returns-in_err-decide-clause-refused c =
     (head_refused c.args.self.now c.args.side c.head-head.result.now (c.head-head.ensures ∙ ap (λ (v : IncomingView). v.head) c.incoming-incoming.ensures) (ap (λ (v : IncomingView). v.expected) (sym c.incoming-incoming.ensures) ∙ sym c.expected.ensures ∙ c.in_default.is) c.in_err-decide.field-0.0 c.in_err-decide.ensures.refused)
 
 pub returns-clause-known : goal.returns-clause-known
-returns-clause-known c =
-    knows_expected c.args.self.now c.args.side c.head-head.result.now (c.head-head.ensures ∙ ap (λ (v : IncomingView). v.head) c.incoming-incoming.ensures) (ap (λ (v : IncomingView). v.expected) (sym c.incoming-incoming.ensures) ∙ sym c.expected.ensures ∙ c.in_default.is) c.in_ok-decide.field-0 c.in_ok-decide.ensures.expected c.in_ok-decide.ensures.placed
+returns-clause-known c = grind (arith, knows_expected)
 
 pub returns-then-branch-clause-none : goal.returns-then-branch-clause-none
 returns-then-branch-clause-none c = λ e. ap (λ (v : IncomingView). v.expected) (sym c.incoming-incoming.ensures) ∙ sym c.expected.ensures ∙ c.in_default.is

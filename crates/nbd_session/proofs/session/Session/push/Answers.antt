@@ -1,6 +1,6 @@
 use Rattle.nbd_session.proofs.Common.{rules}
 use Rattle.nbd_session.proofs.judge.BeginningLemmas.{adds_nothing}
-use Rattle.nbd_session.proofs.judge.RefusalLemmas.{refuses, refuses_again, stands_exactly, stands_placeless, stands_under_way}
+use Rattle.nbd_session.proofs.judge.RefusalLemmas.{refuses, refuses_again, stands_accepted}
 use Rattle.nbd_session.proofs.session.Session.push.Goals as goal
 
 -- src/session.rt:73:13
@@ -14,13 +14,13 @@ pub returns-in-Err-clause-wire : goal.returns-in-Err-clause-wire
 returns-in-Err-clause-wire c = refuses c.push.new.self c.in-Err.fault c.in-Err.ensures.refused.shut
 
 pub returns-clause-complete : goal.returns-clause-complete
-returns-clause-complete c = stands_exactly c.push.new.self c.self.inside.closed c.in_default-push.ensures.stands
+returns-clause-complete c = (stands_accepted c.push.new.self c.self.inside.closed c.in_default-push.ensures.stands).all
 
 pub returns-clause-placeless : goal.returns-clause-placeless
-returns-clause-placeless c = stands_placeless c.push.new.self c.self.inside.closed c.in_default-push.ensures.stands
+returns-clause-placeless c = (stands_accepted c.push.new.self c.self.inside.closed c.in_default-push.ensures.stands).placeless
 
 pub returns-clause-under_way : goal.returns-clause-under_way
-returns-clause-under_way c = stands_under_way c.push.new.self c.self.inside.closed c.in_default-push.ensures.stands
+returns-clause-under_way c = (stands_accepted c.push.new.self c.self.inside.closed c.in_default-push.ensures.stands).under_way
 
 pub invariant_of-self : goal.invariant_of-self
 invariant_of-self c = c.in-Err.ensures.refused.shut

@@ -3,10 +3,7 @@ use Rattle.nbd_state.proofs.FilterLemmas.{and_all, and_twice, neither, now_among
 use Rattle.nbd_state.proofs.selection.Selection.take_ids.Goals as goal
 
 pub loop-id-init : goal.loop-id-init
-loop-id-init c = λ selection s empty. (
-  once_same _ (has_id selection.contexts) (ids_of c.args.ids.now) (λ i. ap (λ b. has_id selection.contexts i && not b) (empty i) ∙ and_all (has_id selection.contexts i)),
-  λ q. ap (λ b. b || (has_id selection.contexts q && is_among (ids_of c.args.ids.now) q)) (empty q),
-)
+loop-id-init c = grind (arith, once_same, and_all)
 
 pub loop-id-smaller : goal.loop-id-smaller
 loop-id-smaller c = let one : length (ids_of c.loop-id.rest.now) ≡ length (c.in-Some.id ∷ ids_of c.in-Some.later.now) = ap length c.in-Some.ensures in omega (arith, one)

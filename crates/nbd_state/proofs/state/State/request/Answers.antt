@@ -1,4 +1,4 @@
-use Rattle.nbd_state.proofs.Common.{◌≡◌, [], ◌==◌, refl, sym, subst, false, if◌then◌else◌, length, ne_eqb, not, ◌∙◌, ap, core_with_request, sizes_for, sizes_kept, has_contexts, in_force, Asks, filter_of_head, carried, operation_of_head, IsShown, exporting, Shows}
+use Rattle.nbd_state.proofs.Common.{arith, ◌≡◌, [], ◌==◌, refl, sym, subst, false, if◌then◌else◌, length, ne_eqb, not, ◌∙◌, ap, core_with_request, sizes_for, sizes_kept, has_contexts, in_force, Asks, filter_of_head, carried, operation_of_head, IsShown, exporting, Shows}
 use Rattle.nbd_wire.specs.declared.commands.TheConstants as commands
 use Rattle.nbd_state.proofs.CompletionLemmas.{added_unanswered, exporting_is, on_all, requested_shows}
 use Rattle.nbd_state.proofs.state.State.request.Goals as goal
@@ -21,6 +21,4 @@ returns-clause-shown c = on_all c.add.result (λ items places kept core export s
     c.add.ensures.items c.add.ensures.places c.add.ensures.kept
 
 pub returns-clause-adds : goal.returns-clause-adds
-returns-clause-adds c = on_all c.add.result (λ items places kept.
-    added_unanswered c.in_ok-exchange-in-Transmission.exchange c.args.self.now.exchanges.items c.add.new.self.exchanges.items c.in_ok-exchange-in-Transmission.ensures.unanswered items)
-    c.add.ensures.items c.add.ensures.places c.add.ensures.kept
+returns-clause-adds c = grind (arith, on_all, added_unanswered)
