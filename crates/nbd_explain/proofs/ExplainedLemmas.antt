@@ -1,6 +1,13 @@
 -- The verdict that is explained, what faults say, and the lines of an order of arrival.
-use Rattle.nbd_explain.proofs.Common.{◌≡◌, ℕ, List, true, false, sym, subst, Option, Result, Ok, Err, IfOk, IfErr, IfSome, OnOk, length, Appends, Keeps, Entry, WireFault, Profile, Start, Report, IsOrderText, SessionFault, Wire, EndsIn, IsReported, SessionView, fault_at_end, fault_of, no_run_of, IsFaultOf, HasReport, IsOverText, Beginning, IsBeginningOf, room_in, flat_of, verdict_on, checked_over, fault_over, report_over, Arrives, number_lines, Answer, Explains, IsFinishOf, IsToldOn, OnWritten}
+use Rattle.nbd_explain.proofs.Common.{◌≡◌, ℕ, List, true, false, sym, subst, Option, Some, None, Result, Ok, Err, IfOk, IfErr, IfSome, OnOk, length, Appends, Keeps, Entry, WireFault, Profile, Start, Report, IsOrderText, SessionFault, Wire, EndsIn, IsReported, SessionView, fault_at_end, fault_of, no_run_of, IsFaultOf, HasReport, IsOverText, Beginning, IsBeginningOf, room_in, flat_of, verdict_on, checked_over, fault_over, report_over, Arrives, number_lines, Answer, Explains, IsFinishOf, IsToldOn, OnWritten}
+use Rattle.std.specs.declared.alloc.Global.{Global}
+use Rattle.std.specs.declared.vec.Vec.{Vec}
 use Rattle.nbd_explain.specs.Arrival.HasArrival.{accepted, refused}
+use Rattle.nbd_explain.specs.Contents.{HasEntries}
+use Rattle.nbd_explain.specs.Explained.{IsExplained}
+use Rattle.nbd_explain.specs.internal.Leaving.{entries_of}
+use Rattle.nbd_explain.specs.internal.Lines.{IsToldGiven}
+use Rattle.nbd_explain.proofs.OrderlessLemmas.{searched}
 
 -- what holds of a value holds of another claim that follows
 pub map_ok : {A E : Type 0} {P Q : A → Type 0} (o : Result A E) → ((a : A) → P a → Q a) → IfOk o P → IfOk o Q
@@ -27,6 +34,16 @@ explained {profile} known order entries start finished finish beginning begun an
   answer = told.answer;
   begins = (told.begins.0, subst (Appends old new) told.begins.1 appended);
 }
+
+-- with an order or without one
+pub told_given : {O : Type 0} {profile : Profile} (known : Option (List ℕ)) (of_order : O → Option (List ℕ)) (order : Option O) (entries : Option (Vec Entry Global)) (start : Option Start) (finished : Result Report SessionFault)
+    (finish : IsFinishOf profile known finished) (beginning : Beginning) (begun : IsBeginningOf start (room_in finished) beginning) (answered : Answer) (text : List ℕ) →
+    HasEntries of_order order (entries_of entries) → IsToldGiven profile finished (entries_of entries) beginning answered text → OnWritten text (IsExplained profile of_order known order start answered)
+told_given known of_order (Some order) (Some entries) start finished finish beginning begun answered text has told =
+    explained known (of_order order) entries.items start finished finish beginning begun answered text has told
+told_given known of_order None None start finished finish beginning begun answered text has told = searched known start finished finish beginning begun answered text told
+told_given known of_order (Some order) None start finished finish beginning begun answered text has told = absurd has
+told_given known of_order None (Some entries) start finished finish beginning begun answered text has told = absurd has
 
 -- the lines of an accepted session's requests
 pub arrives : {profile : Profile} (known : Option (List ℕ)) (r : SessionView) (told : Report) (finished : Result Report SessionFault) (old new : Option (List ℕ)) → IsOverText profile known r → finished ≡ Ok told →

@@ -109,8 +109,8 @@ fn left_behind<O: Read + Drop, I: Measured + Drop>(
     left_of(alloc, profile, finished, &entries, start)
 }
 
-// The entries of an order, if there is one.
-fn read_entries<O: Read + Drop>(
+/// The entries of an order, if there is one.
+pub fn read_entries<O: Read + Drop>(
     alloc: Global,
     order: Option<O>,
 ) -> Result<Option<Vec<Entry>>, RunFault>

@@ -1,28 +1,26 @@
 //! The command `explain`, over any readers and writer.
 
-ghost use Rattle.std.specs.Prelude.{◌≡◌, ◌⊎◌, ℕ, List, Option, IfErr, IfOk, IsOk, OnOk};
-ghost use Rattle.std.specs.Io.KnownBytes.{Appends};
+ghost use Rattle.std.specs.Prelude.{ℕ, List, Option, IfErr, IfOk, IsOk, OnOk};
 ghost use Rattle.nbd_wire.specs.declared.profile.Profile.{Profile};
 ghost use Rattle.nbd_wire.specs.declared.profile.Profile.TheVariants.{Base};
-ghost use Rattle.nbd_tool.specs.Beginnings.{IsBeginningOf, room_in};
-ghost use Rattle.nbd_files.specs.declared.fault.RunFault.TheVariants.{ImageRead, Memory, Write};
-ghost use Rattle.nbd_tool.specs.declared.beginning.Beginning.{Beginning};
+ghost use Rattle.nbd_files.specs.declared.fault.RunFault.TheVariants.{Write};
 ghost use Rattle.nbd_explain.specs.Ordering.{LeavesOrdered};
-ghost use Rattle.nbd_tool.specs.Runs.{IsCapture, IsCaptureCause, IsCause, IsOrder};
-ghost use Rattle.nbd_files.specs.Starts.{IsStartCause, IsStartWellFormed, IsWithinLimit, OfStart};
-ghost use Rattle.nbd_explain.specs.Explained.{Explains, IsExplainCause, IsExplained, IsOrderWithinLimit};
-ghost use Rattle.nbd_explain.specs.internal.Lines.{IsFinishOf, IsToldOn, OnWritten};
+ghost use Rattle.nbd_tool.specs.Runs.{IsCapture, IsCaptureCause};
+ghost use Rattle.nbd_files.specs.Starts.{IsStartWellFormed, IsWithinLimit, OfStart};
+ghost use Rattle.nbd_explain.specs.Explained.{IsExplainCause, IsExplained, IsOrderWithinLimit};
+ghost use Rattle.nbd_explain.specs.internal.Leaving.{entries_of};
+ghost use Rattle.nbd_explain.specs.internal.Lines.{IsFinishOf, IsToldGiven, IsToldOn, OnWritten};
 
 use crate::answer::Answer;
+use crate::contents::read_entries;
 use crate::reading::{Recorder, finished_over};
-use crate::searching::told_searching;
-use crate::writing::{copy_of, kept_of, told_verdict};
-use nbd_capture::write_whole;
+use crate::searching::told_by_search;
+use crate::writing::{copy_of, kept_of, told_verdict, write_told};
 use nbd_files::{Measured, RunFault, StartFrom};
 use nbd_search::{Limits, Progress};
 use nbd_session::{SessionFault, Transcript};
 use nbd_story::Story;
-use nbd_tool::{Beginning, conclude_from, read_order, read_start, room_of};
+use nbd_tool::{Beginning, conclude_from, read_start, room_of};
 use nbd_wire::{Entry, Profile};
 use std::alloc::{AllocError, Global};
 use std::io::{BufRead, Read, Write};
@@ -97,17 +95,6 @@ pub fn run_explain_of<C: BufRead + Drop, O: Read + Drop, I: Measured + Drop, W: 
         alloc, profile, is_marked, capture, order, start, limits, progress,
     )?;
     write_told(told, out)
-}
-
-// Writes the text, and gives the answer.
-fn write_told<W: Write>(told: (String, Answer), out: &mut W) -> Result<Answer, RunFault>
-    ensures written { IfOk result (λ answer. (answer ≡ told.1)
-        × Appends (W.contents out.old) (W.contents out.new) told.0.bytes.items) }
-    ensures fault { IfErr result (λ fault. fault ≡ Write) }
-{
-    let (text, answer) = told;
-    write_whole(out, text.as_bytes())?;
-    Ok(answer)
 }
 
 // What is written of a capture, and the answer.
@@ -192,55 +179,35 @@ fn told_of<O: Read + Drop, I: Measured + Drop>(
     ensures cause { IfErr result (λ fault. (known : Option (List ℕ)) → IsCapture known →
         IsExplainCause O.remaining I.remaining known order start fault) }
 {
-    match order {
-        Some(order) => told_with(alloc, profile, finished, story, order, start),
-        None => told_searching(alloc, profile, finished, story, start, limits, progress),
+    let entries = read_entries(alloc, order)?;
+    let start = read_start(alloc, start, room_of(&finished))?;
+    let told = told_from(
+        alloc, profile, finished, story, &entries, start, limits, progress,
+    )?;
+    Ok(told)
+}
+
+// The same from what was read of an order and of the start.
+fn told_from(
+    alloc: Global,
+    profile: Profile,
+    finished: Result<Transcript, SessionFault>,
+    story: &Story,
+    entries: &Option<Vec<Entry>>,
+    start: Beginning,
+    limits: Limits,
+    progress: &mut Progress,
+) -> Result<(String, Answer), AllocError>
+    ensures { IfOk result (λ told. IsToldGiven profile finished (entries_of entries.now) start told.1 told.0.bytes.items) }
+{
+    match entries {
+        Some(entries) => told_on(alloc, profile, finished, story, entries, start),
+        None => told_by_search(alloc, profile, finished, story, start, limits, progress),
     }
 }
 
-// With an order: the verdict.
-fn told_with<O: Read + Drop, I: Measured + Drop>(
-    alloc: Global,
-    profile: Profile,
-    finished: Result<Transcript, SessionFault>,
-    story: &Story,
-    mut order: O,
-    start: StartFrom<I>,
-) -> Result<(String, Answer), RunFault>
-    ensures told { IfOk result (λ told. (known : Option (List ℕ)) → IsFinishOf profile known finished →
-        OfStart I.remaining start (λ initial. OnWritten told.0.bytes.items
-        (Explains profile known (O.remaining order) initial told.1))) }
-    ensures limited { OnOk result (IsWithinLimit (O.remaining order)) }
-    ensures start_limited { OnOk result (IsStartWellFormed I.remaining start) }
-    ensures read { OnOk result (IsOrder (O.remaining order)) }
-    ensures cause { IfErr result (λ fault. (known : Option (List ℕ)) → IsCapture known →
-        IsCause I.remaining known (O.remaining order) start fault) }
-{
-    let order = read_order(alloc, &mut order)?;
-    told_on(alloc, profile, finished, story, &order, start)
-}
-
 // The verdict on the entries of an order.
-fn told_on<I: Measured + Drop>(
-    alloc: Global,
-    profile: Profile,
-    finished: Result<Transcript, SessionFault>,
-    story: &Story,
-    entries: &[Entry],
-    start: StartFrom<I>,
-) -> Result<(String, Answer), RunFault>
-    ensures told { IfOk result (λ told. (beginning : Beginning)
-        × OfStart I.remaining start (λ initial. IsBeginningOf initial (room_in finished) beginning)
-        × IsToldOn profile finished entries.now beginning told.1 told.0.bytes.items) }
-    ensures start_limited { OnOk result (IsStartWellFormed I.remaining start) }
-    ensures cause { IfErr result (IsStartCause I.remaining start) }
-{
-    let start = read_start(alloc, start, room_of(&finished))?;
-    Ok(told_from(alloc, profile, finished, story, entries, start)?)
-}
-
-// The verdict on them from what was read of the start.
-fn told_from(
+fn told_on(
     alloc: Global,
     profile: Profile,
     finished: Result<Transcript, SessionFault>,

@@ -1,7 +1,6 @@
 //! The command `order`, over any readers and writer.
 
 ghost use Rattle.std.specs.Prelude.{◌≡◌, ◌⊎◌, ◌++◌, ◌∷◌, List, [], Err, IfErr, IfOk, Ok, OnOk};
-ghost use Rattle.std.specs.Io.KnownBytes.{Appends};
 ghost use Rattle.nbd_wire.specs.declared.profile.Profile.{Profile};
 ghost use Rattle.nbd_wire.specs.declared.profile.Profile.TheVariants.{Base};
 ghost use Rattle.nbd_wire.specs.protocol.Explains as definitions;
@@ -18,10 +17,9 @@ ghost use Rattle.nbd_tool.specs.Beginnings.{IsReadAs};
 ghost use Rattle.nbd_tool.specs.declared.beginning.Beginning.{Beginning};
 ghost use Rattle.nbd_explain.specs.Ordering.{IsOrderingCause, LeavesOrdered, Orders, entry_lines, found_text, gave_up_line, ordered_of, reason_words, spaced_numbers, status_of, unexplained_line};
 ghost use Rattle.nbd_files.specs.Starts.{IsInitial, IsStartCause, IsStartWellFormed, IsWithinLimit, OfStart};
-ghost use Rattle.nbd_files.specs.declared.fault.RunFault.TheVariants as faults;
 ghost use Rattle.nbd_explain.specs.internal.Outcomes.{IsToldFrom, IsToldOf};
 
-use nbd_capture::write_whole;
+use crate::writing::write_told;
 use nbd_files::{Measured, RunFault, StartFrom};
 use nbd_judge::{Verdict, wrong_of};
 use nbd_order::{Found, Scope, find};
@@ -102,17 +100,6 @@ pub fn run_order_of<C: BufRead + Drop, I: Measured + Drop, W: Write>(
     let session = session_over(alloc, profile, capture, &mut Unseen)?;
     let told = told_over(alloc, profile, session.finish(), start, scope, progress)?;
     write_told(told, out)
-}
-
-// Writes the text, and gives the answer.
-fn write_told<W: Write>(told: (String, Ordered), out: &mut W) -> Result<Ordered, RunFault>
-    ensures written { IfOk result (λ ordered. (ordered ≡ told.1)
-        × Appends (W.contents out.old) (W.contents out.new) told.0.bytes.items) }
-    ensures fault { IfErr result (λ fault. fault ≡ faults.Write) }
-{
-    let (text, ordered) = told;
-    write_whole(out, text.as_bytes())?;
-    Ok(ordered)
 }
 
 // What is written of a finished session from the start that is read, and the answer.

@@ -1,11 +1,8 @@
 //! The command `explain` without an order.
 
-ghost use Rattle.std.specs.Prelude.{◌≡◌, ◌⊎◌, Err, IfErr, IfOk, IsOk, OnOk};
-ghost use Rattle.nbd_files.specs.declared.fault.RunFault.TheVariants.{ImageRead, Memory};
+ghost use Rattle.std.specs.Prelude.{◌≡◌, Err, IfOk, IsOk, OnOk};
 ghost use Rattle.nbd_tool.specs.declared.beginning.Beginning.{Beginning};
 ghost use Rattle.nbd_wire.specs.declared.profile.Profile.{Profile};
-ghost use Rattle.nbd_tool.specs.Beginnings.{IsBeginningOf, room_in};
-ghost use Rattle.nbd_files.specs.Starts.{IsStartCause, IsStartWellFormed, OfStart};
 ghost use Rattle.nbd_explain.specs.Answering.{answer_to};
 ghost use Rattle.nbd_explain.specs.internal.Lines.{Begins, BeginsWithLineOf, IsLineOf, IsToldBySearch, IsToldOfFound};
 
@@ -13,39 +10,18 @@ use crate::answer::{Answer, found_answer};
 use crate::found::found_explanation;
 use crate::ordering::{find_order, found_text_of};
 use crate::writing::{copy_of, kept_of, told_verdict};
-use nbd_files::{Measured, RunFault, StartFrom};
 use nbd_judge::Verdict;
 use nbd_order::{Found, Scope, Wanted};
 use nbd_search::{Limits, Progress};
 use nbd_session::{SessionFault, Transcript};
 use nbd_story::{Sources, Story};
-use nbd_tool::{Beginning, Line, conclude_from, read_start, room_of};
+use nbd_tool::{Beginning, Line, conclude_from};
 use nbd_wire::Profile;
 use std::alloc::{AllocError, Global};
 
-/// Looks for an order that explains a finished session from the start that is read: the line of what it came to and what that
+/// Looks for an order that explains a finished session from what was read of the start: the line of what it came to and what that
 /// says; of a session that was refused the verdict's line and why. And the answer.
-pub fn told_searching<I: Measured + Drop>(
-    alloc: Global,
-    profile: Profile,
-    finished: Result<Transcript, SessionFault>,
-    story: &Story,
-    start: StartFrom<I>,
-    limits: Limits,
-    progress: &mut Progress,
-) -> Result<(String, Answer), RunFault>
-    ensures told { IfOk result (λ told. (beginning : Beginning)
-        × OfStart I.remaining start (λ initial. IsBeginningOf initial (room_in finished) beginning)
-        × IsToldBySearch profile beginning finished told.1 told.0.bytes.items) }
-    ensures start_limited { OnOk result (IsStartWellFormed I.remaining start) }
-    ensures cause { IfErr result (IsStartCause I.remaining start) }
-{
-    let start = read_start(alloc, start, room_of(&finished))?;
-    Ok(told_by_search(alloc, profile, finished, story, start, limits, progress)?)
-}
-
-// The same from what was read of the start.
-fn told_by_search(
+pub fn told_by_search(
     alloc: Global,
     profile: Profile,
     finished: Result<Transcript, SessionFault>,

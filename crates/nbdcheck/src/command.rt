@@ -5,19 +5,15 @@ ghost use Rattle.nbd_files.specs.CommandLine.{exit_status};
 ghost use Rattle.nbd_explain.specs.Answering as answering;
 ghost use Rattle.nbd_explain.specs.Ordering as ordering;
 
-use crate::asked::{Asked, BadWord};
-use crate::files::{Output, check_inputs, contents_files, explain_files, order_files, write_of};
-use crate::hints::{tell_of_capture, tell_of_fault};
-use crate::linting::{Linting, lint_files};
-use crate::words::command;
-use clap::error::ErrorKind;
-use clap::{ArgMatches, Error};
+use crate::files::{
+    Output, check_inputs, contents_files, explain_files, lint_files, order_files, write_of,
+};
 use nbd_explain::{Answer, Ordered, explain_status, order_status};
 use nbd_files::{Files, RunFault, complain, exit_status, tell};
+use nbd_words::hints::{tell_of_capture, tell_of_fault};
+use nbd_words::{Asked, Command, Linting, asked_in};
 use std::{env, io};
 
-/// The exit status of help and of the version.
-const TOLD: u8 = 0;
 /// The exit status of a no.
 const NO: u8 = 1;
 /// The exit status of a command line that is malformed.
@@ -43,12 +39,9 @@ fn refuse_words(rt: &HostRuntime, kind: io::ErrorKind) -> u8 {
 }
 
 fn run_words(rt: &HostRuntime, words: &[String]) -> u8 {
-    let Ok(command) = command(rt.alloc()) else {
-        return complain(rt, RunFault::Memory, MEMORY);
-    };
-    match command.try_get_matches_from(words) {
-        Ok(matches) => run_matched(rt, &matches),
-        Err(error) => print_message(rt, error),
+    match asked_in(rt, words) {
+        Ok(asked) => run_asked(&mut Files::new(rt, asked.is_hinted), &asked),
+        Err(status) => status,
     }
 }
 
@@ -56,57 +49,17 @@ fn words(rt: &HostRuntime) -> io::Result<Vec<String>> {
     Ok(env::args(rt)?.collect(rt.alloc())?)
 }
 
-fn run_matched(rt: &HostRuntime, matches: &ArgMatches<'_>) -> u8 {
-    match matches.subcommand() {
-        Some(("lint", words)) => {
-            let files = Files::new(rt, words.get_flag("hints"));
-            run_lint(files, Asked::of(words), Linting::of(words))
-        }
-        Some((command, words)) => {
-            let files = Files::new(rt, words.get_flag("hints"));
-            run_command(files, command, Asked::of(words))
-        }
-        None => USAGE,
-    }
-}
-
-fn run_command(files: Files<'_>, command: &str, asked: Result<Asked<'_>, BadWord>) -> u8 {
-    let mut files = files;
-    match asked {
-        Ok(asked) => run_asked(&mut files, command, &asked),
-        Err(word) => refuse(&files, word),
-    }
-}
-
-/// Says what is wrong with a word.
-fn refuse(files: &Files<'_>, word: BadWord) -> u8 {
-    tell(files.rt, word.fault);
-    files.hint(word.reason);
-    USAGE
-}
-
-fn run_lint(
-    files: Files<'_>,
-    asked: Result<Asked<'_>, BadWord>,
-    linting: Result<Linting, BadWord>,
-) -> u8 {
-    let mut files = files;
-    match (asked, linting) {
-        (Ok(asked), Ok(linting)) => lint(&mut files, &asked, &linting),
-        (Err(word), _) | (_, Err(word)) => refuse(&files, word),
-    }
-}
-
-fn run_asked(files: &mut Files<'_>, command: &str, asked: &Asked<'_>) -> u8 {
-    match command {
-        "check" => check(files, asked),
-        "explain" => explain(files, asked),
-        "order" if asked.is_arrival => arrival(files, asked),
-        "order" => order(files, asked),
-        "contents" => contents(files, asked),
-        "show" => show(files, asked),
-        "make" => make(files, asked),
-        _ => USAGE,
+fn run_asked(files: &mut Files<'_>, asked: &Asked<'_>) -> u8 {
+    match asked.command {
+        Command::Check => check(files, asked),
+        Command::Explain => explain(files, asked),
+        Command::Order => order(files, asked),
+        Command::Arrival => arrival(files, asked),
+        Command::Contents => contents(files, asked),
+        Command::Show => show(files, asked, Output::Lines(asked.profile)),
+        Command::Names => show(files, asked, Output::Names(asked.profile)),
+        Command::Lint(linting) => lint(files, asked, &linting),
+        Command::Make => make(files, asked),
     }
 }
 
@@ -202,12 +155,7 @@ fn contents(files: &mut Files<'_>, asked: &Asked<'_>) -> u8 {
 }
 
 /// `nbdcheck show CAPTURE [--names]`.
-fn show(files: &mut Files<'_>, asked: &Asked<'_>) -> u8 {
-    let output = if asked.is_named {
-        Output::Names(asked.profile)
-    } else {
-        Output::Lines(asked.profile)
-    };
+fn show(files: &mut Files<'_>, asked: &Asked<'_>, output: Output) -> u8 {
     let answer = write_of(files, asked.input, output, asked.is_json);
     reported(files, &answer, asked)
 }
@@ -238,18 +186,4 @@ fn made(files: &Files<'_>, answer: &Result<bool, RunFault>, asked: &Asked<'_>) -
         tell_of_fault(files, fault, asked);
     }
     status
-}
-
-/// Prints what clap has to say: help and the version on standard output, a mistake in the words on
-/// standard error.
-fn print_message(rt: &HostRuntime, error: Error) -> u8 {
-    if error.kind() == ErrorKind::OutOfMemory {
-        return complain(rt, RunFault::Memory, MEMORY);
-    }
-    let is_told = !error.use_stderr();
-    match error.print(rt) {
-        Err(_) if is_told => complain(rt, RunFault::Write, RunFault::Write.status()),
-        _ if is_told => TOLD,
-        _ => USAGE,
-    }
 }

@@ -1,9 +1,8 @@
 //! What is written of the files of a run.
 
-use crate::asked::Asked;
 use nbd_explain::{
-    Answer, Lines, Objects, Ordered, run_arrival_of, run_contents, run_explain_of, run_names_of,
-    run_order_of, run_show_of,
+    Answer, Lines, Objects, Ordered, run_arrival_of, run_contents, run_explain_of, run_lint,
+    run_names_of, run_order_of, run_show_of, write_rules,
 };
 use nbd_files::{
     Files, FinalWriter, Opener, RunFault, StartFrom, open_inputs, open_start, terminal,
@@ -12,6 +11,7 @@ use nbd_lines::run_make;
 use nbd_search::Progress;
 use nbd_tool::check_files;
 use nbd_wire::Profile;
+use nbd_words::{Asked, Linting};
 use std::alloc::Global;
 use std::fs::File;
 use std::io;
@@ -271,4 +271,19 @@ fn write_to<W: Write>(
         Output::Names(profile) => run_names_of(alloc, profile, is_marked, input, out),
         Output::Capture => run_make(alloc, input, out).map(|()| true),
     }
+}
+
+/// Opens the capture, and writes what its session breaks; or writes the rules.
+pub fn lint_files(
+    files: &mut Files<'_>,
+    asked: &Asked<'_>,
+    linting: &Linting,
+) -> Result<bool, RunFault> {
+    let (rt, alloc) = (files.rt, files.rt.alloc());
+    let mut out = io::writer(rt);
+    if linting.is_list {
+        return write_rules(alloc, &mut out);
+    }
+    let capture = files.open_buffered(asked.input, RunFault::CaptureRead)?;
+    run_lint(alloc, asked.profile, capture, &linting.wanted, &mut out)
 }

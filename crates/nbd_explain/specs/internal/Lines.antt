@@ -1,5 +1,5 @@
 -- The text that is made of what looking for an order came to.
-use Rattle.std.specs.Prelude.{◌≡◌, ℕ, List, ◌++◌, Option, Result, Ok, Err, IfOk, IfErr}
+use Rattle.std.specs.Prelude.{◌≡◌, ℕ, List, ◌++◌, Option, Some, None, Result, Ok, Err, IfOk, IfErr}
 use Rattle.std.specs.Io.KnownBytes.{Appends}
 use Rattle.nbd_wire.specs.declared.profile.Profile.{Profile}
 use Rattle.nbd_wire.specs.protocol.Explains.{Start}
@@ -106,3 +106,10 @@ IsToldBySearch profile beginning (Ok told) answered text = IsToldOfFound profile
 IsToldBySearch profile beginning (Err (Wire at fault)) answered text = IsAnswerTo (verdict.Wire at fault) answered
     × Begins (line (verdict.Wire at fault)) text
 IsToldBySearch profile beginning (Err Memory) answered text = ⊥
+
+-- the same by whether entries of an order are given
+abbrev pub IsToldGiven : Profile → Result Report SessionFault → Option (List Entry) → Beginning → Answer → List ℕ
+    → Type 0
+IsToldGiven profile finished (Some entries) beginning answered text =
+    IsToldOn profile finished entries beginning answered text
+IsToldGiven profile finished None beginning answered text = IsToldBySearch profile beginning finished answered text

@@ -1,11 +1,8 @@
-//! The command `lint`: what its words say, and what is written.
+//! What the words of `lint` say.
 
-use crate::asked::{Asked, BadWord};
+use crate::asked::BadWord;
 use clap::ArgMatches;
-use nbd_explain::{run_lint, write_rules};
-use nbd_files::{Files, RunFault};
 use nbd_lint::{Form, Level, Wanted, rule_named};
-use std::io;
 
 const BAD_LEVEL: BadWord = BadWord {
     fault: "fault level",
@@ -66,19 +63,4 @@ fn allowing(wanted: Wanted, words: &ArgMatches<'_>) -> Option<Wanted> {
         wanted = wanted.without(rule_named(name)?);
     }
     Some(wanted)
-}
-
-/// Opens the capture, and writes what its session breaks; or writes the rules.
-pub fn lint_files(
-    files: &mut Files<'_>,
-    asked: &Asked<'_>,
-    linting: &Linting,
-) -> Result<bool, RunFault> {
-    let (rt, alloc) = (files.rt, files.rt.alloc());
-    let mut out = io::writer(rt);
-    if linting.is_list {
-        return write_rules(alloc, &mut out);
-    }
-    let capture = files.open_buffered(asked.input, RunFault::CaptureRead)?;
-    run_lint(alloc, asked.profile, capture, &linting.wanted, &mut out)
 }

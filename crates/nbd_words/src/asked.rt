@@ -4,6 +4,7 @@ ghost use Rattle.std.specs.Prelude.{◌≡◌, ◌↔◌, Some, None, IsTrue, co
 ghost use Rattle.nbd_order.specs.declared.finding.Wanted.TheVariants.{Any, Whole};
 ghost use Rattle.nbd_wire.specs.declared.profile.Profile.TheVariants.{Base, Wide};
 
+use crate::linting::Linting;
 use clap::ArgMatches;
 use nbd_files::{StartWord, start_of};
 use nbd_order::{Scope, Wanted, usual_limits};
@@ -32,9 +33,26 @@ const BAD_LIMIT: BadWord = BadWord {
     reason: "a limit is a number from 0 to 18446744073709551615",
 };
 
-/// What the words behind a command say. A word that the command does not have counts as one that was not said.
+/// What is to be done.
+#[derive(Clone, Copy)]
+pub enum Command {
+    Check,
+    Explain,
+    Order,
+    /// `order` with the order in which the requests came.
+    Arrival,
+    Contents,
+    Show,
+    /// `show` with the messages in words.
+    Names,
+    Lint(Linting),
+    Make,
+}
+
+/// What the words of a command line say. A word that the command does not have counts as one that was not said.
 #[derive(Clone, Copy)]
 pub struct Asked<'a> {
+    pub command: Command,
     /// The file of the capture, or of the script.
     pub input: &'a str,
     /// The file of the order.
@@ -43,19 +61,17 @@ pub struct Asked<'a> {
     pub profile: Profile,
     /// Which orders are looked for, and what a search may cost.
     pub scope: Scope,
-    /// The order in which the requests came is wanted.
-    pub is_arrival: bool,
-    /// The messages are wanted in words.
-    pub is_named: bool,
     /// Objects of JSON are wanted.
     pub is_json: bool,
+    /// Reasons are wanted off a terminal too.
+    pub is_hinted: bool,
     /// The file that contents are compared with.
     pub against: Option<&'a str>,
 }
 
 impl<'a> Asked<'a> {
-    /// What these words say, or what is wrong where one of them is malformed.
-    pub fn of(words: &ArgMatches<'a>) -> Result<Asked<'a>, BadWord> {
+    /// What the words behind the command of this name say, or what is wrong where one of them is malformed.
+    pub fn of(name: &str, words: &ArgMatches<'a>) -> Result<Asked<'a>, BadWord> {
         // (a command that does not have these words asks for nothing by them)
         let Some(start) = start_of(words.get_str("start").unwrap_or("unknown")) else {
             return Err(BAD_START);
@@ -67,17 +83,32 @@ impl<'a> Asked<'a> {
             return Err(BAD_LIMIT);
         };
         Ok(Asked {
+            command: command_of(name, words)?,
             start,
             profile,
             scope,
             input: input_in(words),
             order: words.get_str("ORDER"),
-            is_arrival: words.get_flag("arrival"),
-            is_named: words.get_flag("names"),
             is_json: words.get_flag("json"),
+            is_hinted: words.get_flag("hints"),
             against: words.get_str("against"),
         })
     }
+}
+
+// What the command of this name is to do.
+fn command_of(name: &str, words: &ArgMatches<'_>) -> Result<Command, BadWord> {
+    Ok(match name {
+        "check" => Command::Check,
+        "explain" => Command::Explain,
+        "order" if words.get_flag("arrival") => Command::Arrival,
+        "order" => Command::Order,
+        "contents" => Command::Contents,
+        "show" if words.get_flag("names") => Command::Names,
+        "show" => Command::Show,
+        "lint" => Command::Lint(Linting::of(words)?),
+        _ => Command::Make,
+    })
 }
 
 // The file that the words name first.
