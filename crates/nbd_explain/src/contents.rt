@@ -6,14 +6,15 @@ ghost use Rattle.nbd_wire.specs.protocol.Explains as definitions;
 ghost use Rattle.nbd_judge.specs.Servable.{size_of};
 ghost use Rattle.nbd_export.specs.Held.{held};
 ghost use Rattle.nbd_tool.specs.Beginnings.{IsReadAs, room_in};
-ghost use Rattle.nbd_explain.specs.Contents.{HasEntries, IsContentsCause, WritesBytes, WritesContents};
-ghost use Rattle.nbd_explain.specs.internal.Leaving.{IsGivenOrderCause, IsLeftBy, IsLeftFrom, IsLeftIn, IsLeftOver, TellsLeft, entries_of};
+ghost use Rattle.nbd_explain.specs.Contents.{IsContentsCause, WritesBytes, WritesContents};
+ghost use Rattle.nbd_explain.specs.internal.Leaving.{IsLeftBy, IsLeftFrom, IsLeftIn, IsLeftOver, TellsLeft, entries_of};
 ghost use Rattle.nbd_tool.specs.Runs.{IsCapture};
 ghost use Rattle.nbd_files.specs.Starts.{IsStartWellFormed, IsWithinLimit, OfStart};
 ghost use Rattle.nbd_explain.specs.Explained.{IsExplainCause, IsOrderWithinLimit};
 ghost use Rattle.nbd_explain.specs.Ordering.{LeavesOrdered};
 
 use crate::comparing::write_compared;
+use crate::reading::read_behind;
 use nbd_capture::write_whole;
 use nbd_export::{Extents, Start};
 use nbd_files::{Measured, RunFault, StartFrom};
@@ -21,7 +22,7 @@ use nbd_judge::{Verdict, laws};
 use nbd_lines::write_contents;
 use nbd_order::{Left, left_by, left_by_each};
 use nbd_session::{SessionFault, Transcript};
-use nbd_tool::{Beginning, Unseen, read_order, read_start, room_of, session_over, write_verdict};
+use nbd_tool::{Beginning, Unseen, session_over, write_verdict};
 use nbd_wire::{Entry, Profile};
 use std::alloc::{AllocError, Global};
 use std::io::{BufRead, Read, Write};
@@ -104,24 +105,8 @@ fn left_behind<O: Read + Drop, I: Measured + Drop>(
     ensures cause { IfErr result (λ fault. (known : Option (List ℕ)) → IsCapture known →
         IsExplainCause O.remaining I.remaining known order start fault) }
 {
-    let entries = read_entries(alloc, order)?;
-    let start = read_start(alloc, start, room_of(finished))?;
+    let (entries, start) = read_behind(alloc, finished, order, start)?;
     left_of(alloc, profile, finished, &entries, start)
-}
-
-/// The entries of an order, if there is one.
-pub fn read_entries<O: Read + Drop>(
-    alloc: Global,
-    order: Option<O>,
-) -> Result<Option<Vec<Entry>>, RunFault>
-    ensures limited { OnOk result (IsOrderWithinLimit O.remaining order) }
-    ensures entries { IfOk result (λ entries. HasEntries O.remaining order (entries_of entries)) }
-    ensures cause { IfErr result (IsGivenOrderCause O.remaining order) }
-{
-    match order {
-        Some(mut order) => Ok(Some(read_order(alloc, &mut order)?)),
-        None => Ok(None),
-    }
 }
 
 // What is left, from what was read.

@@ -12,15 +12,14 @@ ghost use Rattle.nbd_explain.specs.internal.Leaving.{entries_of};
 ghost use Rattle.nbd_explain.specs.internal.Lines.{IsFinishOf, IsToldGiven, IsToldOn, OnWritten};
 
 use crate::answer::Answer;
-use crate::contents::read_entries;
-use crate::reading::{Recorder, finished_over};
+use crate::reading::{Recorder, finished_over, read_behind};
 use crate::searching::told_by_search;
 use crate::writing::{copy_of, kept_of, told_verdict, write_told};
 use nbd_files::{Measured, RunFault, StartFrom};
 use nbd_search::{Limits, Progress};
 use nbd_session::{SessionFault, Transcript};
 use nbd_story::Story;
-use nbd_tool::{Beginning, conclude_from, read_start, room_of};
+use nbd_tool::{Beginning, conclude_from};
 use nbd_wire::{Entry, Profile};
 use std::alloc::{AllocError, Global};
 use std::io::{BufRead, Read, Write};
@@ -179,8 +178,7 @@ fn told_of<O: Read + Drop, I: Measured + Drop>(
     ensures cause { IfErr result (λ fault. (known : Option (List ℕ)) → IsCapture known →
         IsExplainCause O.remaining I.remaining known order start fault) }
 {
-    let entries = read_entries(alloc, order)?;
-    let start = read_start(alloc, start, room_of(&finished))?;
+    let (entries, start) = read_behind(alloc, &finished, order, start)?;
     let told = told_from(
         alloc, profile, finished, story, &entries, start, limits, progress,
     )?;

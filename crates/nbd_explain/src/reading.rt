@@ -1,17 +1,22 @@
-//! The story of a capture, told while its session is read.
+//! How the inputs are read: the story of a capture, told while its session is read, and what is read behind it.
 
-ghost use Rattle.std.specs.Prelude.{IfErr, IfOk, OnOk};
-ghost use Rattle.nbd_tool.specs.Runs.{IsCaptureCause};
-ghost use Rattle.nbd_files.specs.Starts.{IsWithinLimit};
+ghost use Rattle.std.specs.Prelude.{ℕ, List, Option, IfErr, IfOk, OnOk};
+ghost use Rattle.nbd_tool.specs.Beginnings.{IsBeginningOf, room_in};
+ghost use Rattle.nbd_tool.specs.Runs.{IsCapture, IsCaptureCause};
+ghost use Rattle.nbd_files.specs.declared.fault.RunFault.TheVariants.{Write};
+ghost use Rattle.nbd_files.specs.Starts.{IsStartWellFormed, IsWithinLimit, OfStart};
+ghost use Rattle.nbd_explain.specs.Contents.{HasEntries};
+ghost use Rattle.nbd_explain.specs.Explained.{IsExplainCause, IsOrderWithinLimit};
+ghost use Rattle.nbd_explain.specs.internal.Leaving.{IsGivenOrderCause, entries_of};
 ghost use Rattle.nbd_explain.specs.internal.Lines.{IsFinishOf};
 
-use nbd_files::RunFault;
+use nbd_files::{Measured, RunFault, StartFrom};
 use nbd_session::{SessionFault, Transcript};
 use nbd_story::Story;
-use nbd_tool::{Witness, session_over};
-use nbd_wire::{Message, Profile, Side};
+use nbd_tool::{Beginning, Witness, read_order, read_start, room_of, session_over};
+use nbd_wire::{Entry, Message, Profile, Side};
 use std::alloc::{AllocError, Global};
-use std::io::BufRead;
+use std::io::{BufRead, Read};
 
 /// Tells the story of what it is shown.
 #[derive(Drop)]
@@ -52,4 +57,42 @@ pub fn finished_over<C: BufRead + Drop>(
 {
     let session = session_over(alloc, profile, capture, recorder)?;
     Ok(session.finish())
+}
+
+/// Reads behind a capture the order, if there is one, and then the start: the order's entries, and what the session needs of the
+/// start.
+pub fn read_behind<O: Read + Drop, I: Measured + Drop>(
+    alloc: Global,
+    finished: &Result<Transcript, SessionFault>,
+    order: Option<O>,
+    start: StartFrom<I>,
+) -> Result<(Option<Vec<Entry>>, Beginning), RunFault>
+    ensures order_limited { OnOk result (IsOrderWithinLimit O.remaining order) }
+    ensures start_limited { OnOk result (IsStartWellFormed I.remaining start) }
+    ensures entries { IfOk result (λ read. HasEntries O.remaining order (entries_of read.0)) }
+    ensures start { IfOk result (λ read. OfStart I.remaining start
+        (λ initial. IsBeginningOf initial (room_in finished.now) read.1)) }
+    ensures read { OnOk result ((known : Option (List ℕ)) → IsCapture known →
+        IsExplainCause O.remaining I.remaining known order start Write) }
+    ensures cause { IfErr result (λ fault. (known : Option (List ℕ)) → IsCapture known →
+        IsExplainCause O.remaining I.remaining known order start fault) }
+{
+    let entries = read_entries(alloc, order)?;
+    let start = read_start(alloc, start, room_of(finished))?;
+    Ok((entries, start))
+}
+
+// The entries of an order, if there is one.
+fn read_entries<O: Read + Drop>(
+    alloc: Global,
+    order: Option<O>,
+) -> Result<Option<Vec<Entry>>, RunFault>
+    ensures limited { OnOk result (IsOrderWithinLimit O.remaining order) }
+    ensures entries { IfOk result (λ entries. HasEntries O.remaining order (entries_of entries)) }
+    ensures cause { IfErr result (IsGivenOrderCause O.remaining order) }
+{
+    match order {
+        Some(mut order) => Ok(Some(read_order(alloc, &mut order)?)),
+        None => Ok(None),
+    }
 }

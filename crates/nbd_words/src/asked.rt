@@ -72,27 +72,32 @@ pub struct Asked<'a> {
 impl<'a> Asked<'a> {
     /// What the words behind the command of this name say, or what is wrong where one of them is malformed.
     pub fn of(name: &str, words: &ArgMatches<'a>) -> Result<Asked<'a>, BadWord> {
-        // (a command that does not have these words asks for nothing by them)
-        let Some(start) = start_of(words.get_str("start").unwrap_or("unknown")) else {
-            return Err(BAD_START);
-        };
-        let Some(profile) = profile_of(words.get_str("profile").unwrap_or("base")) else {
-            return Err(BAD_PROFILE);
-        };
-        let Some(scope) = scope_in(words) else {
-            return Err(BAD_LIMIT);
-        };
         Ok(Asked {
+            start: start_in(words)?,
+            profile: profile_in(words)?,
+            scope: scope_in(words)?,
             command: command_of(name, words)?,
-            start,
-            profile,
-            scope,
             input: input_in(words),
             order: words.get_str("ORDER"),
             is_json: words.get_flag("json"),
             is_hinted: words.get_flag("hints"),
             against: words.get_str("against"),
         })
+    }
+}
+
+// (a command that does not have one of these words asks for nothing by it)
+fn start_in<'a>(words: &ArgMatches<'a>) -> Result<StartWord<'a>, BadWord> {
+    match start_of(words.get_str("start").unwrap_or("unknown")) {
+        Some(start) => Ok(start),
+        None => Err(BAD_START),
+    }
+}
+
+fn profile_in(words: &ArgMatches<'_>) -> Result<Profile, BadWord> {
+    match profile_of(words.get_str("profile").unwrap_or("base")) {
+        Some(profile) => Ok(profile),
+        None => Err(BAD_PROFILE),
     }
 }
 
@@ -131,14 +136,21 @@ fn profile_of(word: &str) -> Option<Profile>
     }
 }
 
-fn scope_in(words: &ArgMatches<'_>) -> Option<Scope> {
+fn scope_in(words: &ArgMatches<'_>) -> Result<Scope, BadWord> {
+    match limits_in(words) {
+        Some(limits) => Ok(Scope {
+            wanted: wanted_of(words.get_flag("whole")),
+            limits,
+        }),
+        None => Err(BAD_LIMIT),
+    }
+}
+
+fn limits_in(words: &ArgMatches<'_>) -> Option<Limits> {
     let usual = usual_limits();
-    Some(Scope {
-        wanted: wanted_of(words.get_flag("whole")),
-        limits: Limits {
-            states: number_of(words.get_str("states"), usual.states)?,
-            steps: number_of(words.get_str("steps"), usual.steps)?,
-        },
+    Some(Limits {
+        states: number_of(words.get_str("states"), usual.states)?,
+        steps: number_of(words.get_str("steps"), usual.steps)?,
     })
 }
 

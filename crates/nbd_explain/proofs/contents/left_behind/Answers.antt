@@ -1,4 +1,3 @@
-use Rattle.nbd_explain.proofs.Common.{subst, IsBeginningOf}
 use Rattle.nbd_explain.proofs.ExplainedLemmas.{map_ok}
 use Rattle.nbd_explain.proofs.ContentsLemmas.{left_read}
 use Rattle.nbd_explain.proofs.contents.left_behind.Goals as goal
@@ -6,6 +5,6 @@ use Rattle.nbd_explain.proofs.contents.left_behind.Goals as goal
 pub returns-clause-left : goal.returns-clause-left
 returns-clause-left g c =
     map_ok c.left_of.result (λ l of. λ known is.
-    left_read c.args.profile g.O.Read.remaining c.args.finished.now c.args.order c.in_ok-entries.entries known c.in_ok-start.start l c.in_ok-entries.ensures.entries
-    (subst (λ n. IsBeginningOf known n c.in_ok-start.start) c.room_of.ensures (c.in_ok-start.ensures.read known is)) of)
+    left_read c.args.profile g.O.Read.remaining c.args.finished.now c.args.order c.in_ok-entries.entries known c.in_ok-entries.start l c.in_ok-entries.ensures.entries
+    (c.in_ok-entries.ensures.start known is) of)
     c.left_of.ensures.left
