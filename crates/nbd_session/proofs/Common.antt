@@ -22,24 +22,28 @@ pub use Rattle.nbd_laws.specs.Bytes.{bytes_from, bytes_of, of_two}
 pub use Rattle.nbd_laws.specs.Reached.{IsReached}
 pub use Rattle.nbd_laws.specs.Selecting.{AreAskedWith}
 pub use Rattle.nbd_laws.specs.Soundness.{IsSoundReport}
+pub use Rattle.nbd_session.specs.Following.{Follows, IsPushed, past_of}
 pub use Rattle.nbd_session.specs.Incoming.{IncomingView, bytes_come, incoming_with, incoming_with_by, nothing_come}
 pub use Rattle.nbd_session.specs.Pushed.{PushedHoldsEachSide, Stretch, bytes_after_stretch, mixture, stretch_bytes}
-pub use Rattle.nbd_session.specs.Refusals.{EndsIn, IsAcceptedOf, IsComplete, IsOpenEndOf, IsRefusalOf, IsWireFaultOf, LeavesOpen, Refuses}
-pub use Rattle.nbd_session.specs.Sessions.{Adds, AddsPrefix, HasRunOf, IsOfRun, IsReported, SessionView, bytes_taken, fault_at_end, open_end_fault, pairs_of}
+pub use Rattle.nbd_session.specs.Refusals.{EndsIn, IsAcceptedOf, IsComplete, IsCompleteBy, IsOpenEndOf, IsRefusalOf, IsWireFaultOf, LeavesOpen, Refuses}
+pub use Rattle.nbd_session.specs.Sessions.{Adds, AddsPrefix, HasRunOf, IsAtEnd, IsOfRun, IsReported, SessionView, bytes_taken, empty_session_of, end_by, fault_at_end, fault_of, open_end_fault, pairs_of}
 pub use Rattle.nbd_session.specs.Views.{session_view, stretches_of}
 pub use Rattle.nbd_session.specs.declared.expected.Expected.{Expected}
 pub use Rattle.nbd_session.specs.declared.expected.Expected.TheVariants.{Answer, Choice, Chunk, ClientFlags, Exported, Greeting, Request, Simple}
 pub use Rattle.nbd_session.specs.declared.fault.SessionFault.{SessionFault}
 pub use Rattle.nbd_session.specs.declared.fault.SessionFault.TheVariants.{Memory, Wire}
-pub use Rattle.nbd_session.specs.declared.held.Held.{Held}
+pub use Rattle.nbd_session.specs.declared.log.Log.{Log}
+pub use Rattle.nbd_session.specs.declared.monitor.Monitor.{Monitor}
+pub use Rattle.nbd_session.specs.internal.Alternating.{AreStretchesOf, is_of, stretches_with}
 pub use Rattle.nbd_session.specs.internal.Asking.{done_by, elsewhere_fault, finish_by, is_bad_disconnect, is_beyond, is_simple_forbidden, is_status, lacks_by}
 pub use Rattle.nbd_session.specs.internal.Counted.{decision_by_count, operation_counted, within}
 pub use Rattle.nbd_session.specs.internal.Expecting.{HasHeadLength, HasReplyLength, IsChunkOf, IsExpectedOf, IsNoReply, IsPlaceOf, IsPlaced, IsRefusedHead, IsReplyHead, IsSimpleOf, IsWholeHead, StandsIn, chunk_fault_by, chunk_fault_to, expected_decision, head_fault_by, is_too_long, last_fault_by, message_of, payload_length_of, place_answered, request_length, request_with, success_fault_if, whole_head_by}
-pub use Rattle.nbd_session.specs.internal.Holdings.{holding_of, incoming_of, is_of, with_expected, with_incoming}
+pub use Rattle.nbd_session.specs.internal.Holdings.{holding_of, incoming_of, with_expected, with_incoming}
 pub use Rattle.nbd_session.specs.internal.Known.{IsCome, IsExpected, IsKnown, IsShort, awaited, decided, is_come_by, is_known_by}
 pub use Rattle.nbd_session.specs.internal.Leading.{chunk_fields, chunk_head_length, chunk_magic, request_fields, request_head_length, request_head_of, request_magic, some_if}
-pub use Rattle.nbd_session.specs.internal.Standing.{AreStretchesOf, Holding, IsReadTo, count_at_server, held_pairs, rest_of, stretches_with, with_bytes, with_more}
-pub use Rattle.nbd_session.specs.internal.Steps.{AddsHeld, HoldsRun, IsExpecting, IsHeadRefused, IsKept, IsRefused, IsSame, IsShut, IsTaken, IsWhole, Knows, Stands, knows_by}
+pub use Rattle.nbd_session.specs.internal.Logging.{HasStretches, IsLogged}
+pub use Rattle.nbd_session.specs.internal.Standing.{Holding, IsReadTo, Past, completed, count_at_server, rest_of, sent, with_bytes, with_more}
+pub use Rattle.nbd_session.specs.internal.Steps.{HoldsRun, IsExpecting, IsHeadRefused, IsKept, IsKeptBy, IsShut, IsTaken, IsWhole, Knows, Stands, knows_by}
 pub use Rattle.nbd_state.proofs.HeadLemmas.{chunk_cookie, chunk_ends, chunk_fails, chunk_gives}
 pub use Rattle.nbd_state.proofs.PlacedLemmas.{place_shows_operation, shown_length}
 pub use Rattle.nbd_state.proofs.RecordingLemmas.{told_with, told_without}
@@ -115,5 +119,6 @@ pub use Rattle.std.specs.Bool.{then_some}
 pub use Rattle.std.specs.List.{list_all}
 pub use Rattle.std.specs.Option.{option_copied}
 pub use Rattle.std.specs.Prelude.{option_to_list}
+pub use Rattle.std.specs.Result.{is_err}
 pub use Rattle.std.specs.Slice.{IsItemAt}
 pub use borrow.Author.Tests.{tests}

@@ -1,3 +1,4 @@
+pub mod Following
 pub mod Incoming
 pub mod Pushed
 pub mod Refusals

@@ -1,10 +1,10 @@
 -- A session as the program has it.
-use Rattle.std.specs.Prelude.{List, map, Option}
+use Rattle.std.specs.Prelude.{List, map}
 use Rattle.nbd_session.specs.Incoming.{bytes_come}
 use Rattle.nbd_session.specs.Pushed.{Stretch}
 use Rattle.nbd_session.specs.declared.stretches.Stretch as program
-use Rattle.nbd_session.specs.declared.fault.SessionFault.{SessionFault}
-use Rattle.nbd_session.specs.declared.held.Held.{Held}
+use Rattle.nbd_session.specs.declared.log.Log.{Log}
+use Rattle.nbd_session.specs.declared.monitor.Monitor.{Monitor}
 use Rattle.nbd_session.specs.Sessions.{SessionView}
 
 -- a stretch as the program has it
@@ -14,13 +14,13 @@ stretch_of s = record { from = s.from; length = s.length }
 abbrev pub stretches_of : List program.Stretch → List Stretch
 stretches_of stretches = map stretch_of stretches
 
--- what is held, as a session states it
-abbrev pub session_view : Held → Option SessionFault → SessionView
-session_view held closed = record {
+-- what a monitor holds and a log has, as a session states it
+abbrev pub session_view : Monitor → Log → SessionView
+session_view held log = record {
   profile = held.state.profile;
-  messages = held.messages.items;
+  messages = log.messages.items;
   client = bytes_come held.client;
   server = bytes_come held.server;
-  stretches = stretches_of held.stretches.items;
-  closed = closed;
+  stretches = stretches_of log.stretches.items;
+  closed = held.closed;
 }

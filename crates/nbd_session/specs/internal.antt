@@ -1,8 +1,10 @@
+pub mod Alternating
 pub mod Asking
 pub mod Counted
 pub mod Expecting
 pub mod Holdings
 pub mod Known
 pub mod Leading
+pub mod Logging
 pub mod Standing
 pub mod Steps

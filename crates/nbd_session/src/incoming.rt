@@ -1,14 +1,10 @@
 //! The bytes of a side that belong to no completed message.
 
-ghost use Rattle.std.specs.Prelude.{◌≡◌, ◌==◌, ◌+◌, ◌≤◌, ◌<◌, ◌^◌, ◌++◌, length, IfOk, None, OnErr, OnOk, Some};
+ghost use Rattle.std.specs.Prelude.{◌≡◌, ◌==◌, ◌+◌, ◌≤◌, length, IfOk, None, OnErr, OnOk, Some};
 ghost use Rattle.nbd_session.specs.Incoming.{incoming_with, nothing_come};
-ghost use Rattle.nbd_session.specs.Views.{stretches_of};
-ghost use Rattle.nbd_session.specs.Pushed.{stretch_bytes};
-ghost use Rattle.nbd_session.specs.internal.Standing.{stretches_with};
 
 use crate::expected::Expected;
-use crate::stretches::{Stretch, note};
-use nbd_wire::{Bytes, Side};
+use nbd_wire::Bytes;
 use std::alloc::{AllocError, Global};
 use std::marker::Model;
 
@@ -83,24 +79,14 @@ impl Incoming {
     }
 
     /// Takes the next bytes of a side. An `Err` says that memory ran out; then nothing has changed.
-    pub(crate) fn add(
-        &mut self,
-        stretches: &mut Vec<Stretch>,
-        side: Side,
-        piece: &[u8],
-    ) -> Result<(), AllocError>
-        requires room { self.old.expected ≡ None → length self.old.head + length piece.now ≤ 32 }
-        requires fits { stretch_bytes side (stretches_of stretches.old.items) + length piece.now < 2 ^ 64 }
+    pub(crate) fn add(&mut self, piece: &[u8]) -> Result<(), AllocError>
+        requires { self.old.expected ≡ None → length self.old.head + length piece.now ≤ 32 }
         ensures bytes { OnOk result (self.new ≡ incoming_with self.old piece.now) }
-        ensures stretches { OnOk result (stretches_of stretches.new.items ≡ stretches_with
-            (stretches_of stretches.old.items) side (length piece.now)) }
-        ensures unchanged { OnErr result ((self.new ≡ self.old)
-            × (stretches_of stretches.new.items ≡ stretches_of stretches.old.items)) }
+        ensures unchanged { OnErr result (self.new ≡ self.old) }
     {
         if self.expected.is_some() {
-            return append(&mut self.payload, stretches, side, piece);
+            return self.payload.extend_from_slice(piece);
         }
-        note(stretches, side, piece.len() as u64)?;
         let end = self.len + piece.len();
         self.head[self.len..end].copy_from_slice(piece);
         self.len = end;
@@ -125,24 +111,4 @@ impl Incoming {
         self.expected = None;
         Ok(payload)
     }
-}
-
-/// Adds the next bytes of a side to its bytes, and their number to the record of how the sides alternated. An `Err`
-/// says that memory ran out; then both are unchanged.
-fn append(
-    bytes: &mut Vec<u8>,
-    stretches: &mut Vec<Stretch>,
-    side: Side,
-    piece: &[u8],
-) -> Result<(), AllocError>
-    requires { stretch_bytes side (stretches_of stretches.old.items) + length piece.now < 2 ^ 64 }
-    ensures bytes { OnOk result (bytes.new.items ≡ bytes.old.items ++ piece.now) }
-    ensures stretches { OnOk result (stretches_of stretches.new.items ≡ stretches_with
-        (stretches_of stretches.old.items) side (length piece.now)) }
-    ensures unchanged { OnErr result ((bytes.new.items ≡ bytes.old.items)
-        × (stretches_of stretches.new.items ≡ stretches_of stretches.old.items)) }
-{
-    bytes.reserve(piece.len())?;
-    note(stretches, side, piece.len() as u64)?;
-    bytes.extend_from_slice(piece)
 }

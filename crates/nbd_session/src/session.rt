@@ -1,15 +1,16 @@
 //! A session, whose bytes are given in steps.
 
-ghost use Rattle.std.specs.Prelude.{◌≡◌, ◌+◌, ◌++◌, ◌<◌, ◌^◌, Err, IfErr, IfOk, None, OnOk, Some, length};
+ghost use Rattle.std.specs.Prelude.{◌≡◌, ◌+◌, ◌++◌, ◌<◌, ◌≤◌, ◌^◌, drop, Err, IfErr, IfOk, None, OnOk, Some, length};
 ghost use Rattle.nbd_wire.specs.protocol.Captures.{side_pairs};
 ghost use Rattle.nbd_wire.specs.protocol.Places.{IsUnderWayOf};
 ghost use Rattle.nbd_wire.specs.protocol.Within.{CompletesExactlyOf};
 ghost use Rattle.nbd_session.specs.declared.fault.SessionFault.{SessionFault};
 ghost use Rattle.nbd_session.specs.Refusals.{EndsIn, HasNoPlaceOf, IsComplete, Refuses};
-ghost use Rattle.nbd_session.specs.Sessions.{AddsPrefix, IsAtEnd, IsOfRun, IsReported, fault_at_end, fault_of, empty_session, empty_session_of, pairs_of, bytes_taken};
+ghost use Rattle.nbd_session.specs.Sessions.{Adds, AddsPrefix, IsAtEnd, IsOfRun, IsReported, fault_at_end, fault_of, empty_session, empty_session_of, pairs_of, bytes_taken};
 
 use crate::fault::SessionFault;
-use crate::held::Held;
+use crate::log::Log;
+use crate::monitor::Monitor;
 use nbd_state::Transcript;
 use nbd_wire::{Message, Profile, Side};
 use std::alloc::Global;
@@ -22,21 +23,20 @@ use std::marker::Model;
 /// succession. From these one gets back every byte that was taken.
 #[derive(Drop)]
 pub struct Session {
-    alloc: Global,
-    held: Held,
-    closed: Option<SessionFault>,
+    monitor: Monitor,
+    log: Log,
 }
 
 impl Model for Session {
     ghost use Rattle.nbd_session.specs.Sessions.{SessionView};
-    ghost use Rattle.nbd_session.specs.internal.Steps.{IsKept};
+    ghost use Rattle.nbd_session.specs.internal.Logging.{IsLogged};
     ghost use Rattle.nbd_session.specs.Views.{session_view};
 
     ghost Value = { SessionView };
 
-    ghost view = { λ s. session_view s.held s.closed };
+    ghost view = { λ s. session_view s.monitor s.log };
 
-    ghost invariant = { λ s. IsKept s.held s.closed };
+    ghost invariant = { λ s. IsLogged s.monitor s.log };
 }
 
 impl Session {
@@ -52,9 +52,8 @@ impl Session {
         ensures { result ≡ empty_session_of profile }
     {
         Session {
-            alloc,
-            held: Held::new(alloc, profile),
-            closed: None,
+            monitor: Monitor::of(alloc, profile),
+            log: Log::new(alloc),
         }
     }
 
@@ -62,7 +61,7 @@ impl Session {
     pub fn taken(&self) -> u64
         ensures { result ≡ bytes_taken self.now }
     {
-        self.held.taken
+        self.monitor.taken
     }
 
     /// Takes the next bytes of the capture, which are of one side and any number. The precondition is that `taken` and
@@ -87,14 +86,43 @@ impl Session {
         ensures under_way { OnOk result (IsUnderWayOf self.new.profile (pairs_of self.new) self.new.messages) }
         ensures wire { IfErr result (λ fault. Refuses self.new fault) }
     {
-        if let Some(fault) = self.closed {
-            return Err(fault);
+        let mut left = piece;
+        while !left.is_empty() && self.closed().is_none() {
+            let count = self.step(side, left);
+            left = left.split_at(count).1;
         }
-        if let Err(fault) = self.held.push(self.alloc, side, piece) {
-            self.closed = Some(fault);
-            return Err(fault);
+        match self.closed() {
+            Some(fault) => Err(fault),
+            None => Ok(()),
         }
-        Ok(())
+    }
+
+    // Takes a prefix of these bytes of a side, and states its length.
+    fn step(&mut self, side: Side, left: &[u8]) -> usize
+        requires open { self.old.closed ≡ None }
+        requires filled { 0 < length left.now }
+        requires fits { bytes_taken self.old + length left.now < 2 ^ 63 }
+        ensures within { result ≤ length left.now }
+        ensures some { self.new.closed ≡ None → 0 < result }
+        ensures profile { self.new.profile ≡ self.old.profile }
+        ensures adds { Adds (pairs_of self.old) (pairs_of self.new) self.old.messages self.new.messages side left.now
+            (drop result left.now) }
+    {
+        if self.log.reserve().is_err() {
+            self.monitor.closed = Some(SessionFault::Memory);
+            return 0;
+        }
+        let (count, message) = self.monitor.step(side, left);
+        self.log.add(side, count, message);
+        count
+    }
+
+    // Why it was closed, if it was.
+    fn closed(&self) -> Option<SessionFault>
+        ensures closed { result ≡ self.now.closed }
+        ensures complete { IsComplete self.now }
+    {
+        self.monitor.closed
     }
 
     /// The accepted messages, in the order of their completion.
@@ -103,7 +131,7 @@ impl Session {
         ensures run { IsOfRun self.now }
         ensures complete { IsComplete self.now }
     {
-        self.held.messages.as_slice()
+        self.log.messages.as_slice()
     }
 
     /// Ends the session; takes no memory.
@@ -115,19 +143,6 @@ impl Session {
         ensures fault { fault_of result ≡ fault_at_end self }
         ensures wire { IfErr result (λ fault. EndsIn self fault) }
     {
-        match self.fault() {
-            Some(fault) => Err(fault),
-            None => Ok(self.held.state.transcript()),
-        }
-    }
-
-    // The fault of a session that is to end.
-    fn fault(&self) -> Option<SessionFault>
-        ensures { result ≡ fault_at_end self.now }
-    {
-        match self.closed {
-            None => self.held.open_end(),
-            closed => closed,
-        }
+        self.monitor.finish()
     }
 }

@@ -1,24 +1,22 @@
 -- A piece of a side's bytes: how far it is taken at once, and what it adds.
-use Rattle.nbd_session.proofs.Common.{◌≡◌, ℕ, suc, ◌+◌, ◌<◌, ◌≤◌, List, [], ◌∷◌, ◌++◌, length, refl, sym, ◌∙◌, ap, subst, arith, append_assoc, append-nil, length-append, take, drop, slice_index_or, Fits, w8, length-map, length-take-le, take-append-drop, Message, Side, Client, Server, AreBytes, Pair, side_pairs, Stretch, mixture, SessionFault, Memory, Held, holding_of, incoming_of, incoming_with, IsCome, IsKnown, awaited, decided, stretches_of, IsFilled, Reader, get, Adds, AreKnown, Shows, AreStretchesOf, Holding, IsReadTo, held_pairs, rest_of, stretch_bytes, with_bytes, AddsHeld, HoldsRun, IsRefused, IsSame, IsShut, IsTaken, Stands, held_short, shown_length}
+use Rattle.nbd_session.proofs.Common.{◌≡◌, ℕ, suc, ◌+◌, ◌<◌, ◌≤◌, List, [], ◌∷◌, ◌++◌, length, refl, sym, ◌∙◌, ap, subst, arith, append_assoc, append-nil, length-append, take, slice_index_or, Fits, w8, length-map, length-take-le, Message, Side, Client, Server, AreBytes, Pair, side_pairs, Stretch, mixture, SessionFault, Memory, Monitor, Past, min, count_at_server, with_incoming, sent, holding_of, incoming_of, incoming_with, IsCome, IsKnown, awaited, decided, IsFilled, Option, Some, None, Reader, get, Adds, AreKnown, Shows, AreStretchesOf, Holding, IsReadTo, rest_of, stretch_bytes, with_bytes, HoldsRun, IsKept, IsKeptBy, IsTaken, Stands, held_short, shown_length}
 use Rattle.nbd_session.proofs.steps.KnownLemmas.{come_with}
 use Rattle.nbd_session.proofs.steps.HoldingLemmas.{rest_is}
+use Rattle.nbd_session.proofs.steps.TakenLemmas.{taken_count, taken_here, taken_holding, taken_open, taken_other, taken_state}
 use Rattle.nbd_session.proofs.pushed.OpenByteLemmas.{read_is_run_but}
 use Rattle.nbd_session.proofs.pushed.PushLemmas.{first_fits, left_stretches, sent-append}
-use Rattle.nbd_session.proofs.steps.StepLemmas.{held_of, pairs-taken}
+use Rattle.nbd_session.proofs.steps.StepLemmas.{held_of}
 
 -- the stretches' bytes are those of both sides
 pub length-mixed : (stretches : List Stretch) (client server : List ℕ) → AreStretchesOf stretches client server → length (mixture stretches client server) ≡ stretch_bytes Client stretches + stretch_bytes Server stretches
 length-mixed [] client server h = refl
 length-mixed (stretch ∷ stretches) client server h = grind (arith, length-map, length-take-le, first_fits, left_stretches, length-append, length-mixed stretches)
 
-pub total_fits : (held : Held) (s : Side) → Stands held → stretch_bytes s (stretches_of held.stretches.items) ≤ held.taken
-total_fits held s st = grind (arith, length-mixed)
-
 -- something is missing until the next length at which something is decided
-pub awaits_some : (held : Held) (s : Side) (n : ℕ) (st : Stands held) → length (rest_of (holding_of held) s) + n ≡ awaited st.reader s → 0 < n
-awaits_some held s n st is =
-    let short = (held_short (held_of (holding_of held) st.reader st.read_to s)).short in
-    let same : length (get st.reader.rests s).bytes ≡ length (rest_of (holding_of held) s) = ap length (st.read_to.rests_are s) in
+pub awaits_some : (held : Monitor) (past : Past) (s : Side) (n : ℕ) (st : Stands held past) → length (rest_of (holding_of held past) s) + n ≡ awaited st.reader s → 0 < n
+awaits_some held past s n st is =
+    let short = (held_short (held_of (holding_of held past) st.reader st.read_to s)).short in
+    let same : length (get st.reader.rests s).bytes ≡ length (rest_of (holding_of held past) s) = ap length (st.read_to.rests_are s) in
     omega (arith, short, same, is)
 
 are_bytes : (bytes : List ℕ) → ((i : ℕ) → Fits w8 (slice_index_or bytes i 0)) → AreBytes bytes
@@ -36,26 +34,28 @@ pub length-sent : (s : Side) (bytes : List ℕ) → length (side_pairs s bytes) 
 length-sent s bytes = length-map bytes (λ b. record { from = s; byte = b })
 
 -- the prefix of a piece was taken
-module _ (held taken : Held) (s : Side) (left : List ℕ) (count : ℕ) (st : Stands held) (some : 0 < count) (within : count ≤ length left)
-    (holding_is : holding_of taken ≡ with_bytes (holding_of held) s (take count left) (length held.state.exchanges.items)) where
-  counts : holding_of taken ≡ with_bytes (holding_of held) s (take count left) (length st.reader.core.entries)
-  counts = holding_is ∙ ap (with_bytes (holding_of held) s (take count left)) (sym (shown_length _ st.reader.core.entries held.state.exchanges.items st.shows.are_shown))
+module _ (held taken : Monitor) (past : Past) (s : Side) (left : List ℕ) (count : ℕ) (st : Stands held past) (some : 0 < count) (within : count ≤ length left)
+    (holding_is : holding_of taken (sent past s (take count left)) ≡ with_bytes (holding_of held past) s (take count left) (length held.state.exchanges.items)) where
+  counts : holding_of taken (sent past s (take count left)) ≡ with_bytes (holding_of held past) s (take count left) (length st.reader.core.entries)
+  counts = holding_is ∙ ap (with_bytes (holding_of held past) s (take count left)) (sym (shown_length _ st.reader.core.entries held.state.exchanges.items st.shows.are_shown))
 
-  pub pairs_added : held_pairs (holding_of taken) ≡ held_pairs (holding_of held) ++ side_pairs s (take count left)
-  pairs_added = ap held_pairs counts ∙ pairs-taken (holding_of held) s (take count left) (length st.reader.core.entries) st.read_to.are_stretches
+  taken_counts : taken.taken ≡ held.taken + length (take count left) → taken.taken ≡ length (past.pairs ++ side_pairs s (take count left))
+  taken_counts e =
+      let both = length-append past.pairs (side_pairs s (take count left)) in
+      let bytes = length-sent s (take count left) in
+      let before = st.taken_is in
+      omega (arith, e, both, bytes, before)
 
-  pub taken_counts : taken.taken ≡ held.taken + length (take count left) → taken.taken ≡ length (held_pairs (holding_of taken))
-  taken_counts e = grind (arith, pairs_added, length-append, length-sent)
-
-  pub is_taken : taken.state ≡ held.state → taken.taken ≡ held.taken + length (take count left) → ((i : ℕ) → Fits w8 (slice_index_or left i 0)) →
-      (n : ℕ) → length (rest_of (holding_of held) s) + n ≡ awaited st.reader s → count ≤ n →
-      incoming_of taken s ≡ incoming_with (incoming_of held s) (take count left) → ((u : Side) → (s ≡ u → ⊥) → incoming_of taken u ≡ incoming_of held u) → IsTaken taken s
-  is_taken state_is e fits n is up here others =
-      let same : length (get st.reader.rests s).bytes ≡ length (rest_of (holding_of held) s) = ap length (st.read_to.rests_are s) in
+  is_taken : taken.closed ≡ held.closed → taken.state ≡ held.state → taken.taken ≡ held.taken + length (take count left) → ((i : ℕ) → Fits w8 (slice_index_or left i 0)) →
+      (n : ℕ) → length (rest_of (holding_of held past) s) + n ≡ awaited st.reader s → count ≤ n →
+      incoming_of taken s ≡ incoming_with (incoming_of held s) (take count left) → ((u : Side) → (s ≡ u → ⊥) → incoming_of taken u ≡ incoming_of held u) → IsTaken taken s (sent past s (take count left))
+  is_taken unclosed state_is e fits n is up here others =
+      let same : length (get st.reader.rests s).bytes ≡ length (rest_of (holding_of held past) s) = ap length (st.read_to.rests_are s) in
       let len : length (take count left) ≡ count = length-take-le count left within in
       let up_to : length ((get st.reader.rests s).bytes ++ take count left) ≤ awaited st.reader s = omega (arith, up, is, same, len, length-append (get st.reader.rests s).bytes (take count left)) in
       record {
-        before = holding_of held;
+        unclosed = unclosed ∙ st.unclosed;
+        before = holding_of held past;
         reader = st.reader;
         read_to = st.read_to;
         more = take count left;
@@ -67,12 +67,20 @@ module _ (held taken : Held) (s : Side) (left : List ℕ) (count : ℕ) (st : St
         known = subst (λ state. AreKnown st.reader.known state.exchanges.items) (sym state_is) st.known;
         taken_is = taken_counts e;
         come = subst (IsCome (decided st.reader s) st.reader.core) (sym here)
-            (come_with (held_of (holding_of held) st.reader st.read_to s) (incoming_of held s) (sym (rest_is held s) ∙ sym (st.read_to.rests_are s)) (take count left) up_to (st.knows s));
+            (come_with (held_of (holding_of held past) st.reader st.read_to s) (incoming_of held s) (sym (rest_is held past s) ∙ sym (st.read_to.rests_are s)) (take count left) up_to (st.knows s));
         knows = λ u ne. subst (IsKnown (decided st.reader u) st.reader.core) (sym (others u ne)) (st.knows u);
       }
 
-  pub prefix_added : AddsHeld held taken s left (drop count left)
-  prefix_added = grind (arith, take-append-drop, pairs_added, append-nil)
+pub took : (held new : Monitor) (past : Past) (s : Side) (left : List ℕ) (missing count : ℕ) (st : Stands held past) → 0 < length left → ((i : ℕ) → Fits w8 (slice_index_or left i 0)) →
+    length (rest_of (holding_of held past) s) + missing ≡ awaited st.reader s → count ≡ min missing (length left) →
+    new ≡ record (with_incoming held s (incoming_with (incoming_of held s) (take count left))) { counted = new.counted; taken = held.taken + length (take count left) } →
+    new.counted ≡ count_at_server s held.server.head held.counted (length held.state.exchanges.items) → IsTaken new s (sent past s (take count left))
+took held new past s left missing count st filled fits up is_count is counted =
+    let some = awaits_some held past s missing st up in
+    let more = take count left in
+    is_taken held new past s left count st (omega (arith, some, filled, is_count)) (omega (arith, is_count)) (taken_holding held new past s more st is (length held.state.exchanges.items) counted)
+    (taken_open held new past s more st is) (taken_state held new past s more st is) (taken_count held new past s more st is) fits missing up (omega (arith, is_count))
+    (taken_here held new past s more st is) (taken_other held new past s more st is)
 
 -- a piece and what came of its rest
 pub added_then : (a b c : List Pair) (m n o : List Message) (s : Side) (piece left later : List ℕ) → Adds a b m n s piece left → Adds b c n o s left later → Adds a c m o s piece later
@@ -84,57 +92,43 @@ added_then a b c m n o s piece left later x y = record {
   has_messages = y.has_messages ∙ ap (λ ms. ms ++ y.more) x.has_messages ∙ append_assoc m x.more y.more;
 }
 
--- no byte and perhaps messages
-same_left : (a b : List Pair) (m n : List Message) (s : Side) (left : List ℕ) → Adds a b m n s [] [] → Adds a b m n s left left
-same_left a b m n s left x = record {
-  prefix = [];
-  more = x.more;
-  parts = refl;
-  has_pairs = x.has_pairs ∙ ap (λ l. a ++ side_pairs s l) (empty x.prefix x.parts);
-  has_messages = x.has_messages;
-}
-  where
-    empty : (prefix : List ℕ) → prefix ++ [] ≡ [] → prefix ≡ []
-    empty [] e = refl
-    empty (b ∷ bytes) e = absurd (cc)
-
-pub settled_added : (held taken new : Held) (s : Side) (piece left : List ℕ) → AddsHeld held taken s piece left → IsSame taken new → AddsHeld held new s piece left
-settled_added held taken new s piece left x same =
-    added_then (held_pairs (holding_of held)) (held_pairs (holding_of taken)) (held_pairs (holding_of new)) held.messages.items taken.messages.items new.messages.items s piece left left x
-    (same_left (held_pairs (holding_of taken)) (held_pairs (holding_of new)) taken.messages.items new.messages.items s left (same.adds s))
-
 -- what the reader has read is of a run
 pub read_run : (h : Holding) (reader : Reader) → IsReadTo h reader → HoldsRun h
 read_run h reader read =
-    let r = read_is_run_but (held_pairs h) reader h.messages h.client h.server read.are_pairs read.reads_it read.messages_are (read.rests_are Client) (read.rests_are Server) in
+    let r = read_is_run_but h.past.pairs reader h.past.messages h.client h.server read.are_pairs read.reads_it read.messages_are (read.rests_are Client) (read.rests_are Server) in
     record { items = r.0; is_run = r.1; has_pairs = r.2; has_messages = r.3 }
 
-pub standing_run : (held : Held) → Stands held → HoldsRun (holding_of held)
-standing_run held st = read_run (holding_of held) st.reader st.read_to
+pub standing_run : (held : Monitor) (past : Past) → Stands held past → HoldsRun (holding_of held past)
+standing_run held past st = read_run (holding_of held past) st.reader st.read_to
 
--- memory ran out before a byte was taken
-pub refused_memory : (held new : Held) (s : Side) (piece : List ℕ) → Stands held → holding_of new ≡ holding_of held → new.taken ≡ held.taken → IsRefused held new s piece Memory
-refused_memory held new s piece st holding same = record {
-  left = piece;
-  adds = record {
-    prefix = [];
-    more = [];
-    parts = refl;
-    has_pairs = ap held_pairs holding ∙ sym (append-nil (held_pairs (holding_of held)));
-    has_messages = ap (λ h. h.messages) holding ∙ sym (append-nil held.messages.items);
-  };
-  shut = grind (arith, standing_run);
-  profile_is = ap (λ (h : Holding). h.profile) holding;
-}
+-- one that stands is kept
+pub kept : (held : Monitor) (past : Past) → Stands held past → IsKept held past
+kept held past st = subst (λ c. IsKeptBy c held past) (sym st.unclosed) st
 
-pub refused_settling : (held taken new : Held) (s : Side) (piece left : List ℕ) (fault : SessionFault) → taken.state.profile ≡ held.state.profile → AddsHeld held taken s piece left → IsSame taken new → IsShut new fault → IsRefused held new s piece fault
-refused_settling held taken new s piece left fault p x same shut = record { left = left; adds = settled_added held taken new s piece left x same; shut = shut; profile_is = same.profile_is ∙ p }
+-- one that is kept and not closed stands
+pub stands_open : (held : Monitor) (past : Past) → IsKept held past → held.closed ≡ None → Stands held past
+stands_open held past k unclosed = subst (λ c. IsKeptBy c held past) unclosed k
 
--- a refusal after a prefix that was taken
-pub refused_then : (held mid new : Held) (s : Side) (piece left : List ℕ) (fault : SessionFault) → mid.state.profile ≡ held.state.profile → AddsHeld held mid s piece left → IsRefused mid new s left fault → IsRefused held new s piece fault
-refused_then held mid new s piece left fault p x r = record {
-  left = r.left;
-  adds = added_then (held_pairs (holding_of held)) (held_pairs (holding_of mid)) (held_pairs (holding_of new)) held.messages.items mid.messages.items new.messages.items s piece left r.left x r.adds;
-  shut = r.shut;
-  profile_is = r.profile_is ∙ p;
-}
+-- what is kept is of a run
+pub kept_run : (held : Monitor) (past : Past) → IsKept held past → HoldsRun (holding_of held past)
+kept_run held past k = go held.closed k
+  where
+    go : (c : Option SessionFault) → IsKeptBy c held past → HoldsRun (holding_of held past)
+    go None st = standing_run held past st
+    go (Some fault) shut = shut.run
+
+-- so many bytes were taken
+pub kept_taken : (held : Monitor) (past : Past) → IsKept held past → held.taken ≡ length past.pairs
+kept_taken held past k = go held.closed k
+  where
+    go : (c : Option SessionFault) → IsKeptBy c held past → held.taken ≡ length past.pairs
+    go None st = st.taken_is
+    go (Some fault) shut = shut.taken_is
+
+-- memory ran out where it stands
+pub closed_memory : (held : Monitor) (past : Past) → Stands held past → IsKept (record held { closed = Some Memory }) past
+closed_memory held past st = record { run = standing_run held past st; taken_is = st.taken_is; cause = tt }
+
+-- no byte is sent
+pub sent_nothing : (past : Past) (s : Side) → sent past s [] ≡ past
+sent_nothing past s = ap (λ ps. record { pairs = ps; messages = past.messages }) (append-nil past.pairs)

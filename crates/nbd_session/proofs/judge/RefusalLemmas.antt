@@ -1,11 +1,11 @@
 -- What a refusal says of the runs with a session's bytes.
-use Rattle.nbd_session.proofs.Common.{◌≡◌, ℕ, ◌+◌, ◌<◌, ◌≤◌, List, [], ◌∷◌, ◌++◌, length, refl, sym, ◌∙◌, ap, subst, arith, append_assoc, append-nil, length-append, inl, inr, Option, Some, None, Result, Ok, Err, Profile, Client, Server, Side, Message, Item, Completes, completed_messages, pairs, Pair, ArePairs, side_pairs, bytes_of, bytes_from, CompletesExactlyOf, IsOfNoRunOf, WireFault, Unfinished, AreHeld, awaited_length, IsFilled, Reader, fresh_of, get, old_of, on_ok, reads, step, by_tests, IsRead, marks_law, SessionFault, Memory, Wire, Held, holding_of, IsUnderWayOf, read_no_place, EndsIn, IsAcceptedOf, IsComplete, IsOpenEndOf, IsRefusalOf, IsWireFaultOf, LeavesOpen, Refuses, HasRunOf, SessionView, fault_at_end, pairs_of, open_end_fault, Holding, IsReadTo, held_pairs, with_bytes, IsKept, IsShut, Stands, bytes_come, session_view, reads_below, extended, reads-append, with_rest, exact, none_refused, AreBytesOf, run_bytes}
+use Rattle.nbd_session.proofs.Common.{◌≡◌, ℕ, ◌+◌, ◌<◌, ◌≤◌, List, [], ◌∷◌, ◌++◌, length, refl, sym, ◌∙◌, ap, subst, arith, append_assoc, append-nil, length-append, inl, inr, Option, Some, None, Result, Ok, Err, Profile, Client, Server, Side, Message, Item, Completes, completed_messages, pairs, Pair, ArePairs, side_pairs, bytes_of, bytes_from, CompletesExactlyOf, IsOfNoRunOf, WireFault, Unfinished, AreHeld, awaited_length, IsFilled, Reader, fresh_of, get, old_of, on_ok, reads, step, by_tests, IsRead, marks_law, SessionFault, Memory, Wire, Monitor, Past, Follows, past_of, IsUnderWayOf, read_no_place, EndsIn, IsAcceptedOf, IsComplete, IsOpenEndOf, IsRefusalOf, IsWireFaultOf, LeavesOpen, Refuses, IsCompleteBy, HasRunOf, IsOfRun, SessionView, bytes_taken, end_by, fault_at_end, pairs_of, open_end_fault, Holding, IsReadTo, with_bytes, IsKeptBy, Stands, bytes_come, reads_below, extended, reads-append, with_rest, exact, none_refused, AreBytesOf, run_bytes}
 use Rattle.nbd_wire.specs.protocol.Within.{within}
 use Rattle.nbd_wire.specs.protocol.Places.{IsPlaceOf}
-use Rattle.nbd_session.proofs.judge.PieceLemmas.{standing_run}
+use Rattle.nbd_session.proofs.judge.PieceLemmas.{kept_run}
 use Rattle.nbd_session.proofs.pushed.OpenByteLemmas.{loose_is, read_holds}
 use Rattle.nbd_session.proofs.pushed.PushLemmas.{sent-append}
-use Rattle.nbd_session.proofs.steps.StepLemmas.{held_of, pairs-taken}
+use Rattle.nbd_session.proofs.steps.StepLemmas.{held_of}
 
 -- the last of some bytes, and those before it
 record HasLast (bytes : List ℕ) : Type 0 where
@@ -44,23 +44,22 @@ are_prefix (p ∷ ps) qs a = (a.0, are_prefix ps qs a.1)
 
 -- bytes of a side that were taken and refused
 module _ (h : Holding) (reader : Reader) (r : IsReadTo h reader) (s : Side) (more : List ℕ) (entries : ℕ) (filled : IsFilled more)
-    (are_pairs : ArePairs (held_pairs (with_bytes h s more entries)))
+    (are_pairs : ArePairs (with_bytes h s more entries).past.pairs)
     (up_to : length ((get reader.rests s).bytes ++ more) ≤ awaited_length (old_of reader.core (get reader.rests s)) reader.core s (get reader.rests s).bytes) where
-  pub stopped : (fault : WireFault) → reads by_tests (fresh_of h.profile) (held_pairs (with_bytes h s more entries)) ≡ Err fault → IsPlaceOf h.profile (held_pairs (with_bytes h s more entries)) h.messages fault
+  pub stopped : (fault : WireFault) → reads by_tests (fresh_of h.profile) (with_bytes h s more entries).past.pairs ≡ Err fault → IsPlaceOf h.profile (with_bytes h s more entries).past.pairs h.past.messages fault
   stopped fault e =
       let l : HasLast more = some_last more filled in
       let last : Pair = record { from = s; byte = l.last } in
       let longer : length ((get reader.rests s).bytes ++ more) ≡ length ((get reader.rests s).bytes ++ l.before) + 1 =
       ap (λ bs. length ((get reader.rests s).bytes ++ bs)) l.parts ∙ ap length (sym (append_assoc (get reader.rests s).bytes l.before (l.last ∷ []))) ∙ length-append ((get reader.rests s).bytes ++ l.before) (l.last ∷ []) in
       let g : GoesTo reader s l.before = goes_to reader s l.before (held_of h reader r) (omega (arith, longer, up_to)) in
-      let prefix : List Pair = held_pairs h ++ side_pairs s l.before in
-      let parts : held_pairs (with_bytes h s more entries) ≡ prefix ++ last ∷ [] =
-      pairs-taken h s more entries r.are_stretches
-      ∙ ap (λ bs. held_pairs h ++ side_pairs s bs) l.parts
-      ∙ ap (λ ps. held_pairs h ++ ps) (sent-append s l.before (l.last ∷ []))
-      ∙ sym (append_assoc (held_pairs h) (side_pairs s l.before) (last ∷ [])) in
+      let prefix : List Pair = h.past.pairs ++ side_pairs s l.before in
+      let parts : h.past.pairs ++ side_pairs s more ≡ prefix ++ last ∷ [] =
+      ap (λ bs. h.past.pairs ++ side_pairs s bs) l.parts
+      ∙ ap (λ ps. h.past.pairs ++ ps) (sent-append s l.before (l.last ∷ []))
+      ∙ sym (append_assoc h.past.pairs (side_pairs s l.before) (last ∷ [])) in
       let prefix_is : reads by_tests (fresh_of h.profile) prefix ≡ Ok g.next =
-      reads-append by_tests (fresh_of h.profile) (held_pairs h) (side_pairs s l.before) ∙ ap (λ o. on_ok o (λ next. reads by_tests next (side_pairs s l.before))) r.reads_it ∙ g.reads_it in
+      reads-append by_tests (fresh_of h.profile) h.past.pairs (side_pairs s l.before) ∙ ap (λ o. on_ok o (λ next. reads by_tests next (side_pairs s l.before))) r.reads_it ∙ g.reads_it in
       let refused : on_ok (step by_tests g.next last.from last.byte) (λ next. Ok next) ≡ Err fault =
       sym (ap (λ o. on_ok o (λ next. reads by_tests next (last ∷ []))) prefix_is)
       ∙ sym (reads-append by_tests (fresh_of h.profile) prefix (last ∷ []))
@@ -106,17 +105,12 @@ refusal {profile} ps messages fault st = record {
     refused : reads by_tests (fresh_of profile) ps ≡ Err fault
     refused = grind (arith, reads-append)
 
--- a session that answers a fault was refused
-pub refuses : (held : Held) (fault : SessionFault) → IsShut held fault → Refuses (session_view held (Some fault)) fault
-refuses held Memory shut = tt
-refuses held (Wire at fault) shut = (shut.cause.0 ∙ shut.taken_is, refusal (held_pairs (holding_of held)) held.messages.items fault shut.cause.1)
-
--- a session under way was taken without a fault
-pub stands_accepted : (held : Held) (closed : Option SessionFault) → Stands held → IsAcceptedOf held.state.profile (pairs_of (session_view held closed)) held.messages.items
-stands_accepted held closed st = record {
+-- what was taken without a fault
+pub stands_accepted : (held : Monitor) (past : Past) → Stands held past → IsAcceptedOf held.state.profile past.pairs past.messages
+stands_accepted held past st = record {
   under_way = record { are_pairs = st.read_to.are_pairs; end = st.reader; reads_it = st.read_to.reads_it; has_messages = st.read_to.messages_are };
   placeless = λ prefix rest messages fault parts. read_no_place prefix rest st.reader (ap (reads by_tests (fresh_of held.state.profile)) parts ∙ st.read_to.reads_it) messages fault;
-  all = completes_exactly (held_pairs (holding_of held)) st.reader held.messages.items st.read_to.are_pairs st.read_to.reads_it st.read_to.messages_are;
+  all = completes_exactly past.pairs st.reader past.messages st.read_to.are_pairs st.read_to.reads_it st.read_to.messages_are;
 }
 
 within_all : (items : List Item) → within (length (pairs items)) items ≡ completed_messages items
@@ -150,53 +144,67 @@ open_end_of {profile} ps messages client server has accepted some = record { acc
           loose_is Server has.items ps messages server [] has.has_pairs has.has_messages there.of_server (ap (bytes_from Server) (sym is) ∙ here.of_server ∙ ap (λ ms. bytes_of Server ms ++ []) are),
         )
 
-unfinished_end : (held : Held) → Stands held → (client server : List ℕ) → (bytes_come held.client) ≡ client → (bytes_come held.server) ≡ server → (at : ℕ) (fault : SessionFault) →
-    at ≡ length (held_pairs (holding_of held)) → open_end_fault client server at ≡ Some fault → EndsIn (session_view held None) fault
-unfinished_end held st client server c s at Memory n e = grind arith
-unfinished_end held st client server c s at (Wire place fault) n e =
-    let is = some_unfinished client server e in
-    inr (
-      sym is.0,
-      sym is.1 ∙ n,
-      open_end_of (held_pairs (holding_of held)) held.messages.items (bytes_come held.client) (bytes_come held.server) (standing_run held st) (stands_accepted held None st)
-          (λ none. is.2 (sym c ∙ none.0, sym s ∙ none.1)),
-    )
+-- what a session that is followed was refused for, or that it was not
+pub is_complete : (held : Monitor) (r : SessionView) → Follows held r → IsComplete r
+is_complete held r f = subst (λ c. IsCompleteBy c r) f.closed_is (go held.closed f.kept)
   where
-    some_unfinished : (client server : List ℕ) → open_end_fault client server at ≡ Some (Wire place fault) → (Unfinished ≡ fault) × (at ≡ place) × ((client ≡ []) × (server ≡ []) → ⊥)
-    some_unfinished [] [] e = absurd (let q : None ≡ Some (Wire place fault) = e in cc)
-    some_unfinished (b ∷ client) server e = ((cc), (cc), λ none. (let q : b ∷ client ≡ [] = none.0 in cc))
-    some_unfinished [] (b ∷ server) e = ((cc), (cc), λ none. (let q : b ∷ server ≡ [] = none.1 in cc))
+    go : (c : Option SessionFault) → IsKeptBy c held (past_of r) → IsCompleteBy c r
+    go None st = subst (λ p. IsAcceptedOf p (pairs_of r) r.messages) f.profile_is (stands_accepted held (past_of r) st)
+    go (Some Memory) shut = tt
+    go (Some (Wire at fault)) shut = (
+      shut.cause.0 ∙ shut.taken_is,
+      subst (λ p. IsRefusalOf p (pairs_of r) r.messages fault) f.profile_is (refusal (pairs_of r) r.messages fault shut.cause.1),
+    )
+
+-- some run has its bytes and messages
+pub is_of_run : (held : Monitor) (r : SessionView) → Follows held r → IsOfRun r
+is_of_run held r f =
+    subst (λ p. HasRunOf p (pairs_of r) r.messages r.client r.server) f.profile_is
+    (subst (λ c. HasRunOf held.state.profile (pairs_of r) r.messages c r.server) f.client_is
+    (subst (λ v. HasRunOf held.state.profile (pairs_of r) r.messages (bytes_come held.client) v) f.server_is (kept_run held (past_of r) f.kept)))
+
+some_unfinished : (client server : List ℕ) (at place : ℕ) (fault : WireFault) → open_end_fault client server at ≡ Some (Wire place fault) → (Unfinished ≡ fault) × (at ≡ place) × ((client ≡ []) × (server ≡ []) → ⊥)
+some_unfinished [] [] at place fault e = absurd (let q : None ≡ Some (Wire place fault) = e in cc)
+some_unfinished (b ∷ client) server at place fault e = ((cc), (cc), λ none. (let q : b ∷ client ≡ [] = none.0 in cc))
+some_unfinished [] (b ∷ server) at place fault e = ((cc), (cc), λ none. (let q : b ∷ server ≡ [] = none.1 in cc))
+
+unfinished_end : (r : SessionView) → IsOfRun r → IsAcceptedOf r.profile (pairs_of r) r.messages → (fault : SessionFault) → open_end_fault r.client r.server (bytes_taken r) ≡ Some fault → EndsIn r fault
+unfinished_end r run accepted Memory e = tt
+unfinished_end r run accepted (Wire place fault) e =
+    let is = some_unfinished r.client r.server (bytes_taken r) place fault e in
+    inr (sym is.0, sym is.1, open_end_of (pairs_of r) r.messages r.client r.server run accepted is.2)
 
 -- why a session ends in a fault
-pub ends_in : (held : Held) (closed : Option SessionFault) → IsKept held closed → (fault : SessionFault) → fault_at_end (session_view held closed) ≡ Some fault → EndsIn (session_view held closed) fault
-ends_in held (Some (Wire at fault)) shut other e =
-    subst (EndsIn (session_view held (Some (Wire at fault)))) (let q : Wire at fault ≡ other = cc in q)
-    (inl (record {
-      prefix = held_pairs (holding_of held);
-      rest = [];
-      parts = append-nil (held_pairs (holding_of held));
-      at_is = shut.cause.0 ∙ shut.taken_is;
-      refusal = refusal (held_pairs (holding_of held)) held.messages.items fault shut.cause.1;
-    }))
-ends_in held closed st fault e = grind (arith, unfinished_end, append-nil, refusal)
+pub ends : (held : Monitor) (r : SessionView) → Follows held r → (fault : SessionFault) → fault_at_end r ≡ Some fault → EndsIn r fault
+ends held r f fault e = go r.closed refl (is_complete held r f)
+  where
+    refused : (other : SessionFault) → Refuses r other → EndsIn r other
+    refused Memory why = tt
+    refused (Wire at fault) why = inl (record { prefix = pairs_of r; rest = []; parts = append-nil (pairs_of r); at_is = why.0; refusal = why.1 })
 
-pub ends : (held : Held) (closed : Option SessionFault) (r : SessionView) (fault : SessionFault) → IsKept held closed → session_view held closed ≡ r → fault_at_end r ≡ Some fault → EndsIn r fault
-ends held closed r fault kept same e = subst (λ x. EndsIn x fault) same (ends_in held closed kept fault (ap fault_at_end same ∙ e))
+    go : (c : Option SessionFault) → r.closed ≡ c → IsCompleteBy c r → EndsIn r fault
+    go None unclosed accepted = unfinished_end r (is_of_run held r f) accepted fault (sym (ap (λ c. end_by c (open_end_fault r.client r.server (bytes_taken r))) unclosed) ∙ e)
+    go (Some other) closed why =
+        let now : fault_at_end r ≡ Some other = ap (λ c. end_by c (open_end_fault r.client r.server (bytes_taken r))) closed in
+        let is : other ≡ fault = (let q : Some other ≡ Some fault = sym now ∙ e in cc) in
+        subst (EndsIn r) is (refused other why)
 
 -- where it ends in none it stands, and no message is open
-pub ends_well : (held : Held) (closed : Option SessionFault) (r : SessionView) → IsKept held closed → session_view held closed ≡ r → fault_at_end r ≡ None → Stands held × (bytes_come held.client ≡ []) × (bytes_come held.server ≡ [])
-ends_well held closed r kept same e = grind arith
-
--- a closed session refuses again
-pub refuses_again : (held : Held) (closed : Option SessionFault) (r : SessionView) (fault : SessionFault) → IsKept held closed → session_view held closed ≡ r → closed ≡ Some fault → Refuses r fault
-refuses_again held closed r fault kept same is = grind (arith, refuses)
-
-pub is_complete : (held : Held) (closed : Option SessionFault) (r : SessionView) → IsKept held closed → session_view held closed ≡ r → IsComplete r
-is_complete held closed r kept same = subst IsComplete same (go closed kept)
+pub ends_well : (held : Monitor) (r : SessionView) → Follows held r → fault_at_end r ≡ None → Stands held (past_of r) × (r.client ≡ []) × (r.server ≡ [])
+ends_well held r f e = go held.closed refl f.kept
   where
-    go : (closed : Option SessionFault) → IsKept held closed → IsComplete (session_view held closed)
-    go None st = stands_accepted held None st
-    go (Some fault) shut = refuses held fault shut
+    none_open : (client server : List ℕ) (at : ℕ) → open_end_fault client server at ≡ None → (client ≡ []) × (server ≡ [])
+    none_open [] [] at e = (refl, refl)
+    none_open (b ∷ client) server at e = absurd (cc)
+    none_open [] (b ∷ server) at e = absurd (cc)
+
+    go : (c : Option SessionFault) → held.closed ≡ c → IsKeptBy c held (past_of r) → Stands held (past_of r) × (r.client ≡ []) × (r.server ≡ [])
+    go None unclosed st =
+        let parts = none_open r.client r.server (bytes_taken r) (sym (ap (λ c. end_by c (open_end_fault r.client r.server (bytes_taken r))) (sym f.closed_is ∙ unclosed)) ∙ e) in
+        (st, parts.0, parts.1)
+    go (Some fault) closed shut =
+        let now : fault_at_end r ≡ Some fault = ap (λ c. end_by c (open_end_fault r.client r.server (bytes_taken r))) (sym f.closed_is ∙ closed) in
+        absurd (let q : None ≡ Some fault = sym e ∙ now in cc)
 
 -- a capture with a wire fault has no run
 pub no_run_of : {profile : Profile} (capture : List Pair) (messages : List Message) (at : ℕ) (fault : WireFault) → IsWireFaultOf profile capture messages at fault → IsOfNoRunOf profile capture

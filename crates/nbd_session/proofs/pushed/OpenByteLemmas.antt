@@ -111,7 +111,7 @@ completed_more (Completes t m ∷ items) s bs = ap (λ l. m ∷ l) (completed_mo
 completed_more (item ∷ items) s bs = completed_more items s bs
 
 -- more bytes of a side come after its rest
-from_more : (s : Side) (ps : List Pair) (messages : List Message) (client server more : List ℕ) → ((u : Side) → bytes_from u ps ≡ bytes_of u messages ++ of_two u client server) →
+pub from_more : (s : Side) (ps : List Pair) (messages : List Message) (client server more : List ℕ) → ((u : Side) → bytes_from u ps ≡ bytes_of u messages ++ of_two u client server) →
     (u : Side) → bytes_from u (ps ++ side_pairs s more) ≡ bytes_of u messages ++ of_two u (with_more s Client more client) (with_more s Server more server)
 from_more s ps messages client server more h u = grind (arith, from-append, from-sent_same, append_assoc, from-client_sent, append-nil, from-server_sent)
 

@@ -1,7 +1,7 @@
 -- What a session that ends states is the report of the runs with its bytes.
-use Rattle.nbd_session.proofs.Common.{SessionFault, ◌≡◌, ℕ, suc, ◌+◌, List, [], ◌∷◌, map, refl, sym, ◌∙◌, ap, subst, arith, Option, Some, None, slice_get, Item, pairs, report, asked_of, asked_list, Operation, Exporting, IsRunOf, IsRunBut, Core, Shown, export_in, Exchange, Held, State, holding_of, IsReported, IsShown, AreKnown, AreShown, known_if, Shows, ended_if, shown_if, shown_in, IsSoundReport, held_pairs, HoldsRun, Stands, bytes_come, session_view, report_of_request, export_of, transcript_report, reports_are_sound}
+use Rattle.nbd_session.proofs.Common.{◌≡◌, ℕ, suc, ◌+◌, List, [], ◌∷◌, map, refl, sym, ◌∙◌, ap, subst, arith, Option, Some, None, slice_get, Item, pairs, report, asked_of, asked_list, Operation, Exporting, IsRunOf, IsRunBut, Core, Shown, export_in, Exchange, Follows, Monitor, State, past_of, IsOfRun, IsReported, SessionView, pairs_of, IsShown, AreKnown, AreShown, known_if, Shows, ended_if, shown_if, shown_in, IsSoundReport, Stands, report_of_request, export_of, transcript_report, reports_are_sound}
 use Rattle.nbd_laws.proofs.reading.NotedLemmas.{read_report, report_by}
-use Rattle.nbd_session.proofs.judge.PieceLemmas.{standing_run}
+use Rattle.nbd_session.proofs.judge.RefusalLemmas.{is_of_run}
 
 one_told : (export : Exporting) (e : Operation) (x : Exchange) (known : Option ℕ) (shown : List Shown) (ended : Option ℕ) → IsShown export e x → x.asked.known_at ≡ known → shown_in x.asked ≡ shown → x.asked.ended_at ≡ ended →
     report_of_request x.asked ≡ asked_of (Some export) known shown ended e
@@ -39,22 +39,25 @@ all_told n core export q known es xs s h = absurd s
 told_by : (state : State) (core : Core) (noted : ℕ → Option ℕ) → Shows state core → AreKnown noted state.exchanges.items → transcript_report (export_of state.phase) state.exchanges.items ≡ report_by core noted
 told_by state core noted shows known = grind (arith, all_told)
 
-module _ (held : Held) (st : Stands held) (client : (bytes_come held.client) ≡ []) (server : (bytes_come held.server) ≡ []) where
+module _ (held : Monitor) (r : SessionView) (f : Follows held r) (st : Stands held (past_of r)) (client : r.client ≡ []) (server : r.server ≡ []) where
   -- any run with these bytes has what is told as its report
-  told_of : (items : List Item) → IsRunOf held.state.profile items → pairs items ≡ held_pairs (holding_of held) → report items ≡ transcript_report (export_of held.state.phase) held.state.exchanges.items
-  told_of items run has = grind (arith, read_report, told_by)
+  told_of : (items : List Item) → IsRunOf r.profile items → pairs items ≡ pairs_of r → report items ≡ transcript_report (export_of held.state.phase) held.state.exchanges.items
+  told_of items run has = told_as items (subst (λ p. IsRunOf p items) (sym f.profile_is) run) has
+    where
+      told_as : (items : List Item) → IsRunOf held.state.profile items → pairs items ≡ pairs_of r → report items ≡ transcript_report (export_of held.state.phase) held.state.exchanges.items
+      told_as items run has = grind (arith, read_report, told_by)
 
-  whole_run : (run : HoldsRun (holding_of held)) → IsRunOf held.state.profile run.items
-  whole_run run = subst (λ c. IsRunBut held.state.profile run.items c []) client (subst (λ s. IsRunBut held.state.profile run.items (bytes_come held.client) s) server run.is_run)
+  whole_run : (run : IsOfRun r) → IsRunOf r.profile run.items
+  whole_run run = subst (λ c. IsRunBut r.profile run.items c []) client (subst (λ s. IsRunBut r.profile run.items r.client s) server run.is_run)
 
   pub sound_told : IsSoundReport (transcript_report (export_of held.state.phase) held.state.exchanges.items)
   sound_told =
-      let run = standing_run held st in
-      subst IsSoundReport (told_of run.items (whole_run run) run.has_pairs) (reports_are_sound held.state.profile run.items (whole_run run))
+      let run = is_of_run held r f in
+      subst IsSoundReport (told_of run.items (whole_run run) run.has_pairs) (reports_are_sound r.profile run.items (whole_run run))
 
-  pub reported : (closed : Option SessionFault) → IsReported (session_view held closed) (transcript_report (export_of held.state.phase) held.state.exchanges.items)
-  reported closed =
-      let run = standing_run held st in
+  pub reported : IsReported r (transcript_report (export_of held.state.phase) held.state.exchanges.items)
+  reported =
+      let run = is_of_run held r f in
       record {
         items = run.items;
         is_run = whole_run run;

@@ -1,18 +1,18 @@
 -- A whole message is accepted.
-use Rattle.nbd_session.proofs.Common.{arith, ◌≡◌, List, [], ◌∷◌, ◌++◌, length, refl, sym, ◌∙◌, ap, subst, inl, inr, append-nil, Message, Side, Client, Server, MayComplete, complete, IsSendable, Memory, Held, Exchange, decision, Reader, Rest, Whole, get, old_of, State, MayTake, bytes_come, nothing_come, holding_of, incoming_of, IsKnown, decided, stretches_of, IsReached, at_once, behind, get-put_other, get-put_same, reached_of, same_or_not, AreKnown, Shows, Holding, IsReadTo, count_at_server, held_pairs, rest_of, with_bytes, HoldsRun, IsSame, IsShut, IsTaken, Stands, asks_only, noted, is_reply_to, is_this, suc, unnoted}
+use Rattle.nbd_session.proofs.Common.{◌≡◌, List, [], length, refl, sym, ◌∙◌, ap, subst, inl, inr, Some, None, Message, Side, Client, Server, MayComplete, complete, IsSendable, Memory, Monitor, Past, Exchange, decision, Reader, Rest, Whole, get, old_of, State, MayTake, bytes_come, nothing_come, holding_of, incoming_of, IsKnown, decided, IsReached, at_once, behind, get-put_other, get-put_same, reached_of, same_or_not, AreKnown, Shows, Holding, IsReadTo, completed, count_at_server, rest_of, with_bytes, HoldsRun, IsShut, IsTaken, Stands, asks_only, noted, is_reply_to, is_this, suc, unnoted}
 use Rattle.nbd_session.proofs.judge.PieceLemmas.{read_run}
 use Rattle.nbd_session.proofs.reports.CountLemmas.{count_of}
 use Rattle.nbd_session.proofs.steps.HoldingLemmas.{rest_is}
 use Rattle.nbd_session.proofs.steps.KnownLemmas.{known_stays, nothing_known}
 use Rattle.nbd_session.proofs.steps.SettleLemmas.{IsRead, says_so}
-use Rattle.nbd_session.proofs.steps.StepLemmas.{IsWholeTaken, count_at, reader_behind, held_of, pairs-message, whole_taken, with_message, profile_message}
+use Rattle.nbd_session.proofs.steps.StepLemmas.{IsWholeTaken, count_at, reader_behind, held_of, whole_taken, with_message}
 
-module _ (held : Held) (s : Side) (t : IsTaken held s) (m : Message) (whole : IsRead held s t (Whole m)) where
+module _ (held : Monitor) (s : Side) (past : Past) (t : IsTaken held s past) (m : Message) (whole : IsRead held s past t (Whole m)) where
   abbrev after : Holding
   after = with_bytes t.before s t.more (length t.reader.core.entries)
 
   pub is_taken : IsWholeTaken t.before t.reader s after m
-  is_taken = whole_taken t.before t.reader t.read_to s t.more t.filled t.are_bytes t.up_to m (says_so held s t (Whole m) whole)
+  is_taken = whole_taken t.before t.reader t.read_to s t.more t.filled t.are_bytes t.up_to m (says_so held s past t (Whole m) whole)
 
   pub reached : IsReached t.reader.core
   reached = reached_of (held_of t.before t.reader t.read_to s)
@@ -36,25 +36,18 @@ module _ (held : Held) (s : Side) (t : IsTaken held s) (m : Message) (whole : Is
               ∙ count_at t.before.server t.reader.rests.server t.reader.core t.before.counted (t.read_to.rests_are Server) t.read_to.count_is
               ∙ sym (ap (λ u. count_of t.reader.core (get t.reader.rests u)) e)
 
-  pub holding_after : (new : Held) → holding_of new ≡ with_message (holding_of held) s m → holding_of new ≡ with_message after s m
+  pub holding_after : (new : Monitor) → holding_of new (completed past (Some m)) ≡ with_message (holding_of held past) s m → holding_of new (completed past (Some m)) ≡ with_message after s m
   holding_after new holding = holding ∙ ap (λ h. with_message h s m) t.holding_is
-
-  pub pairs_after : held_pairs (with_message after s m) ≡ held_pairs after
-  pairs_after = pairs-message after s m is_taken.at.encodes is_taken.at.sided
-
-  -- the message is one of those that complete, and its bytes are as they were
-  pub same_but_message : (new : Held) → holding_of new ≡ with_message (holding_of held) s m → new.messages.items ≡ held.messages.items ++ m ∷ [] → new.taken ≡ held.taken → IsSame held new
-  same_but_message new holding e same = grind (arith, holding_after, pairs_after, append-nil, profile_message)
 
   -- it is taken where the session stands
   pub may_take : (state : State) → state ≡ held.state → MayTake state m
   may_take state same = record { core = t.reader.core; reached = reached; shows = subst (λ state. Shows state t.reader.core) (sym same) t.shows; completes = is_taken.at.completes }
 
   -- memory ran out after it was accepted
-  pub accepted_shut : (new : Held) → holding_of new ≡ with_message (holding_of held) s m → new.taken ≡ held.taken → IsShut new Memory
+  pub accepted_shut : (new : Monitor) → holding_of new (completed past (Some m)) ≡ with_message (holding_of held past) s m → new.taken ≡ held.taken → IsShut new (completed past (Some m)) Memory
   accepted_shut new holding same = record {
     run = subst HoldsRun (sym (holding_after new holding)) (read_run (with_message after s m) _ is_taken.read_to);
-    taken_is = same ∙ t.taken_is ∙ ap (λ h. length (held_pairs h)) t.holding_is ∙ sym (ap length pairs_after) ∙ sym (ap (λ h. length (held_pairs h)) (holding_after new holding));
+    taken_is = same ∙ t.taken_is;
     cause = tt;
   }
 
@@ -64,7 +57,7 @@ module _ (held : Held) (s : Side) (t : IsTaken held s) (m : Message) (whole : Is
   abbrev next : Rest
   next = record { bytes = []; since = old_of t.reader.core (get t.reader.rests s) }
 
-  known_after : (new : Held) → incoming_of new s ≡ nothing_come → ((u : Side) → (s ≡ u → ⊥) → incoming_of new u ≡ incoming_of held u) → (u : Side) → IsKnown (decided reader u) reader.core (incoming_of new u)
+  known_after : (new : Monitor) → incoming_of new s ≡ nothing_come → ((u : Side) → (s ≡ u → ⊥) → incoming_of new u ≡ incoming_of held u) → (u : Side) → IsKnown (decided reader u) reader.core (incoming_of new u)
   known_after new empty others u = elim (same_or_not s u) [
     | inl e ↦ subst (λ v. IsKnown (decided reader v) reader.core (incoming_of new v)) e
         (subst (λ (r : Rest). IsKnown (decision reader.core.phase (old_of reader.core r) reader.core s) reader.core (incoming_of new s)) (sym (get-put_same t.reader.rests s next))
@@ -75,7 +68,7 @@ module _ (held : Held) (s : Side) (t : IsTaken held s) (m : Message) (whole : Is
   ]
     where
       rest_other : (u : Side) → (s ≡ u → ⊥) → bytes_come (incoming_of held u) ≡ (get t.reader.rests u).bytes
-      rest_other u ne = sym (rest_is held u) ∙ ap (λ h. rest_of h u) t.holding_is ∙ kept s u ne ∙ sym (t.read_to.rests_are u)
+      rest_other u ne = sym (rest_is held past u) ∙ ap (λ h. rest_of h u) t.holding_is ∙ kept s u ne ∙ sym (t.read_to.rests_are u)
         where
           kept : (s u : Side) → (s ≡ u → ⊥) → rest_of (with_bytes t.before s t.more (length t.reader.core.entries)) u ≡ rest_of t.before u
           kept Client Client ne = absurd (ne refl)
@@ -84,28 +77,27 @@ module _ (held : Held) (s : Side) (t : IsTaken held s) (m : Message) (whole : Is
           kept Server Server ne = absurd (ne refl)
 
   -- what is held then stands
-  pub accepted_stands : (new : Held) → holding_of new ≡ with_message (holding_of held) s m → incoming_of new s ≡ nothing_come → ((u : Side) → (s ≡ u → ⊥) → incoming_of new u ≡ incoming_of held u) →
+  pub accepted_stands : (new : Monitor) → new.closed ≡ None → holding_of new (completed past (Some m)) ≡ with_message (holding_of held past) s m → incoming_of new s ≡ nothing_come → ((u : Side) → (s ≡ u → ⊥) → incoming_of new u ≡ incoming_of held u) →
       (IsReached t.reader.core → Shows held.state t.reader.core → IsSendable m → MayComplete t.reader.core t.reader.core.phase m → Shows new.state (complete t.reader.core m)) →
       (IsReached t.reader.core → Shows held.state t.reader.core → AreKnown t.reader.known held.state.exchanges.items →
       AreKnown (λ k. noted (t.reader.known k) (is_reply_to t.reader.core m k) held.counted) new.state.exchanges.items) →
-      new.taken ≡ held.taken → Stands new
-  accepted_stands new holding empty others shows knows same =
-      let holding_is : holding_of new ≡ with_message after s m = holding_after new holding in
-      record {
-        reader = reader;
-        read_to = subst (λ h. IsReadTo h reader) (sym holding_is) is_taken.read_to;
-        shows = shows reached t.shows is_taken.at.sendable is_taken.at.completes;
-        known = known_as_held new.state.exchanges.items (knows reached t.shows t.known);
-        taken_is = same ∙ t.taken_is ∙ ap (λ h. length (held_pairs h)) t.holding_is ∙ sym (ap length pairs_after) ∙ sym (ap (λ h. length (held_pairs h)) holding_is);
-        knows = known_after new empty others;
-      }
+      new.taken ≡ held.taken → Stands new (completed past (Some m))
+  accepted_stands new unclosed holding empty others shows knows same = record {
+    unclosed = unclosed;
+    reader = reader;
+    read_to = subst (λ h. IsReadTo h reader) (sym (holding_after new holding)) is_taken.read_to;
+    shows = shows reached t.shows is_taken.at.sendable is_taken.at.completes;
+    known = known_as_held new.state.exchanges.items (knows reached t.shows t.known);
+    taken_is = same ∙ t.taken_is;
+    knows = known_after new empty others;
+  }
 
 -- a message more, and its bytes are no longer a rest
-pub accepted_holding : (held new : Held) (s : Side) (m : Message) → new.state.profile ≡ held.state.profile → new.messages.items ≡ held.messages.items ++ m ∷ [] → incoming_of new s ≡ nothing_come →
-    ((u : Side) → (s ≡ u → ⊥) → incoming_of new u ≡ incoming_of held u) → new.counted ≡ held.counted → new.stretches ≡ held.stretches → holding_of new ≡ with_message (holding_of held) s m
-accepted_holding held new Client m p ms e o n st =
+pub accepted_holding : (held new : Monitor) (s : Side) (past : Past) (m : Message) → new.state.profile ≡ held.state.profile → incoming_of new s ≡ nothing_come →
+    ((u : Side) → (s ≡ u → ⊥) → incoming_of new u ≡ incoming_of held u) → new.counted ≡ held.counted → holding_of new (completed past (Some m)) ≡ with_message (holding_of held past) s m
+accepted_holding held new Client past m p e o n =
     let other : new.server ≡ held.server = o Server (λ q. (cc)) in
-    λ i. record { profile = p i; messages = ms i; client = bytes_come (e i); server = bytes_come (other i); counted = n i; stretches = stretches_of (st i).items }
-accepted_holding held new Server m p ms e o n st =
+    λ i. record { profile = p i; past = completed past (Some m); client = bytes_come (e i); server = bytes_come (other i); counted = n i }
+accepted_holding held new Server past m p e o n =
     let other : new.client ≡ held.client = o Client (λ q. (cc)) in
-    λ i. record { profile = p i; messages = ms i; client = bytes_come (other i); server = bytes_come (e i); counted = n i; stretches = stretches_of (st i).items }
+    λ i. record { profile = p i; past = completed past (Some m); client = bytes_come (other i); server = bytes_come (e i); counted = n i }

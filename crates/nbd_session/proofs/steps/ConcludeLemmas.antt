@@ -1,5 +1,5 @@
 -- What is decided of a side's bytes once they were taken.
-use Rattle.nbd_session.proofs.Common.{le-ltb, nat_lt, ◌≡◌, ℕ, ◌<◌, ◌≤◌, List, [], ◌∷◌, ◌++◌, length, sym, ◌∙◌, ap, subst, Option, Some, None, Bool, Result, OnOk, OnErr, append-nil, arith, same_Some, WireFault, Side, Client, Server, RequestHead, cookie_of, Core, chunk_cookie, shown_length, Answers, Shows, State, decision_by_count, Decision, reading_by_decision, Bad, IsFilled, More, Whole, Expected, Wire, Held, IncomingView, bytes_come, HasHeadLength, IsExpectedOf, IsPlaced, IsRefusedHead, IsWholeHead, StandsIn, last_fault_by, message_of, payload_length_of, place_answered, request_with, incoming_of, with_expected, IsExpected, decided, is_come_by, Holding, count_at_server, IsExpecting, IsHeadRefused, IsShut, IsTaken, IsWhole, Knows, Stands, knows_by, IsSame}
+use Rattle.nbd_session.proofs.Common.{le-ltb, nat_lt, ◌≡◌, ℕ, ◌<◌, ◌≤◌, List, [], ◌∷◌, ◌++◌, length, sym, ◌∙◌, ap, subst, Option, Some, None, Bool, append-nil, arith, Result, Ok, Err, OnOk, false, is_err, same_Some, WireFault, Side, RequestHead, cookie_of, Core, chunk_cookie, shown_length, Answers, Shows, State, decision_by_count, Decision, reading_by_decision, Bad, IsFilled, More, Whole, Expected, SessionFault, Wire, Monitor, Past, IncomingView, bytes_come, HasHeadLength, IsExpectedOf, IsPlaced, IsRefusedHead, IsWholeHead, StandsIn, last_fault_by, message_of, payload_length_of, place_answered, request_with, incoming_of, with_expected, IsExpected, decided, is_come_by, Holding, count_at_server, IsExpecting, IsHeadRefused, IsShut, IsTaken, IsWhole, Knows, Stands, knows_by}
 use Rattle.nbd_session.proofs.expecting.ReplyLemmas.{placed_within}
 use Rattle.nbd_session.proofs.expecting.KnownLemmas.{expected_bad, expected_more, expected_whole, short_more}
 use Rattle.nbd_session.proofs.steps.HoldingLemmas.{holding_expected, incoming_here, incoming_other, rest_is, same_but}
@@ -16,11 +16,11 @@ no_cookie x r payload = grind arith
 pub answers_at : (state : State) (core : Core) → Shows state core → (x : Expected) (payload : List ℕ) → IsPlaced core x → Answers state (message_of x payload) (place_answered x)
 answers_at state core s x payload t = grind (arith, chunk_cookie, no_cookie, same_Some)
 
-module _ (held : Held) (s : Side) (x : Expected) (e : IsExpecting held s x) (payload : List ℕ) (is : payload ≡ (incoming_of held s).payload) where
+module _ (held : Monitor) (s : Side) (x : Expected) (past : Past) (e : IsExpecting held s x past) (payload : List ℕ) (is : payload ≡ (incoming_of held s).payload) where
   -- bytes are missing
-  pub still_missing : length payload < payload_length_of x → Stands held
+  pub still_missing : length payload < payload_length_of x → Stands held past
   still_missing l =
-      settled_more held s e.taken
+      settled_more held s past e.taken
       (expected_more (decided e.taken.reader s) e.taken.reader.core (incoming_of held s).head (incoming_of held s).payload x e.is (subst (λ p. length p < payload_length_of x) is l))
       (Some x) e.expected_is (e.is, e.within)
 
@@ -28,24 +28,24 @@ module _ (held : Held) (s : Side) (x : Expected) (e : IsExpecting held s x) (pay
   all_come l = let same = ap length is in let within = e.within in omega (arith, l, same, within)
 
   -- the last byte breaks a rule
-  pub refused_at_end : payload_length_of x ≤ length payload → (fault : WireFault) → ((core : Core) → Shows held.state core → Some fault ≡ last_fault_by core.phase core x payload) → IsShut held (Wire held.taken fault)
-  refused_at_end l fault bad =
-      shut_wire held s e.taken fault
+  pub refused_at_end : payload_length_of x ≤ length payload → (fault : WireFault) → ((core : Core) → Shows held.state core → Some fault ≡ last_fault_by core.phase core x payload) → (c : Option SessionFault) → IsShut (record held { closed = c }) past (Wire held.taken fault)
+  refused_at_end l fault bad c =
+      shut_wire held s past e.taken fault
       (expected_bad (decided e.taken.reader s) e.taken.reader.core (incoming_of held s).head (incoming_of held s).payload x e.is fault (all_come l)
-      (ap (last_fault_by e.taken.reader.core.phase e.taken.reader.core x) (sym is) ∙ sym (bad e.taken.reader.core e.taken.shows)))
+      (ap (last_fault_by e.taken.reader.core.phase e.taken.reader.core x) (sym is) ∙ sym (bad e.taken.reader.core e.taken.shows))) c
 
-  pub whole_at_end : payload_length_of x ≤ length payload → ((core : Core) → Shows held.state core → None ≡ last_fault_by core.phase core x payload) → IsWhole held s x
+  pub whole_at_end : payload_length_of x ≤ length payload → ((core : Core) → Shows held.state core → None ≡ last_fault_by core.phase core x payload) → IsWhole held s x past
   whole_at_end l good = record {
     expecting = e;
     whole = all_come l;
     no_fault = ap (last_fault_by e.taken.reader.core.phase e.taken.reader.core x) (sym is) ∙ sym (good e.taken.reader.core e.taken.shows);
   }
 
-pub whole_read : (held : Held) (s : Side) (x : Expected) (w : IsWhole held s x) → IsRead held s w.expecting.taken (Whole (message_of x (incoming_of held s).payload))
-whole_read held s x w = grind (arith, expected_whole)
+pub whole_read : (held : Monitor) (s : Side) (x : Expected) (past : Past) (w : IsWhole held s x past) → IsRead held s past w.expecting.taken (Whole (message_of x (incoming_of held s).payload))
+whole_read held s x past w = grind (arith, expected_whole)
 
 -- what a head says changes no byte
-module _ (held : Held) (s : Side) (e : Option Expected) (t : IsTaken held s) (k : knows_by (decided t.reader s) t.reader.core (incoming_of held s).head (incoming_of held s).payload e) where
+module _ (held : Monitor) (s : Side) (e : Option Expected) (past : Past) (t : IsTaken held s past) (k : knows_by (decided t.reader s) t.reader.core (incoming_of held s).head (incoming_of held s).payload e) where
   here : incoming_of (with_expected held s e) s ≡ record (incoming_of held s) { expected = e }
   here = incoming_here held s (record (incoming_of held s) { expected = e })
 
@@ -53,69 +53,69 @@ module _ (held : Held) (s : Side) (e : Option Expected) (t : IsTaken held s) (k 
       is_come_by (decided t.reader s) t.reader.core (incoming_of held s).head (incoming_of held s).payload e
   come e k = grind (arith, same_Some)
 
-  pub taken_expecting : IsTaken (with_expected held s e) s
+  pub taken_expecting : IsTaken (with_expected held s e) s past
   taken_expecting = grind (arith, holding_expected, same_but, come, here, incoming_other)
 
-pub is_expecting : (held : Held) (s : Side) (x : Expected) (t : IsTaken held s) → Knows held s (Some x) → IsExpecting (with_expected held s (Some x)) s x
+pub is_expecting : (held : Monitor) (s : Side) (x : Expected) (past : Past) (t : IsTaken held s past) → Knows held s (Some x) → IsExpecting (with_expected held s (Some x)) s x past
 unfolding taken_expecting
-is_expecting held s x t known =
-    let k = known t in
+is_expecting held s x past t known =
+    let k = known past t in
     let here = incoming_here held s (record (incoming_of held s) { expected = Some x }) in
     record {
-      taken = taken_expecting held s (Some x) t k;
+      taken = taken_expecting held s (Some x) past t k;
       expected_is = ap (λ (v : IncomingView). v.expected) here;
       is = subst (λ (v : IncomingView). IsExpected (decided t.reader s) t.reader.core v.head x) (sym here) k.0;
       within = subst (λ (v : IncomingView). length v.payload ≤ payload_length_of x) (sym here) k.1;
     }
 
 -- the head is not whole
-pub head_missing : (held : Held) (s : Side) (t : IsTaken held s) → Knows held s None → Stands (with_expected held s None)
+pub head_missing : (held : Monitor) (s : Side) (past : Past) (t : IsTaken held s past) → Knows held s None → Stands (with_expected held s None) past
 unfolding taken_expecting
-head_missing held s t known =
-    let k = known t in
+head_missing held s past t known =
+    let k = known past t in
     let here = incoming_here held s (record (incoming_of held s) { expected = None }) in
     let bare : (incoming_of held s).head ++ (incoming_of held s).payload ≡ (incoming_of held s).head = ap (λ l. (incoming_of held s).head ++ l) k.0 ∙ append-nil (incoming_of held s).head in
-    settled_more (with_expected held s None) s (taken_expecting held s None t k)
+    settled_more (with_expected held s None) s past (taken_expecting held s None past t k)
     (subst (λ bs. reading_by_decision (decided t.reader s bs) bs ≡ More) (sym (ap bytes_come here ∙ bare)) (short_more (decided t.reader s (incoming_of held s).head) k.1 (incoming_of held s).head k.2 k.3))
     None (ap (λ (v : IncomingView). v.expected) here)
     (subst (λ (v : IncomingView). knows_by (decided t.reader s) t.reader.core v.head v.payload None) (sym here) k)
 
 -- it is refused
-pub head_shut : (held : Held) (s : Side) (t : IsTaken held s) (fault : WireFault) → IsHeadRefused held s fault → IsShut held (Wire held.taken fault)
-head_shut held s t fault refused =
-    let r = refused t in
+pub head_shut : (held : Monitor) (s : Side) (past : Past) (t : IsTaken held s past) (fault : WireFault) → IsHeadRefused held s fault → (c : Option SessionFault) → IsShut (record held { closed = c }) past (Wire held.taken fault)
+head_shut held s past t fault refused c =
+    let r = refused past t in
     let bare : (incoming_of held s).head ++ (incoming_of held s).payload ≡ (incoming_of held s).head = ap (λ l. (incoming_of held s).head ++ l) r.0 ∙ append-nil (incoming_of held s).head in
-    shut_wire held s t fault (subst (λ bs. reading_by_decision (decided t.reader s bs) bs ≡ Bad fault) (sym bare) r.1)
+    shut_wire held s past t fault (subst (λ bs. reading_by_decision (decided t.reader s bs) bs ≡ Bad fault) (sym bare) r.1) c
 
 -- a head that is to be decided
-module _ (held : Held) (s : Side) (head : List ℕ) (is : head ≡ (incoming_of held s).head) (none : (incoming_of held s).expected ≡ None) where
-  bare_come : (t : IsTaken held s) → ((incoming_of held s).payload ≡ []) × ((d : Decision) → decided t.reader s (incoming_of held s).head ≡ Some d → length (incoming_of held s).head ≤ d.head_length)
+module _ (held : Monitor) (s : Side) (head : List ℕ) (is : head ≡ (incoming_of held s).head) (none : (incoming_of held s).expected ≡ None) where
+  bare_come : {past : Past} (t : IsTaken held s past) → ((incoming_of held s).payload ≡ []) × ((d : Decision) → decided t.reader s (incoming_of held s).head ≡ Some d → length (incoming_of held s).head ≤ d.head_length)
   bare_come t = subst (is_come_by (decided t.reader s) t.reader.core (incoming_of held s).head (incoming_of held s).payload) none t.come
 
-  decided_so : (t : IsTaken held s) (bytes : List ℕ) → decided t.reader s bytes ≡ decision_by_count (count_at_server s t.before.server t.before.counted (length t.reader.core.entries)) t.reader.core s bytes
+  decided_so : {past : Past} (t : IsTaken held s past) (bytes : List ℕ) → decided t.reader s bytes ≡ decision_by_count (count_at_server s t.before.server t.before.counted (length t.reader.core.entries)) t.reader.core s bytes
   decided_so t bytes = decided_held t.before t.reader s t.read_to bytes
 
-  counted_so : (t : IsTaken held s) (bytes : List ℕ) → decided t.reader s bytes ≡ decision_by_count held.counted t.reader.core s bytes
+  counted_so : {past : Past} (t : IsTaken held s past) (bytes : List ℕ) → decided t.reader s bytes ≡ decision_by_count held.counted t.reader.core s bytes
   counted_so t bytes = decided_so t bytes ∙ ap (λ n. decision_by_count n t.reader.core s bytes) (sym (ap (λ (h : Holding). h.counted) t.holding_is))
 
   pub length_refused : (fault : WireFault) → ((core : Core) (counted : ℕ) → Shows held.state core → reading_by_decision (decision_by_count counted core s head) head ≡ Bad fault) → IsHeadRefused held s fault
-  length_refused fault bad t = grind (arith, bare_come, decided_so)
+  length_refused fault bad past t = grind (arith, bare_come t, decided_so t)
 
   module _ (n : ℕ) (known : HasHeadLength held.state s head n) where
-    length_decided : (t : IsTaken held s) → (d : Decision) × (decided t.reader s (incoming_of held s).head ≡ Some d) × (d.head_length ≡ n)
+    length_decided : {past : Past} (t : IsTaken held s past) → (d : Decision) × (decided t.reader s (incoming_of held s).head ≡ Some d) × (d.head_length ≡ n)
     length_decided t =
         let d = known.decided t.reader.core (count_at_server s t.before.server t.before.counted (length t.reader.core.entries)) t.shows in
         (d.0, decided_so t (incoming_of held s).head ∙ subst (λ h. decision_by_count (count_at_server s t.before.server t.before.counted (length t.reader.core.entries)) t.reader.core s h ≡ Some d.0) is d.1, d.2)
 
     pub knows_short : length head < n → Knows held s None
-    knows_short l t =
+    knows_short l past t =
         let d = length_decided t in
         let same = ap length is in
         let len = d.2 in
         ((bare_come t).0, d.0, d.1, omega (arith, l, same, len))
 
-    pub head_whole : IsTaken held s → n ≤ length head → IsWholeHead held.state s head
-    head_whole t l =
+    pub head_whole : (past : Past) (t : IsTaken held s past) → n ≤ length head → IsWholeHead held.state s head
+    head_whole past t l =
         let d = length_decided t in
         let low : length (incoming_of held s).head ≤ d.0.head_length = (bare_come t).1 d.0 d.1 in
         let same = ap length is in
@@ -123,30 +123,23 @@ module _ (held : Held) (s : Side) (head : List ℕ) (is : head ≡ (incoming_of 
         known.whole (omega (arith, l, same, len, low))
 
   pub head_refused : (fault : WireFault) → ((core : Core) → Shows held.state core → IsRefusedHead held.counted core s head fault) → IsHeadRefused held s fault
-  head_refused fault bad t = grind (arith, bare_come, counted_so, nat_lt, le-ltb)
+  head_refused fault bad past t = grind (arith, bare_come t, counted_so t, nat_lt, le-ltb)
 
   filled_right : (xs ys : List ℕ) → IsFilled ys → IsFilled (xs ++ ys)
   filled_right [] ys f = f
   filled_right (x ∷ xs) ys f = tt
 
-  head_filled : (t : IsTaken held s) → IsFilled (incoming_of held s).head
-  head_filled t = grind (arith, bare_come, append-nil, rest_is, filled_right)
+  head_filled : {past : Past} (t : IsTaken held s past) → IsFilled (incoming_of held s).head
+  head_filled t = grind (arith, bare_come t, append-nil, rest_is, filled_right)
 
   pub knows_expected : (x : Expected) → ((core : Core) → Shows held.state core → IsExpectedOf held.counted core s head x) → ((core : Core) → Shows held.state core → IsPlaced core x) → Knows held s (Some x)
-  knows_expected x expected placed t = grind (arith, head_filled, counted_so, bare_come)
+  knows_expected x expected placed past t = grind (arith, head_filled t, counted_so t, bare_come t)
 
 -- a head that was decided before
-pub knows_again : (held : Held) (s : Side) (x : Expected) → (incoming_of held s).expected ≡ Some x → Knows held s (Some x)
-knows_again held s x is t = subst (is_come_by (decided t.reader s) t.reader.core (incoming_of held s).head (incoming_of held s).payload) is t.come
+pub knows_again : (held : Monitor) (s : Side) (x : Expected) → (incoming_of held s).expected ≡ Some x → Knows held s (Some x)
+knows_again held s x is past t = subst (is_come_by (decided t.reader s) t.reader.core (incoming_of held s).head (incoming_of held s).payload) is t.come
 
--- of a result that both clauses speak of
-pub on_ok_both : {A E : Type 0} (r : Result A E) (P Q R : Type 0) → OnOk r P → OnOk r Q → (P → Q → R) → OnOk r R
-on_ok_both r P Q R p q f = grind arith
-
-pub on_err : {A E : Type 0} (r : Result A E) (P : Type 0) → P → OnErr r P
-on_err r P p = grind arith
-
--- what is expected of a side changes nothing else
-pub same_expected : (old new : Held) (side : Side) (x : Option Expected) → IsSame (with_expected old side x) new → IsSame old new
-same_expected old new Client x s = record { adds = λ t. s.adds t; taken_is = s.taken_is; profile_is = s.profile_is }
-same_expected old new Server x s = record { adds = λ t. s.adds t; taken_is = s.taken_is; profile_is = s.profile_is }
+-- what is said of one kind of a result, where it is of that kind
+pub where_ok : {A E : Type 0} (P : Type 0) (r : Result A E) → false ≡ is_err r → OnOk r P → P
+where_ok P (Ok a) e h = h
+where_ok P (Err x) e h = absurd (cc)

@@ -1,7 +1,6 @@
 -- How many bytes of a side are missing until something is decided of them.
-use Rattle.nbd_session.proofs.Common.{◌≡◌, ◌⊎◌, ℕ, ◌+◌, ◌<◌, List, [], ◌++◌, length, sym, ◌∙◌, ap, subst, inl, Option, Some, None, append-nil, arith, length-append, Bool, if◌then◌else◌, lt-ltb, Side, WireFault, Core, awaited_length_by, awaited_length, decision_by_count, Decision, by_tests, reading_by_decision, decision, Bad, IsFilled, More, Rest, get, old_of, held_short, in_head, deciding, at_once, none_held, old-empty, some_held, Shows, Expected, bytes_come, HasHeadLength, payload_length_of, holding_of, incoming_of, awaited, decided, is_known_by, count_at_server, Stands}
+use Rattle.nbd_session.proofs.Common.{◌≡◌, ◌⊎◌, ℕ, ◌+◌, ◌<◌, List, [], ◌++◌, length, sym, ◌∙◌, ap, subst, inl, Option, Some, None, append-nil, arith, length-append, Bool, if◌then◌else◌, lt-ltb, Side, WireFault, Core, awaited_length_by, awaited_length, decision_by_count, Decision, by_tests, reading_by_decision, decision, Bad, IsFilled, More, Rest, get, old_of, held_short, in_head, deciding, at_once, none_held, old-empty, some_held, Shows, Expected, Monitor, Past, bytes_come, HasHeadLength, payload_length_of, holding_of, incoming_of, awaited, decided, is_known_by, count_at_server, Stands}
 use Rattle.nbd_laws.proofs.reading.ReaderLemmas.{Held}
-use Rattle.nbd_session.specs.declared.held.Held as program
 use Rattle.nbd_session.proofs.expecting.KnownLemmas.{expected_awaited}
 use Rattle.nbd_session.proofs.steps.HoldingLemmas.{rest_is}
 use Rattle.nbd_session.proofs.steps.StepLemmas.{decided_held, held_of}
@@ -22,16 +21,16 @@ open_held {core} {s} {rest} (some_held r now f k m l) =
 refused_first : (o : Option Decision) (bytes : List ℕ) (fault : WireFault) → IsOpen o bytes → reading_by_decision o bytes ≡ Bad fault → (awaited_length_by o bytes ≡ 1) × (length bytes ≡ 0)
 refused_first o bytes fault q e = grind arith
 
-module _ (held : program.Held) (s : Side) (st : Stands held) where
+module _ (held : Monitor) (past : Past) (s : Side) (st : Stands held past) where
   come_is : bytes_come (incoming_of held s) ≡ (get st.reader.rests s).bytes
-  come_is = sym (rest_is held s) ∙ sym (st.read_to.rests_are s)
+  come_is = sym (rest_is held past s) ∙ sym (st.read_to.rests_are s)
 
   awaited_of : awaited_length_by (decided st.reader s (bytes_come (incoming_of held s))) (bytes_come (incoming_of held s)) ≡ awaited st.reader s
   awaited_of = ap (λ bs. awaited_length_by (decided st.reader s bs) bs) come_is
 
   pub come_short : length (bytes_come (incoming_of held s)) < awaited st.reader s
   come_short =
-      let short = (held_short (held_of (holding_of held) st.reader st.read_to s)).short in
+      let short = (held_short (held_of (holding_of held past) st.reader st.read_to s)).short in
       let same : length (bytes_come (incoming_of held s)) ≡ length (get st.reader.rests s).bytes = ap length come_is in
       omega (arith, short, same)
 
@@ -46,13 +45,13 @@ module _ (held : program.Held) (s : Side) (st : Stands held) where
     pub bare : bytes_come (incoming_of held s) ≡ (incoming_of held s).head
     bare = ap (λ l. (incoming_of held s).head ++ l) bare_known.0 ∙ append-nil (incoming_of held s).head
 
-    decided_so : (bytes : List ℕ) → decided st.reader s bytes ≡ decision_by_count (count_at_server s (holding_of held).server held.counted (length st.reader.core.entries)) st.reader.core s bytes
-    decided_so bytes = decided_held (holding_of held) st.reader s st.read_to bytes
+    decided_so : (bytes : List ℕ) → decided st.reader s bytes ≡ decision_by_count (count_at_server s (holding_of held past).server held.counted (length st.reader.core.entries)) st.reader.core s bytes
+    decided_so bytes = decided_held (holding_of held past) st.reader s st.read_to bytes
 
     -- the bytes of a head that is not whole
     pub head_is_missing : (head : List ℕ) (n : ℕ) → head ≡ (incoming_of held s).head → HasHeadLength held.state s head n → (length head < n) × (awaited st.reader s ≡ n)
     head_is_missing head n is known =
-        let d = known.decided st.reader.core (count_at_server s (holding_of held).server held.counted (length st.reader.core.entries)) st.shows in
+        let d = known.decided st.reader.core (count_at_server s (holding_of held past).server held.counted (length st.reader.core.entries)) st.shows in
         let decides : decided st.reader s (incoming_of held s).head ≡ Some d.0 = subst (λ h. decided st.reader s h ≡ Some d.0) is (decided_so head ∙ d.1) in
         let short : length (incoming_of held s).head < d.0.head_length = bare_known.1 d.0 decides in
         let all : awaited st.reader s ≡ d.0.head_length =
@@ -66,9 +65,9 @@ module _ (held : program.Held) (s : Side) (st : Stands held) where
     pub first_is_missing : (head : List ℕ) (fault : WireFault) → head ≡ (incoming_of held s).head → ((core : Core) (counted : ℕ) → Shows held.state core → reading_by_decision (decision_by_count counted core s head) head ≡ Bad fault) →
         (awaited st.reader s ≡ 1) × (length head ≡ 0)
     first_is_missing head fault is bad =
-        let word : reading_by_decision (decided st.reader s head) head ≡ Bad fault = ap (λ o. reading_by_decision o head) (decided_so head) ∙ bad st.reader.core (count_at_server s (holding_of held).server held.counted (length st.reader.core.entries)) st.shows in
+        let word : reading_by_decision (decided st.reader s head) head ≡ Bad fault = ap (λ o. reading_by_decision o head) (decided_so head) ∙ bad st.reader.core (count_at_server s (holding_of held past).server held.counted (length st.reader.core.entries)) st.shows in
         let same : bytes_come (incoming_of held s) ≡ head = bare ∙ sym is in
         let opened : IsOpen (decided st.reader s (bytes_come (incoming_of held s))) (bytes_come (incoming_of held s)) =
-        subst (λ bs. IsOpen (decided st.reader s bs) bs) (sym come_is) (open_held (held_of (holding_of held) st.reader st.read_to s)) in
+        subst (λ bs. IsOpen (decided st.reader s bs) bs) (sym come_is) (open_held (held_of (holding_of held past) st.reader st.read_to s)) in
         let r = refused_first (decided st.reader s head) head fault (subst (λ bs. IsOpen (decided st.reader s bs) bs) same opened) word in
         (sym awaited_of ∙ ap (λ bs. awaited_length_by (decided st.reader s bs) bs) same ∙ r.0, r.1)

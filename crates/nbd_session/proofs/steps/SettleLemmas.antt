@@ -1,31 +1,21 @@
 -- What was taken of a side is judged.
-use Rattle.nbd_session.proofs.Common.{◌≡◌, [], length, refl, sym, ◌∙◌, ap, subst, Option, Result, IfErr, IsErrAnd, append-nil, arith, same_Some, Side, Client, Server, Memory, Wire, WireFault, Held, by_tests, reading_by_decision, Bad, Reader, More, Reading, get, old_of, put, holding_of, incoming_of, Expected, bytes_come, IsKnown, decided, get-put_other, get-put_same, old-filled, same_or_not, Holding, IsReadTo, held_pairs, rest_of, with_bytes, HoldsRun, IsSame, IsShut, IsTaken, Stands, knows_by, extended}
+use Rattle.nbd_session.proofs.Common.{◌≡◌, length, refl, sym, subst, Option, Result, IfErr, IsErrAnd, arith, same_Some, Side, Client, Server, Memory, Wire, WireFault, SessionFault, Monitor, Past, by_tests, reading_by_decision, Bad, Reader, More, Reading, get, old_of, put, holding_of, incoming_of, Expected, bytes_come, IsKnown, decided, get-put_other, get-put_same, old-filled, same_or_not, Holding, IsReadTo, rest_of, with_bytes, HoldsRun, IsShut, IsTaken, Stands, knows_by, extended}
 use Rattle.nbd_wire.specs.protocol.Places.{IsPlaceOf}
 use Rattle.nbd_session.proofs.pushed.OpenByteLemmas.{more_is_run_but}
 use Rattle.nbd_session.proofs.judge.RefusalLemmas.{stopped}
 use Rattle.nbd_session.proofs.steps.HoldingLemmas.{rest_is}
-use Rattle.nbd_session.proofs.steps.StepLemmas.{more_taken, pairs-taken, pairs_taken, refused_taken}
-
-pub same_holding : (held new : Held) → holding_of new ≡ holding_of held → new.taken ≡ held.taken → IsSame held new
-same_holding held new is taken = record {
-  adds = λ s. record { prefix = []; more = []; parts = refl; has_pairs = ap held_pairs is ∙ sym (append-nil (held_pairs (holding_of held))); has_messages = ap (λ (h : Holding). h.messages) is ∙ sym (append-nil held.messages.items) };
-  taken_is = taken;
-  profile_is = ap (λ (h : Holding). h.profile) is;
-}
-
-pub same_held : (held : Held) → IsSame held held
-same_held held = same_holding held held refl refl
+use Rattle.nbd_session.proofs.steps.StepLemmas.{more_taken, pairs_taken, refused_taken}
 
 -- the judge's word on what was taken
-abbrev pub IsRead : (held : Held) (s : Side) → IsTaken held s → Reading → Type 0
-IsRead held s t reading = reading_by_decision (decided t.reader s (bytes_come (incoming_of held s))) (bytes_come (incoming_of held s)) ≡ reading
+abbrev pub IsRead : (held : Monitor) (s : Side) (past : Past) → IsTaken held s past → Reading → Type 0
+IsRead held s past t reading = reading_by_decision (decided t.reader s (bytes_come (incoming_of held s))) (bytes_come (incoming_of held s)) ≡ reading
 
-module _ (held : Held) (s : Side) (t : IsTaken held s) where
+module _ (held : Monitor) (s : Side) (past : Past) (t : IsTaken held s past) where
   abbrev after : Holding
   after = with_bytes t.before s t.more (length t.reader.core.entries)
 
   -- the reader's word on them
-  pub says_so : (reading : Reading) → IsRead held s t reading → by_tests (old_of t.reader.core (get t.reader.rests s)) t.reader.core s (rest_of after s) ≡ reading
+  pub says_so : (reading : Reading) → IsRead held s past t reading → by_tests (old_of t.reader.core (get t.reader.rests s)) t.reader.core s (rest_of after s) ≡ reading
   says_so reading e = grind (arith, rest_is)
 
   abbrev longer : Reader
@@ -39,10 +29,11 @@ module _ (held : Held) (s : Side) (t : IsTaken held s) where
   all_known here u = grind (arith, same_or_not, get-put_same, extended, get-put_other, old-filled)
 
   -- more is awaited
-  pub settled_more : IsRead held s t More → (e : Option Expected) → (incoming_of held s).expected ≡ e → knows_by (decided t.reader s) t.reader.core (incoming_of held s).head (incoming_of held s).payload e → Stands held
+  pub settled_more : IsRead held s past t More → (e : Option Expected) → (incoming_of held s).expected ≡ e → knows_by (decided t.reader s) t.reader.core (incoming_of held s).head (incoming_of held s).payload e → Stands held past
   settled_more more e is k =
       let word = says_so More more in
       record {
+        unclosed = t.unclosed;
         reader = longer;
         read_to = subst (λ h. IsReadTo h longer) (sym t.holding_is) (more_taken t.before t.reader t.read_to s t.more t.filled t.are_bytes t.up_to word);
         shows = t.shows;
@@ -51,32 +42,28 @@ module _ (held : Held) (s : Side) (t : IsTaken held s) where
         knows = all_known (known_longer e k is);
       }
 
-  pub taken_run : HoldsRun (holding_of held)
+  pub taken_run : HoldsRun (holding_of held past)
   taken_run =
-      let r = more_is_run_but (held_pairs t.before) t.reader t.before.messages t.before.client t.before.server s t.more t.read_to.are_pairs t.read_to.reads_it
+      let r = more_is_run_but t.before.past.pairs t.reader t.before.past.messages t.before.client t.before.server s t.more t.read_to.are_pairs t.read_to.reads_it
       t.read_to.messages_are (t.read_to.rests_are Client) (t.read_to.rests_are Server) in
-      subst HoldsRun (sym t.holding_is) (record {
-        items = r.0;
-        is_run = r.1;
-        has_pairs = r.2 ∙ sym (pairs-taken t.before s t.more (length t.reader.core.entries) t.read_to.are_stretches);
-        has_messages = r.3;
-      })
+      subst HoldsRun (sym t.holding_is) (record { items = r.0; is_run = r.1; has_pairs = r.2; has_messages = r.3 })
 
   -- the bytes are refused
-  pub shut_wire : (fault : WireFault) → IsRead held s t (Bad fault) → IsShut held (Wire held.taken fault)
-  shut_wire fault e = record {
+  pub shut_wire : (fault : WireFault) → IsRead held s past t (Bad fault) → (c : Option SessionFault) → IsShut (record held { closed = c }) past (Wire held.taken fault)
+  shut_wire fault e c = record {
     run = taken_run;
     taken_is = t.taken_is;
     cause = (
       refl,
-      subst (λ h. IsPlaceOf h.profile (held_pairs h) h.messages fault) (sym t.holding_is)
+      subst (λ h. IsPlaceOf h.profile h.past.pairs h.past.messages fault) (sym t.holding_is)
           (stopped t.before t.reader t.read_to s t.more (length t.reader.core.entries) t.filled (pairs_taken t.before t.reader t.read_to s t.more t.filled t.are_bytes t.up_to) t.up_to fault
           (refused_taken t.before t.reader t.read_to s t.more t.filled t.are_bytes t.up_to fault (says_so (Bad fault) e))),
     );
   }
 
-  pub shut_memory : (new : Held) → holding_of new ≡ holding_of held → new.taken ≡ held.taken → IsShut new Memory
-  shut_memory new holding same = grind (arith, taken_run)
+  -- memory ran out
+  pub shut_memory : (c : Option SessionFault) → IsShut (record held { closed = c }) past Memory
+  shut_memory c = record { run = taken_run; taken_is = t.taken_is; cause = tt }
 
 -- the fault of a call is handed on
 pub handed_on : {E : Type 0} (A : Type 0) (r : Result A E) (fault : E) (Q : E → Type 0) → IsErrAnd r (λ other. other ≡ fault) → Q fault → IfErr r Q

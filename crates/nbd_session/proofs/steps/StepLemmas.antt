@@ -1,46 +1,19 @@
 -- What a session holds after one more piece, and after one more message.
-use Rattle.nbd_session.proofs.Common.{arith, ◌≡◌, ℕ, ◌≤◌, List, [], ◌∷◌, ◌++◌, length, refl, sym, ◌∙◌, ap, subst, append_assoc, append-nil, Err, Side, Client, Server, Message, AreBytes, enc, Pair, ArePairs, side_pairs, bytes_of, side, Core, WireFault, awaited_length, decision_by_count, by_tests, decision, Reader, Rest, Reading, More, Whole, Bad, get, put, reads, fresh_of, old_of, settle, on_ok, IsFilled, IsSoundAt, AreHeld, reads_held, old-empty, old-filled, Holding, IsReadTo, AreStretchesOf, stretches_with, held_pairs, rest_of, with_more, with_bytes, count_at_server, reads_up_to, judged_at_once, extended, reads-append, fresh_held, sound}
+use Rattle.nbd_session.proofs.Common.{arith, ◌≡◌, ℕ, ◌≤◌, List, [], ◌∷◌, ◌++◌, length, refl, sym, ◌∙◌, ap, subst, Err, Some, Side, Client, Server, Message, AreBytes, Pair, ArePairs, side_pairs, Core, WireFault, awaited_length, decision_by_count, by_tests, decision, Reader, Rest, Reading, More, Whole, Bad, get, put, reads, fresh_of, old_of, settle, on_ok, IsFilled, IsSoundAt, AreHeld, reads_held, old-empty, old-filled, Holding, IsReadTo, Past, completed, rest_of, with_more, with_bytes, count_at_server, reads_up_to, judged_at_once, extended, reads-append, fresh_held, sound}
 use Rattle.nbd_session.proofs.reports.CountLemmas.{held_counted, count_of}
-use Rattle.nbd_session.proofs.pushed.PushLemmas.{bytes_of-snoc, mixed-noted, stretches-noted}
 use Rattle.nbd_session.proofs.steps.TakeLemmas.{kept_more}
 use Rattle.nbd_wire.specs.protocol.Reading.{with_message as read_with}
 
 -- with a message of a side whose bytes were its rest
 abbrev pub with_message : Holding → Side → Message → Holding
-with_message h Client m = record h { messages = h.messages ++ m ∷ []; client = [] }
-with_message h Server m = record h { messages = h.messages ++ m ∷ []; server = [] }
+with_message h Client m = record h { past = completed h.past (Some m); client = [] }
+with_message h Server m = record h { past = completed h.past (Some m); server = [] }
 
 pub profile_message : (h : Holding) (s : Side) (m : Message) → (with_message h s m).profile ≡ h.profile
 profile_message h s m = grind arith
 
-behind : (s u : Side) (more prefix bytes : List ℕ) → prefix ++ with_more s u more bytes ≡ with_more s u more (prefix ++ bytes)
-behind s u more prefix bytes = grind (arith, append_assoc)
-
-pub pairs-taken : (h : Holding) (s : Side) (more : List ℕ) (entries : ℕ) → AreStretchesOf h.stretches (bytes_of Client h.messages ++ h.client) (bytes_of Server h.messages ++ h.server) →
-    held_pairs (with_bytes h s more entries) ≡ held_pairs h ++ side_pairs s more
-pairs-taken h s more entries are = grind (arith, behind, mixed-noted)
-
-pub stretches-taken : (h : Holding) (s : Side) (more : List ℕ) (entries : ℕ) → AreStretchesOf h.stretches (bytes_of Client h.messages ++ h.client) (bytes_of Server h.messages ++ h.server) →
-    AreStretchesOf (stretches_with h.stretches s (length more)) (bytes_of Client h.messages ++ with_more s Client more h.client) (bytes_of Server h.messages ++ with_more s Server more h.server)
-stretches-taken h s more entries are =
-    subst (λ l. AreStretchesOf (stretches_with h.stretches s (length more)) l (bytes_of Server h.messages ++ with_more s Server more h.server)) (sym (behind s Client more (bytes_of Client h.messages) h.client))
-    (subst (λ l. AreStretchesOf (stretches_with h.stretches s (length more)) (with_more s Client more (bytes_of Client h.messages ++ h.client)) l) (sym (behind s Server more (bytes_of Server h.messages) h.server))
-    (stretches-noted h.stretches (bytes_of Client h.messages ++ h.client) (bytes_of Server h.messages ++ h.server) s more are))
-
-of_other-completed : (s u : Side) (messages : List Message) (m : Message) (bytes : List ℕ) → side m ≡ u → (s ≡ u → ⊥) → bytes_of s (messages ++ m ∷ []) ++ bytes ≡ bytes_of s messages ++ bytes
-of_other-completed s u messages m bytes sd ne = grind (arith, bytes_of-snoc, append-nil)
-
--- both sides' bytes are the same
-pub both-completed : (h : Holding) (s : Side) (m : Message) → rest_of h s ≡ enc m → side m ≡ s →
-    (bytes_of Client (with_message h s m).messages ++ (with_message h s m).client ≡ bytes_of Client h.messages ++ h.client)
-    × (bytes_of Server (with_message h s m).messages ++ (with_message h s m).server ≡ bytes_of Server h.messages ++ h.server)
-both-completed h s m e sd = grind (arith, of_other-completed, append-nil, bytes_of-snoc)
-
-stretches_message : (h : Holding) (s : Side) (m : Message) → (with_message h s m).stretches ≡ h.stretches
-stretches_message h s m = grind arith
-
-pub pairs-message : (h : Holding) (s : Side) (m : Message) → rest_of h s ≡ enc m → side m ≡ s → held_pairs (with_message h s m) ≡ held_pairs h
-pairs-message h s m e sd = grind (arith, both-completed, stretches_message)
+pub past_message : (h : Holding) (s : Side) (m : Message) → (with_message h s m).past ≡ completed h.past (Some m)
+past_message h s m = grind arith
 
 are_pairs-append : (ps qs : List Pair) → ArePairs ps → ArePairs qs → ArePairs (ps ++ qs)
 are_pairs-append [] qs a b = b
@@ -52,7 +25,7 @@ are_pairs-sent s (b ∷ bytes) a = (a.0, are_pairs-sent s bytes a.1)
 
 -- what the reader has read is held as it keeps it
 pub held_of : (h : Holding) (reader : Reader) → IsReadTo h reader → AreHeld by_tests reader
-held_of h reader r = reads_held by_tests sound (held_pairs h) (fresh_of h.profile) reader r.are_pairs (fresh_held by_tests) r.reads_it
+held_of h reader r = reads_held by_tests sound h.past.pairs (fresh_of h.profile) reader r.are_pairs (fresh_held by_tests) r.reads_it
 
 -- the reader's rest of a side, with these bytes after it
 module _ (h : Holding) (reader : Reader) (r : IsReadTo h reader) (s : Side) (more : List ℕ) (filled : IsFilled more) (bytes : AreBytes more)
@@ -63,15 +36,14 @@ module _ (h : Holding) (reader : Reader) (r : IsReadTo h reader) (s : Side) (mor
   abbrev rest : Rest
   rest = get reader.rests s
 
-  pub reads_taken : reads by_tests (fresh_of h.profile) (held_pairs taken) ≡ judged_at_once by_tests reader s more
+  pub reads_taken : reads by_tests (fresh_of h.profile) taken.past.pairs ≡ judged_at_once by_tests reader s more
   reads_taken =
-      ap (reads by_tests (fresh_of h.profile)) (pairs-taken h s more (length reader.core.entries) r.are_stretches)
-      ∙ reads-append by_tests (fresh_of h.profile) (held_pairs h) (side_pairs s more)
+      reads-append by_tests (fresh_of h.profile) h.past.pairs (side_pairs s more)
       ∙ ap (λ o. on_ok o (λ next. reads by_tests next (side_pairs s more))) r.reads_it
       ∙ reads_up_to reader s more (held_of h reader r) filled up_to
 
-  pub pairs_taken : ArePairs (held_pairs taken)
-  pairs_taken = subst ArePairs (sym (pairs-taken h s more (length reader.core.entries) r.are_stretches)) (are_pairs-append (held_pairs h) (side_pairs s more) r.are_pairs (are_pairs-sent s more bytes))
+  pub pairs_taken : ArePairs taken.past.pairs
+  pairs_taken = are_pairs-append h.past.pairs (side_pairs s more) r.are_pairs (are_pairs-sent s more bytes)
 
 -- the count at the first byte of the server's rest
 pub count_at : (server : List ℕ) (rest : Rest) (core : Core) (counted : ℕ) → rest.bytes ≡ server → (IsFilled server → counted ≡ length rest.since.entries) →
@@ -113,7 +85,7 @@ module _ (h : Holding) (reader : Reader) (r : IsReadTo h reader) (s : Side) (mor
   says reading e = ap (λ l. by_tests (old_of reader.core (get reader.rests s)) reader.core s l) (bytes_taken h reader s more (length reader.core.entries) r) ∙ e
 
   settled : (reading : Reading) → by_tests (old_of reader.core (get reader.rests s)) reader.core s (rest_of after s) ≡ reading →
-      reads by_tests (fresh_of h.profile) (held_pairs after) ≡ settle reader s (extended reader.core (get reader.rests s) more) reading
+      reads by_tests (fresh_of h.profile) after.past.pairs ≡ settle reader s (extended reader.core (get reader.rests s) more) reading
   settled reading e = reads_taken h reader r s more filled bytes up_to ∙ ap (settle reader s (extended reader.core (get reader.rests s) more)) (says reading e)
 
   -- more is awaited
@@ -125,12 +97,11 @@ module _ (h : Holding) (reader : Reader) (r : IsReadTo h reader) (s : Side) (mor
     messages_are = r.messages_are;
     rests_are = λ u. rest_taken h reader s u more (length reader.core.entries) r;
     count_is = count_taken h reader s more r;
-    are_stretches = stretches-taken h s more (length reader.core.entries) r.are_stretches;
   }
 
   -- the bytes are refused
   pub refused_taken : (fault : WireFault) → by_tests (old_of reader.core (get reader.rests s)) reader.core s (rest_of after s) ≡ Bad fault →
-      reads by_tests (fresh_of h.profile) (held_pairs after) ≡ Err fault
+      reads by_tests (fresh_of h.profile) after.past.pairs ≡ Err fault
   refused_taken fault e = settled (Bad fault) e
 
 -- a message's bytes are no longer a rest
@@ -140,9 +111,6 @@ rest_message h reader Client Client m more entries r = refl
 rest_message h reader Client Server m more entries r = r.rests_are Server
 rest_message h reader Server Client m more entries r = r.rests_are Client
 rest_message h reader Server Server m more entries r = refl
-
-messages_message : (h : Holding) (s : Side) (m : Message) → (with_message h s m).messages ≡ h.messages ++ m ∷ []
-messages_message h s m = grind arith
 
 count_message : (h : Holding) (reader : Reader) (s : Side) (m : Message) (more : List ℕ) (entries : ℕ) → IsReadTo h reader → IsFilled (with_message (with_bytes h s more entries) s m).server →
     (with_message (with_bytes h s more entries) s m).counted ≡ length (get (put reader.rests s (record (extended reader.core (get reader.rests s) more) { bytes = [] })) Server).since.entries
@@ -166,21 +134,15 @@ module _ (h : Holding) (reader : Reader) (r : IsReadTo h reader) (s : Side) (mor
       let b = bytes_taken h reader s more (length reader.core.entries) r in
       let good : IsSoundAt (old_of reader.core (get reader.rests s)) reader.core s ((get reader.rests s).bytes ++ more) m =
       sound _ _ _ _ m (kept_more reader.core s (get reader.rests s) more (held_of h reader r s) filled bytes up_to) (says h reader r s more filled bytes up_to (Whole m) e) in
-      let at : IsSoundAt (old_of reader.core (get reader.rests s)) reader.core s (rest_of held s) m = subst (λ l. IsSoundAt (old_of reader.core (get reader.rests s)) reader.core s l m) b good in
-      let same : held_pairs (with_message held s m) ≡ held_pairs held = pairs-message held s m at.encodes at.sided in
-      let both = both-completed held s m at.encodes at.sided in
+      let same = past_message held s m in
+      let read = settled h reader r s more filled bytes up_to (Whole m) e in
       record {
-        at = at;
+        at = subst (λ l. IsSoundAt (old_of reader.core (get reader.rests s)) reader.core s l m) b good;
         read_to = record {
-          are_pairs = subst ArePairs (sym same) (pairs_taken h reader r s more filled bytes up_to);
-          reads_it =
-              ap (λ q. reads by_tests (fresh_of q) (held_pairs (with_message held s m))) (profile_message held s m)
-              ∙ ap (reads by_tests (fresh_of h.profile)) same ∙ settled h reader r s more filled bytes up_to (Whole m) e;
-          messages_are = ap (λ l. l ++ m ∷ []) r.messages_are ∙ sym (messages_message held s m);
+          are_pairs = subst (λ (p : Past). ArePairs p.pairs) (sym same) (pairs_taken h reader r s more filled bytes up_to);
+          reads_it = ap (λ q. reads by_tests (fresh_of q) (with_message held s m).past.pairs) (profile_message held s m) ∙ ap (λ (p : Past). reads by_tests (fresh_of h.profile) p.pairs) same ∙ read;
+          messages_are = ap (λ l. l ++ m ∷ []) r.messages_are ∙ sym (ap (λ (p : Past). p.messages) same);
           rests_are = λ u. rest_message h reader s u m more (length reader.core.entries) r;
           count_is = count_message h reader s m more (length reader.core.entries) r;
-          are_stretches = subst (λ stretches. AreStretchesOf stretches (bytes_of Client (with_message held s m).messages ++ (with_message held s m).client) (bytes_of Server (with_message held s m).messages ++ (with_message held s m).server)) (sym (stretches_message held s m))
-              (subst (λ l. AreStretchesOf held.stretches l (bytes_of Server (with_message held s m).messages ++ (with_message held s m).server)) (sym both.0)
-              (subst (λ l. AreStretchesOf held.stretches (bytes_of Client held.messages ++ held.client) l) (sym both.1) (stretches-taken h s more (length reader.core.entries) r.are_stretches)));
         };
       }

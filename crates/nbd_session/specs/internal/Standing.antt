@@ -1,56 +1,47 @@
--- What a session under way holds, and what the reading reader has read of it.
-use Rattle.std.specs.Prelude.{◌≡◌, ℕ, ◌+◌, List, [], ◌∷◌, ◌++◌, if◌then◌else◌, length, Ok}
+-- What a monitor of a session under way holds, and what the reading reader has read of it.
+use Rattle.std.specs.Prelude.{◌≡◌, ℕ, List, [], ◌∷◌, ◌++◌, if◌then◌else◌, length, Ok, Option, Some, None}
 use Rattle.nbd_wire.specs.declared.profile.Profile.{Profile}
 use Rattle.nbd_wire.specs.declared.message.Side.{Side}
 use Rattle.nbd_wire.specs.declared.message.Side.TheVariants.{Client, Server}
 use Rattle.nbd_wire.specs.declared.message.Message.{Message}
-use Rattle.nbd_wire.specs.protocol.Captures.{Pair, ArePairs}
-use Rattle.nbd_laws.specs.Bytes.{bytes_of}
-use Rattle.nbd_session.specs.Pushed.{Stretch, pushed_pairs, stretch_bytes}
+use Rattle.nbd_wire.specs.protocol.Captures.{Pair, ArePairs, side_pairs}
 use Rattle.nbd_wire.specs.protocol.Sides.{same_side}
 use Rattle.nbd_wire.specs.protocol.Reading.{by_tests, Reader, get, reads, fresh_of, IsFilled}
 
--- the stretches are of exactly these bytes
-pub record AreStretchesOf (stretches : List Stretch) (client server : List ℕ) : Type 0 where
-  pub of_client : stretch_bytes Client stretches ≡ length client
-  pub of_server : stretch_bytes Server stretches ≡ length server
+-- what was given so far: the bytes with their senders, and the messages that completed
+pub record Past : Type 0 where
+  pub pairs : List Pair
+  pub messages : List Message
 
--- what is held: the session's profile, the accepted messages, each side's bytes after them, how many requests had
--- completed before the first of the server's, and the stretches of all
+-- with more bytes of a side
+abbrev pub sent : Past → Side → List ℕ → Past
+sent past s more = record { pairs = past.pairs ++ side_pairs s more; messages = past.messages }
+
+-- with the message that completed, if one did
+abbrev pub completed : Past → Option Message → Past
+completed past (Some m) = record { pairs = past.pairs; messages = past.messages ++ m ∷ [] }
+completed past None = past
+
+-- what is held, and the past: the session's profile, each side's bytes after the messages, and how many requests had
+-- completed before the first of the server's
 pub record Holding : Type 0 where
   pub profile : Profile
-  pub messages : List Message
+  pub past : Past
   pub client : List ℕ
   pub server : List ℕ
   pub counted : ℕ
-  pub stretches : List Stretch
 
 abbrev pub rest_of : Holding → Side → List ℕ
 rest_of h Client = h.client
 rest_of h Server = h.server
 
-abbrev pub held_pairs : Holding → List Pair
-held_pairs h = pushed_pairs h.messages h.client h.server h.stretches
-
--- the reader has read what is held, without a fault
+-- the reader has read the past, without a fault, and its rests are what is held
 pub record IsReadTo (h : Holding) (reader : Reader) : Type 0 where
-  pub are_pairs : ArePairs (held_pairs h)
-  pub reads_it : reads by_tests (fresh_of h.profile) (held_pairs h) ≡ Ok reader
-  pub messages_are : reader.messages ≡ h.messages
+  pub are_pairs : ArePairs h.past.pairs
+  pub reads_it : reads by_tests (fresh_of h.profile) h.past.pairs ≡ Ok reader
+  pub messages_are : reader.messages ≡ h.past.messages
   pub rests_are : (s : Side) → (get reader.rests s).bytes ≡ rest_of h s
   pub count_is : IsFilled h.server → h.counted ≡ length (get reader.rests Server).since.entries
-  pub are_stretches : AreStretchesOf h.stretches (bytes_of Client h.messages ++ h.client)
-      (bytes_of Server h.messages ++ h.server)
-
--- the stretches with so many more bytes of a side
-abbrev pub stretches_with : List Stretch → Side → ℕ → List Stretch
-stretches_with [] s n = record { from = s; length = n } ∷ []
-stretches_with (stretch ∷ []) s n =
-    if same_side s stretch.from then record {
-      from = stretch.from;
-      length = stretch.length + n;
-    } ∷ [] else stretch ∷ record { from = s; length = n } ∷ []
-stretches_with (stretch ∷ next ∷ stretches) s n = stretch ∷ stretches_with (next ∷ stretches) s n
 
 -- a side's bytes with more
 abbrev pub with_more : Side → Side → List ℕ → List ℕ → List ℕ
@@ -66,9 +57,8 @@ count_at_server Server (b ∷ bytes) counted entries = counted
 abbrev pub with_bytes : Holding → Side → List ℕ → (entries : ℕ) → Holding
 with_bytes h s more entries = record {
   profile = h.profile;
-  messages = h.messages;
+  past = sent h.past s more;
   client = with_more s Client more h.client;
   server = with_more s Server more h.server;
   counted = count_at_server s h.server h.counted entries;
-  stretches = stretches_with h.stretches s (length more);
 }

@@ -1,4 +1,4 @@
--- What holds of a session under way between two steps, and of one that is closed.
+-- What holds of a monitor and the past between two steps, and of one that is closed.
 use Rattle.std.specs.Prelude.{◌≡◌, ◌<◌, ◌≤◌, ◌++◌, ℕ, List, [], length, Option, Some, None}
 use Rattle.nbd_wire.specs.declared.fault.WireFault.{WireFault}
 use Rattle.nbd_wire.specs.protocol.States.{Core}
@@ -7,44 +7,53 @@ use Rattle.nbd_wire.specs.declared.message.Side.{Side}
 use Rattle.nbd_wire.specs.protocol.Encoding.{AreBytes}
 use Rattle.nbd_session.specs.declared.fault.SessionFault.{SessionFault}
 use Rattle.nbd_session.specs.declared.fault.SessionFault.TheVariants.{Memory, Wire}
-use Rattle.nbd_session.specs.declared.held.Held.{Held}
+use Rattle.nbd_session.specs.declared.monitor.Monitor.{Monitor}
 use Rattle.nbd_wire.specs.protocol.Decisions.{Decision}
 use Rattle.nbd_wire.specs.protocol.Places.{IsPlaceOf}
 use Rattle.nbd_wire.specs.protocol.Reading.{reading_by_decision, Bad, IsFilled, Reader, get}
 use Rattle.nbd_session.specs.internal.Holdings.{holding_of, incoming_of}
 use Rattle.nbd_session.specs.internal.Known.{IsCome, IsExpected, IsKnown, awaited, decided}
 use Rattle.nbd_session.specs.internal.Expecting.{last_fault_by, payload_length_of}
-use Rattle.nbd_session.specs.Sessions.{Adds, HasRunOf}
+use Rattle.nbd_session.specs.Sessions.{HasRunOf}
 use Rattle.nbd_state.specs.Shows.{AreKnown, Shows}
-use Rattle.nbd_session.specs.internal.Standing.{Holding, IsReadTo, held_pairs, with_bytes}
+use Rattle.nbd_session.specs.internal.Standing.{Holding, IsReadTo, Past, with_bytes}
 
--- a session under way
-pub record Stands (held : Held) : Type 0 where
+-- under way
+pub record Stands (held : Monitor) (past : Past) : Type 0 where
+  pub unclosed : held.closed ≡ None
   pub reader : Reader
-  pub read_to : IsReadTo (holding_of held) reader
+  pub read_to : IsReadTo (holding_of held past) reader
   pub shows : Shows held.state reader.core
   pub known : AreKnown reader.known held.state.exchanges.items
-  pub taken_is : held.taken ≡ length (held_pairs (holding_of held))
+  pub taken_is : held.taken ≡ length past.pairs
   pub knows : (s : Side) → IsKnown (decided reader s) reader.core (incoming_of held s)
 
 -- what is held is of a run
 abbrev pub HoldsRun : Holding → Type 0
-HoldsRun h = HasRunOf h.profile (held_pairs h) h.messages h.client h.server
+HoldsRun h = HasRunOf h.profile h.past.pairs h.past.messages h.client h.server
 
 -- why it is closed: at a wire fault the place is the last byte that was taken
-abbrev pub IsCause : Held → SessionFault → Type 0
-IsCause held (Wire at fault) = (at ≡ held.taken)
-    × IsPlaceOf held.state.profile (held_pairs (holding_of held)) held.messages.items fault
-IsCause held Memory = Unit {0}
+abbrev pub IsCause : Monitor → Past → SessionFault → Type 0
+IsCause held past (Wire at fault) = (at ≡ held.taken) × IsPlaceOf held.state.profile past.pairs past.messages fault
+IsCause held past Memory = Unit {0}
 
--- a closed session
-pub record IsShut (held : Held) (fault : SessionFault) : Type 0 where
-  pub run : HoldsRun (holding_of held)
-  pub taken_is : held.taken ≡ length (held_pairs (holding_of held))
-  pub cause : IsCause held fault
+-- closed
+pub record IsShut (held : Monitor) (past : Past) (fault : SessionFault) : Type 0 where
+  pub run : HoldsRun (holding_of held past)
+  pub taken_is : held.taken ≡ length past.pairs
+  pub cause : IsCause held past fault
+
+-- between two steps: it is under way, or it is closed
+abbrev pub IsKeptBy : Option SessionFault → Monitor → Past → Type 0
+IsKeptBy None held past = Stands held past
+IsKeptBy (Some fault) held past = IsShut held past fault
+
+abbrev pub IsKept : Monitor → Past → Type 0
+IsKept held past = IsKeptBy held.closed held past
 
 -- more bytes of a side were taken, up to the awaited length, and not yet judged
-pub record IsTaken (held : Held) (s : Side) : Type 0 where
+pub record IsTaken (held : Monitor) (s : Side) (past : Past) : Type 0 where
+  pub unclosed : held.closed ≡ None
   pub before : Holding
   pub reader : Reader
   pub read_to : IsReadTo before reader
@@ -52,10 +61,10 @@ pub record IsTaken (held : Held) (s : Side) : Type 0 where
   pub filled : IsFilled more
   pub are_bytes : AreBytes more
   pub up_to : length ((get reader.rests s).bytes ++ more) ≤ awaited reader s
-  pub holding_is : holding_of held ≡ with_bytes before s more (length reader.core.entries)
+  pub holding_is : holding_of held past ≡ with_bytes before s more (length reader.core.entries)
   pub shows : Shows held.state reader.core
   pub known : AreKnown reader.known held.state.exchanges.items
-  pub taken_is : held.taken ≡ length (held_pairs (holding_of held))
+  pub taken_is : held.taken ≡ length past.pairs
   pub come : IsCome (decided reader s) reader.core (incoming_of held s)
   pub knows : (u : Side) → (s ≡ u → ⊥) → IsKnown (decided reader u) reader.core (incoming_of held u)
 
@@ -65,49 +74,26 @@ knows_by decided core head payload None = (payload ≡ []) × (d : Decision) × 
     × (length head < d.head_length)
 
 -- after bytes were taken: this is what their head says, or it is not whole
-abbrev pub Knows : Held → Side → Option Expected → Type 0
-Knows held s expected = (t : IsTaken held s) → knows_by (decided t.reader s) t.reader.core (incoming_of held s).head
-    (incoming_of held s).payload expected
+abbrev pub Knows : Monitor → Side → Option Expected → Type 0
+Knows held s expected = (past : Past) (t : IsTaken held s past) → knows_by (decided t.reader s) t.reader.core
+    (incoming_of held s).head (incoming_of held s).payload expected
 
 -- after bytes were taken: those of the head are refused
-abbrev pub IsHeadRefused : Held → Side → WireFault → Type 0
-IsHeadRefused held s fault = (t : IsTaken held s)
+abbrev pub IsHeadRefused : Monitor → Side → WireFault → Type 0
+IsHeadRefused held s fault = (past : Past) (t : IsTaken held s past)
     → ((incoming_of held s).payload ≡ [])
     × (reading_by_decision (decided t.reader s (incoming_of held s).head) (incoming_of held s).head ≡ Bad fault)
 
 -- bytes were taken, and this is what their head says
-pub record IsExpecting (held : Held) (s : Side) (x : Expected) : Type 0 where
-  pub taken : IsTaken held s
+pub record IsExpecting (held : Monitor) (s : Side) (x : Expected) (past : Past) : Type 0 where
+  pub taken : IsTaken held s past
   pub expected_is : (incoming_of held s).expected ≡ Some x
   pub is : IsExpected (decided taken.reader s) taken.reader.core (incoming_of held s).head x
   pub within : length (incoming_of held s).payload ≤ payload_length_of x
 
 -- the same, and they are a whole message whose last byte breaks no rule
-pub record IsWhole (held : Held) (s : Side) (x : Expected) : Type 0 where
-  pub expecting : IsExpecting held s x
+pub record IsWhole (held : Monitor) (s : Side) (x : Expected) (past : Past) : Type 0 where
+  pub expecting : IsExpecting held s x past
   pub whole : length (incoming_of held s).payload ≡ payload_length_of x
   pub no_fault : last_fault_by expecting.taken.reader.core.phase expecting.taken.reader.core x
       (incoming_of held s).payload ≡ None
-
--- of a side's piece all but `left` was taken
-abbrev pub AddsHeld : (old new : Held) → Side → (piece left : List ℕ) → Type 0
-AddsHeld old new s piece left = Adds (held_pairs (holding_of old))
-    (held_pairs (holding_of new)) old.messages.items new.messages.items s piece left
-
--- a piece was refused after its prefix
-pub record IsRefused (old new : Held) (s : Side) (piece : List ℕ) (fault : SessionFault) : Type 0 where
-  pub left : List ℕ
-  pub adds : AddsHeld old new s piece left
-  pub shut : IsShut new fault
-  pub profile_is : new.state.profile ≡ old.state.profile
-
--- no byte was added, but messages may have been accepted
-pub record IsSame (old new : Held) : Type 0 where
-  pub adds : (s : Side) → AddsHeld old new s [] []
-  pub taken_is : new.taken ≡ old.taken
-  pub profile_is : new.state.profile ≡ old.state.profile
-
--- what is held between two calls: it stands, or it is closed
-abbrev pub IsKept : Held → Option SessionFault → Type 0
-IsKept held None = Stands held
-IsKept held (Some fault) = IsShut held fault

@@ -1,44 +1,34 @@
-use Rattle.nbd_session.proofs.Common.{rules}
-use Rattle.nbd_session.proofs.judge.BeginningLemmas.{adds_nothing}
-use Rattle.nbd_session.proofs.judge.RefusalLemmas.{refuses, refuses_again, stands_accepted}
+use Rattle.nbd_session.proofs.Common.{◌≡◌, ◌∙◌, ◌+◌, ◌<◌, ap, arith, refl, sym, subst, length, None, Some, Adds, SessionView, bytes_taken, pairs_of}
+use Rattle.nbd_session.proofs.judge.PieceLemmas.{added_then}
+use Rattle.nbd_session.proofs.pushed.LogLemmas.{adds_fits, adds_nothing, comes_nearer}
+use Rattle.nbd_session.proofs.steps.IncomingLemmas.{none_of}
 use Rattle.nbd_session.proofs.session.Session.push.Goals as goal
 
--- src/session.rt:73:13
-pub returns-in-Some-clause-prefix : goal.returns-in-Some-clause-prefix
-returns-in-Some-clause-prefix c = adds_nothing c.args.self.now c.args.side c.args.piece.now
+pub loop-self-init : goal.loop-self-init
+loop-self-init c = record {
+  adds = adds_nothing (pairs_of c.args.self.now) c.args.self.now.messages c.args.side c.args.piece.now;
+  fits = c.requires;
+  side = refl;
+  profile = refl;
+  closed = λ fault e. refl;
+}
 
-pub returns-in-Some-clause-wire : goal.returns-in-Some-clause-wire
-returns-in-Some-clause-wire c = refuses_again c.self.inside.held c.self.inside.closed c.args.self.now c.in-Some.fault c.self.invariant c.self.view_is c.in-Some.is
+pub loop-self-smaller : goal.loop-self-smaller
+loop-self-smaller c =
+    comes_nearer c.loop-self.self.closed c.step-count.new.self.closed c.step-count.result c.loop-self.left.now c.split_at.result.1.now
+    (sym c.closed.ensures.closed ∙ none_of c.closed.result c.if-is_none.ensures) c.step-count.ensures.within c.split_at.ensures.back c.step-count.ensures.some
 
-pub returns-in-Err-clause-wire : goal.returns-in-Err-clause-wire
-returns-in-Err-clause-wire c = refuses c.push.new.self c.in-Err.fault c.in-Err.ensures.refused.shut
-
-pub returns-clause-complete : goal.returns-clause-complete
-returns-clause-complete c = (stands_accepted c.push.new.self c.self.inside.closed c.in_default-push.ensures.stands).all
-
-pub returns-clause-placeless : goal.returns-clause-placeless
-returns-clause-placeless c = (stands_accepted c.push.new.self c.self.inside.closed c.in_default-push.ensures.stands).placeless
-
-pub returns-clause-under_way : goal.returns-clause-under_way
-returns-clause-under_way c = (stands_accepted c.push.new.self c.self.inside.closed c.in_default-push.ensures.stands).under_way
-
-pub invariant_of-self : goal.invariant_of-self
-invariant_of-self c = c.in-Err.ensures.refused.shut
-
-pub returns-in-Err-clause-refused : goal.returns-in-Err-clause-refused
-returns-in-Err-clause-refused c = search rules
-
-pub returns-in-Err-clause-closed : goal.returns-in-Err-clause-closed
-returns-in-Err-clause-closed c = search rules
-
-pub push-requires-clause-stands : goal.push-requires-clause-stands
-push-requires-clause-stands c = search rules
-
-pub returns-clause-open : goal.returns-clause-open
-returns-clause-open c = search rules
-
-pub returns-clause-closed : goal.returns-clause-closed
-returns-clause-closed c = search rules
-
-pub returns-in-Err-clause-at : goal.returns-in-Err-clause-at
-returns-in-Err-clause-at c = search rules
+pub loop-self-preserved : goal.loop-self-preserved
+loop-self-preserved c =
+    let more = subst (Adds (pairs_of c.loop-self.self) (pairs_of c.step-count.new.self) c.loop-self.self.messages c.step-count.new.self.messages c.args.side c.loop-self.left.now) (sym c.split_at.ensures.back) c.step-count.ensures.adds in
+    let fits : bytes_taken c.step-count.new.self + length c.split_at.result.1.now < 9223372036854775808 = (let same = adds_fits more in let before = c.loop-self.invariant.fits in omega (arith, same, before)) in
+    record {
+      adds = added_then (pairs_of c.args.self.now) (pairs_of c.loop-self.self) (pairs_of c.step-count.new.self) c.args.self.now.messages c.loop-self.self.messages c.step-count.new.self.messages c.args.side c.args.piece.now c.loop-self.left.now c.split_at.result.1.now c.loop-self.invariant.adds more;
+      fits = fits;
+      side = refl;
+      profile = c.step-count.ensures.profile ∙ c.loop-self.invariant.profile;
+      closed = λ fault e.
+          let none = sym c.closed.ensures.closed ∙ none_of c.closed.result c.if-is_none.ensures in
+          let same = ap (λ (r : SessionView). r.closed) (c.loop-self.invariant.closed fault e) in
+          absurd (let q : None ≡ Some fault = sym none ∙ same ∙ e in cc);
+    }

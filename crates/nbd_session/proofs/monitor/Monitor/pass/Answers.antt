@@ -1,0 +1,10 @@
+use Rattle.nbd_session.proofs.Common.{completed, sent, take}
+use Rattle.nbd_session.proofs.pushed.FollowLemmas.{adds_step}
+use Rattle.nbd_session.proofs.monitor.Monitor.pass.Goals as goal
+
+pub returns-clause-adds : goal.returns-clause-adds
+returns-clause-adds c = λ past st. (
+  completed (sent past c.args.side (take c.step.result.0 c.args.left.now)) c.step.result.1,
+  c.step.ensures.kept past st,
+  adds_step past c.args.side c.step.result.0 c.args.left.now c.step.result.1,
+)

@@ -1,0 +1,6 @@
+use Rattle.nbd_session.proofs.Common.{subst, IsComplete}
+use Rattle.nbd_session.proofs.judge.RefusalLemmas.{is_complete}
+use Rattle.nbd_session.proofs.session.Session.closed.Goals as goal
+
+pub returns-clause-complete : goal.returns-clause-complete
+returns-clause-complete c = subst IsComplete c.self.view_is (is_complete _ _ c.self.invariant.follows)
