@@ -1,33 +1,30 @@
 //! Which byte of a READ was wrong or was called zero by a BLOCK_STATUS, and which was right.
 
 use crate::differing::Compared;
-use crate::explanation::{NO_PLACE, Sources};
-use crate::layers::Stretch;
-use crate::parts::{end_of, has_offset, meet};
-use crate::requests::Request;
+use crate::explanation::{DOUBTED, NO_PLACE, Sources};
+use crate::layers::byte_at;
 use crate::rules::{CONTENT_RULE, Rule, STATUS_RULE};
+use crate::statuses::{Descriptor, NO_DESCRIPTOR};
 use crate::story::Story;
 use crate::text::Text;
-use crate::told::{NO_MESSAGE, Told};
-use crate::zeroes::{Descriptor, NO_DESCRIPTOR, count_of, zero_at};
+use crate::told::{NO_MESSAGE, Told, end_of, has_offset, meet};
 use nbd_export::Start;
 use nbd_wire::{Entry, Part, Side};
-use std::alloc::Global;
 
 /// A byte that a READ got, or the zero that a BLOCK_STATUS called one.
 #[derive(Clone, Copy)]
-pub struct Came {
+pub struct Came<'a> {
     pub byte: u8,
     /// Its place in the capture; of a byte of a hole the last byte of the chunk that told the hole, of one that was called zero that of
     /// the descriptor. 0 where none came.
     pub place: u64,
     /// The message that brought it.
-    pub reply: Told,
+    reply: &'a Told,
     /// The descriptor that called it zero.
-    pub descriptor: Descriptor,
+    descriptor: Descriptor,
 }
 
-impl Came {
+impl Came<'_> {
     /// Whether it was called zero.
     pub fn is_status(&self) -> bool {
         self.descriptor.number != 0
@@ -46,49 +43,26 @@ pub fn rule_of(is_status: bool) -> &'static Rule {
 impl Text {
     /// Adds which byte the READ with this number got for this offset of the export, or that the BLOCK_STATUS called it zero, and which
     /// byte was right.
-    pub fn wrong_byte(
-        self,
-        alloc: Global,
-        number: u64,
-        offset: u64,
-        sources: &Sources<'_>,
-    ) -> Text {
+    pub fn wrong_byte(self, number: u64, offset: u64, sources: &Sources<'_>) -> Text {
         let place = place_serving(sources.order, number, offset);
-        let request = sources.story.request(number);
-        let text = self.rule(
-            rule_of(request.is_status()),
-            "the server, if it served in this order",
-        );
-        match sources.order.get(place) {
-            Some(entry) => text
-                .served("message: ", place, entry, sources.story)
-                .came_wrong(
-                    &found_byte(number, offset, sources.story),
-                    &Compared::of(alloc, place, entry, sources),
-                    offset,
-                    sources,
-                ),
-            None => text,
-        }
-    }
-
-    // The byte that came, if one did, the one that was right, and how many others are wrong.
-    fn came_wrong(
-        self,
-        came: &Came,
-        compared: &Compared,
-        offset: u64,
-        sources: &Sources<'_>,
-    ) -> Text {
-        let held = compared.held.at(offset);
+        let is_status = sources.story.request(number).is_status();
+        let text = self.rule(rule_of(is_status), "the server, if it served in this order");
+        let Some(entry) = sources.order.get(place) else {
+            return text;
+        };
+        let text = text.served("message: ", place, entry, sources.story);
+        let came = found_byte(number, offset, sources.story);
+        let Ok(compared) = Compared::of(place, entry, sources) else {
+            return text.refused_if(true);
+        };
+        let held = byte_at(&compared.held, offset);
         if came.place == 0 {
-            self.expected(held, offset, sources)
-                .refused_if(compared.held.is_refused)
+            text.expected(held, place, offset, sources)
         } else {
-            self.came(came, offset, sources.story)
-                .expected(held, offset, sources)
-                .differing(compared, sources)
-                .assumed_of_order()
+            text.came(&came, offset, sources.story)
+                .expected(held, place, offset, sources)
+                .differing(&compared)
+                .say("assumes: the start is right, this is the only connection\n")
                 .window(&sources.story.recording, came.place)
         }
     }
@@ -113,40 +87,41 @@ impl Text {
     }
 
     /// Adds a byte that a READ got for an offset, or what called it zero, and the message that brought it.
-    pub fn came(self, came: &Came, offset: u64, story: &Story) -> Text {
-        let text = self.told("reply: ", &came.reply, story);
+    pub fn came(self, came: &Came<'_>, offset: u64, story: &Story) -> Text {
+        let text = self.told("reply: ", came.reply, story);
         if came.is_status() {
-            text.number("called zero: offset {offset}", offset)
-                .descriptor(came.descriptor, &came.reply, story)
+            text.called_zero(came, offset, story)
         } else {
-            text.two(
+            text.fill(
                 "came: {value:02x} for offset {offset}",
-                u64::from(came.byte),
-                offset,
+                &[u64::from(came.byte), offset],
             )
             .place_of(came)
         }
     }
 
-    // A descriptor of a status chunk, and its places.
-    fn descriptor(self, one: Descriptor, chunk: &Told, story: &Story) -> Text {
-        let (id, descriptors) = story.status_in(chunk);
+    // The descriptor that called an offset zero, and its places.
+    fn called_zero(self, came: &Came<'_>, offset: u64, story: &Story) -> Text {
+        let one = &came.descriptor;
+        let status = story.status_in(came.reply);
+        let (first, last) = status.places(one, story);
         self.fill(
-            ", in {length:byte} at {at}, descriptor {descriptor} of {descriptors}",
+            "called zero: offset {offset}, in {length:byte} at {at}, descriptor {descriptor} of {descriptors}",
             &[
+                offset,
                 one.part.length,
                 one.part.offset,
                 one.number,
-                count_of(descriptors),
+                status.count(),
             ],
         )
-        .context(" of ", id, story)
-        .places("; ", one.place(0, chunk, story), one.last(chunk, story))
+        .context(" of ", status.id, story)
+        .places("; ", first, last)
         .end()
     }
 
     /// Adds at which place a byte came.
-    pub fn place_of(self, came: &Came) -> Text {
+    pub fn place_of(self, came: &Came<'_>) -> Text {
         let words = if came.reply.is_hole() {
             ", in a hole, whose chunk ends at byte {byte}\n"
         } else if came.is_status() {
@@ -157,104 +132,86 @@ impl Text {
         self.number(words, came.place)
     }
 
-    // The byte that the export held at an offset when an entry was reached, and whose change that was, where the byte is known.
-    fn expected(self, held: Stretch, offset: u64, sources: &Sources<'_>) -> Text {
-        let Some(byte) = held.byte(offset, sources) else {
+    // The byte that the export held at an offset when the entry at a place was reached, and whose change that was, where it is known.
+    fn expected(self, held: Option<u8>, place: usize, offset: u64, sources: &Sources<'_>) -> Text {
+        let Some(byte) = held else {
             return self;
         };
-        let text = self.byte("expected: {value:02x}", byte);
-        match sources.order.get(held.place) {
-            Some(entry) => text.served(", by ", held.place, entry, sources.story),
-            None => text.say(first_words(sources.start)).doubted_start(),
+        let text = self.number("expected: {value:02x}", u64::from(byte));
+        let first = match sources.start {
+            Some(Start::Zeroes) => ", since the export began with zeroes\n",
+            Some(Start::Contents(_)) => ", of the contents that were given\n",
+            _ => ", of the image\n",
+        };
+        let last = place_changing(place, offset, sources);
+        match sources.order.get(last) {
+            Some(entry) => text.served(", by ", last, entry, sources.story),
+            None => text.say(first).say(DOUBTED),
         }
     }
 }
 
-// Where a byte is known from that no entry left.
-fn first_words(start: Option<&Start>) -> &'static str {
-    match start {
-        Some(Start::Zeroes) => ", since the export began with zeroes\n",
-        Some(Start::Contents(_)) => ", of the contents that were given\n",
-        _ => ", of the image\n",
+// Whether an entry serves this offset, if its request has it.
+fn serves(entry: &Entry, offset: u64) -> bool {
+    match entry.part {
+        Some(part) => has_offset(part, offset),
+        None => true,
     }
 }
 
 // The place of the entry that serves this offset of the request with this number, if the request has it.
 fn place_serving(order: &[Entry], number: u64, offset: u64) -> usize {
     for place in 0..order.len() {
-        let is_served = match order[place].part {
-            Some(part) => has_offset(part, offset),
-            None => true,
-        };
-        if is_served && order[place].request == number {
+        if (order[place].request == number) & serves(&order[place], offset) {
             return place;
         }
     }
     NO_PLACE
 }
 
-/// The byte that the request with this number got for an offset; 00 where it called it zero.
-pub fn found_byte(number: u64, offset: u64, story: &Story) -> Came {
-    let reply = bringer(&story.told, number, Part { offset, length: 1 });
-    if reply.is_there() {
-        came_in(reply, offset, story)
-    } else {
-        zero_in(number, offset, story)
+// The place of the last entry before a place that changed this offset.
+fn place_changing(place: usize, offset: u64, sources: &Sources<'_>) -> usize {
+    let mut last = NO_PLACE;
+    for at in 0..place.min(sources.order.len()) {
+        let entry = &sources.order[at];
+        let request = sources.story.request(entry.request);
+        if request.changes(offset) & serves(entry, offset) {
+            last = at;
+        }
     }
+    last
 }
 
 /// The first message that brings the request with this number content with an offset of a part.
-pub fn bringer(told: &[Told], request: u64, part: Part) -> &Told {
+pub fn bringer(told: &[Told], number: u64, part: Part) -> &Told {
     for message in told {
-        if meet(message.content_to(request), part) {
+        if meet(message.content_to(number), part) {
             return message;
         }
     }
     &NO_MESSAGE
 }
 
-// What the request with this number says of an offset that it calls zero.
-fn zero_in(number: u64, offset: u64, story: &Story) -> Came {
-    let zeroes = story.zeroes_of(number);
-    let descriptor = zero_at(zeroes, offset);
-    Came {
-        byte: 0,
-        place: if descriptor.number == 0 {
-            0
-        } else {
-            descriptor.last(zeroes.chunk, story)
-        },
-        reply: *zeroes.chunk,
-        descriptor,
-    }
-}
-
-// The byte for an offset of the content with which a message ends, or which is a hole.
-fn came_in(reply: &Told, offset: u64, story: &Story) -> Came {
+/// The byte that the request with this number got for an offset; 00 where it called it zero.
+pub fn found_byte(number: u64, offset: u64, story: &Story) -> Came<'_> {
+    let reply = bringer(&story.told, number, Part { offset, length: 1 });
     let before = reply.before_last(end_of(reply.part).saturating_sub(offset));
-    let (byte, place) = if reply.is_hole() {
-        (0, reply.last)
-    } else {
-        (
-            story.recording.byte_of(Side::Server, before).unwrap_or(0),
-            story.recording.place(Side::Server, before),
-        )
-    };
-    Came {
-        byte,
-        place,
-        reply: *reply,
+    let mut came = Came {
+        byte: 0,
+        place: reply.last,
+        reply,
         descriptor: NO_DESCRIPTOR,
+    };
+    if !reply.is_there() {
+        let status = story.zeroes_of(number);
+        came.reply = status.chunk;
+        came.descriptor = status.zero_at(offset);
+        if came.is_status() {
+            came.place = status.places(&came.descriptor, story).1;
+        }
+    } else if !reply.is_hole() {
+        came.byte = story.recording.byte(Side::Server, before);
+        came.place = story.recording.place(Side::Server, before);
     }
-}
-
-/// The byte that the export held at an offset at first, where that is known.
-pub fn byte_at_first(offset: u64, sources: &Sources<'_>) -> Option<u8> {
-    let part = Part { offset, length: 1 };
-    Stretch::at_first(part, sources.start).byte(offset, sources)
-}
-
-/// The byte that a change left at an offset, where that is known.
-pub fn byte_by(change: &Request, offset: u64, sources: &Sources<'_>) -> Option<u8> {
-    Stretch::left_by(change).byte(offset, sources)
+    came
 }

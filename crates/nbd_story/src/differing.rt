@@ -2,11 +2,12 @@
 //! held.
 
 use crate::explanation::Sources;
-use crate::layers::{Stretch, Stretches};
-use crate::parts::{between, end_of};
+use crate::layers::byte_at;
 use crate::text::Text;
+use crate::told::{between, end_of};
+use nbd_export::{Contents, Extents, HeldPart};
 use nbd_wire::{Entry, Part};
-use std::alloc::Global;
+use std::alloc::AllocError;
 
 /// How many offsets are shown.
 const SHOWN: u64 = 16;
@@ -17,40 +18,44 @@ pub struct Compared {
     is_status: bool,
     part: Part,
     /// What the export held of it before.
-    pub held: Stretches,
+    pub held: Extents,
     /// What the READ got, or the BLOCK_STATUS called zero.
-    got: Stretches,
+    got: Extents,
 }
 
 impl Compared {
     /// What the entry at this place of the order serves.
-    pub fn of(alloc: Global, place: usize, entry: &Entry, sources: &Sources<'_>) -> Compared {
+    pub fn of(place: usize, entry: &Entry, sources: &Sources<'_>) -> Result<Compared, AllocError> {
         let request = sources.story.request(entry.request);
-        let part = entry
-            .part
-            .unwrap_or(request.inside(sources.story.export.size));
-        Compared {
+        let inside = request.inside(sources.story.export.size);
+        let part = entry.part.unwrap_or(inside);
+        Ok(Compared {
             is_status: request.is_status(),
             part,
-            held: Stretches::held(alloc, place, part, sources),
-            got: Stretches::got(alloc, entry.request, part, sources.story),
-        }
+            held: sources.held(place, part)?,
+            got: sources.story.got(entry.request, part)?,
+        })
     }
 
-    // The offsets at which what came is not what was held; each has a stretch of both.
-    fn differing(&self, sources: &Sources<'_>) -> Differing {
+    // The offsets at which what came is not what was held.
+    fn differing(&self) -> Differing {
         let mut differing = Differing {
             among: 0,
             count: 0,
             first: 0,
             last: 0,
         };
-        let mut rest = self.part;
-        for _ in 0..self.got.count().saturating_add(self.held.count()) {
-            let got = self.got.at(rest.offset).inside(rest);
-            let held = self.held.at(rest.offset).inside(got.part);
-            differing = differing.between(got.inside(held.part), held, sources);
-            rest = between(end_of(held.part), end_of(self.part));
+        let end = end_of(self.part).min(self.held.size()).min(self.got.size());
+        let mut at = self.part.offset;
+        for _ in 0..self.part.length {
+            if at >= end {
+                break;
+            }
+            let (held, held_end) = self.held.part_at(at);
+            let (got, got_end) = self.got.part_at(at);
+            let next = held_end.min(got_end).min(end);
+            differing.compare(between(at, next), got, held);
+            at = next;
         }
         differing
     }
@@ -67,66 +72,76 @@ struct Differing {
 }
 
 impl Differing {
-    // These and those at which bytes from an offset on are not the others; where either has none there are zeroes.
-    fn compared(self, offset: u64, bytes: &[u8], others: &[u8]) -> Differing {
-        let mut differing = self;
+    // Adds those of a part at which what came is not what was held, where both are known.
+    fn compare(&mut self, part: Part, got: HeldPart<'_>, held: HeldPart<'_>) {
+        let is_known = !matches!(got, HeldPart::Unknown);
+        if is_known {
+            self.among = self.among.saturating_add(part.length);
+        }
+        if is_known & !matches!(held, HeldPart::Unknown) {
+            self.add(part.offset, bytes_of(got, part), bytes_of(held, part));
+        }
+    }
+
+    // Adds those at which bytes from an offset on are not the others; where either has none there are zeroes.
+    fn add(&mut self, offset: u64, bytes: &[u8], others: &[u8]) {
         for index in 0..bytes.len().max(others.len()) {
             let byte = bytes.get(index).copied().unwrap_or(0);
             if byte != others.get(index).copied().unwrap_or(0) {
-                differing.last = offset.saturating_add(index as u64);
-                if differing.count == 0 {
-                    differing.first = differing.last;
+                self.last = offset.saturating_add(index as u64);
+                if self.count == 0 {
+                    self.first = self.last;
                 }
-                differing.count = differing.count.saturating_add(1);
+                self.count = self.count.saturating_add(1);
             }
         }
-        differing
     }
+}
 
-    // These and those at which a stretch that came is not the one that was held in the same part, where both are known.
-    fn between(mut self, got: Stretch, held: Stretch, sources: &Sources<'_>) -> Differing {
-        if !got.is_known() {
-            return self;
-        }
-        self.among = self.among.saturating_add(got.part.length);
-        if held.is_known() {
-            self.compared(got.part.offset, got.bytes(sources), held.bytes(sources))
-        } else {
-            self
-        }
+// The bytes of a part from whose first offset on this is held; none where they are zeroes.
+fn bytes_of(held: HeldPart<'_>, part: Part) -> &[u8] {
+    match held {
+        HeldPart::Bytes(bytes) => bytes.get(..part.length as usize).unwrap_or(bytes),
+        _ => &[],
     }
 }
 
 impl Text {
     /// Adds how many bytes are wrong that a READ got, or that a BLOCK_STATUS called zero, and the first of them.
-    pub fn differing(self, compared: &Compared, sources: &Sources<'_>) -> Text {
-        let found = compared.differing(sources);
+    pub fn differing(self, compared: &Compared) -> Text {
+        let found = compared.differing();
         let rest = end_of(compared.part).saturating_sub(found.first);
         let shown = Part {
             offset: found.first,
             length: rest.min(SHOWN),
         };
-        self.two("differ: {count} of {length:byte}", found.count, found.among)
-            .say_if(compared.is_status, " called zero")
-            .fill(
-                if found.count == 1 {
-                    ", at offset {first}\nfrom offset {first}:\n"
-                } else {
-                    ", from offset {first} to {last}\nfrom offset {first}:\n"
-                },
-                &[found.first, found.last, found.first],
-            )
-            .say_either(compared.is_status, "  called  ", "  came    ")
-            .row(shown, &compared.got, sources)
-            .say("  expected")
-            .row(shown, &compared.held, sources)
+        let (among, came) = if compared.is_status {
+            (" called zero", "  called  ")
+        } else {
+            ("", "  came    ")
+        };
+        let places = if found.count == 1 {
+            ", at offset {first}\nfrom offset {first}:\n"
+        } else {
+            ", from offset {first} to {last}\nfrom offset {first}:\n"
+        };
+        self.fill(
+            "differ: {count} of {length:byte}",
+            &[found.count, found.among],
+        )
+        .say(among)
+        .fill(places, &[found.first, found.last, found.first])
+        .say(came)
+        .row(shown, &compared.got)
+        .say("  expected")
+        .row(shown, &compared.held)
     }
 
     // The bytes of a part, and two points for one that is not known.
-    fn row(self, part: Part, stretches: &Stretches, sources: &Sources<'_>) -> Text {
-        let mut text = self.refused_if(stretches.is_refused);
+    fn row(self, part: Part, contents: &Extents) -> Text {
+        let mut text = self;
         for offset in part.offset..end_of(part) {
-            text = text.byte_or(stretches.at(offset).byte(offset, sources), " {:02x}", " ..");
+            text = text.byte_or(byte_at(contents, offset), " {:02x}", " ..");
         }
         text.end()
     }

@@ -1,11 +1,11 @@
-//! The explanation of a verdict.
+//! The explanation of a verdict, and what the answer of a search is worth.
 
 use crate::rules::{IMAGE_RULE, Rule};
 use crate::story::Story;
 use crate::text::Text;
 use nbd_export::Start;
 use nbd_judge::Verdict;
-use nbd_wire::Entry;
+use nbd_wire::{Entry, Profile};
 use std::alloc::{AllocError, Global};
 
 /// What an explanation looks at.
@@ -20,16 +20,9 @@ pub struct Sources<'a> {
 /// What stands for the place of an entry where there is none: no order has one there.
 pub const NO_PLACE: usize = usize::MAX;
 
-impl Story {
-    /// That with an order and a start.
-    pub fn with<'a>(&'a self, order: &'a [Entry], start: Option<&'a Start>) -> Sources<'a> {
-        Sources {
-            story: self,
-            order,
-            start,
-        }
-    }
-}
+/// That the start may not be the one that was named, where no change of the session comes before what was read.
+pub const DOUBTED: &str =
+    "perhaps: the start was another, as where an earlier session had changed the export\n";
 
 /// What stands behind the verdict's line: behind a yes the requests that the client should not have sent, if there are some.
 pub fn explanation_of(
@@ -40,11 +33,12 @@ pub fn explanation_of(
     let text = Text::new(alloc, sources.story.is_marked);
     let text = match verdict {
         Verdict::Yes { .. } => text.amiss(sources.story),
-        Verdict::Wire { at, fault } => text.wire_fault(alloc, *at, *fault, sources.story),
+        Verdict::Wire { at, fault } => text.wire_fault(*at, *fault, sources.story),
         Verdict::Image { image, size } => text.image(*image, *size),
-        Verdict::Order { entry, fault } => text.order_fault(alloc, *entry, *fault, &sources),
-        Verdict::Content { request, offset } | Verdict::Status { request, offset } =>
-            text.wrong_byte(alloc, *request, *offset, &sources),
+        Verdict::Order { entry, fault } => text.order_fault(*entry, *fault, &sources),
+        Verdict::Content { request, offset } | Verdict::Status { request, offset } => {
+            text.wrong_byte(*request, *offset, &sources)
+        }
     };
     text.finish()
 }
@@ -52,10 +46,9 @@ pub fn explanation_of(
 impl Text {
     /// Adds why an image of so many bytes does not fit an export of this size.
     pub fn image(self, image: u64, size: u64) -> Text {
-        self.rule(&IMAGE_RULE, "the image that was given").two(
+        self.rule(&IMAGE_RULE, "the image that was given").fill(
             "sizes: the image has {image:byte}, the export {size:byte}\n",
-            image,
-            size,
+            &[image, size],
         )
     }
 
@@ -66,12 +59,56 @@ impl Text {
             .line("section: ", rule.section)
     }
 
-    /// Adds two rules of which one or the other was broken, who broke it, and where they stand.
-    pub fn one_of_rules(self, first: &Rule, second: &Rule, breaker: &str) -> Text {
-        self.line("rule: ", first.sentence)
-            .line("rule: ", second.sentence)
-            .line("broken by: ", breaker)
-            .line("section: ", first.section)
-            .line("section: ", second.section)
+    /// Adds what an order is worth that was found.
+    pub fn found(self, profile: Profile, order: &[Entry]) -> Text {
+        let mut parts = 0u64;
+        for entry in order {
+            parts = parts.saturating_add(u64::from(entry.part.is_some()));
+        }
+        self.fill(
+            "entries: {entries}, of which {parts} are parts\n\
+            shows: some order explains the session, not that the server kept it\n\
+            misses: of generated sessions in which one READ returned a stale value another order explained 3, 13 and 33 % \
+            at 4, 16 and 64 requests outstanding, on an export of 1 KiB\n\
+            stronger: an order that the server logged\n",
+            &[order.len() as u64, parts],
+        )
+        .assumed(profile)
+    }
+
+    /// Adds on what an answer without an order rests.
+    pub fn assumed(self, profile: Profile) -> Text {
+        self.say(
+            "assumes: the start is right, this is the only connection, a request takes effect before its first reply",
+        ).say_if(
+            profile == Profile::Wide,
+            ", a byte of a READ is read before the message that shows it is complete",
+        )
+        .end()
+    }
+
+    /// Adds that an order explains the session in the profile `Wide`, where one does.
+    pub fn wider_if(self, is_wider: bool) -> Text {
+        self.say_if(
+            is_wider,
+            "wide: an order explains the session in the profile wide, where each message of a READ's reply is served by itself; \
+            try --profile wide\n",
+        )
+    }
+
+    /// Adds what a search is worth that was broken off.
+    pub fn open(self) -> Text {
+        self.say(
+            "open: this was searched and not proved, so it is neither a yes nor a no\n\
+            stronger: an order that the server logged\n",
+        )
+    }
+
+    /// Adds how the search goes further: this option gives it more.
+    pub fn further(self, option: &str) -> Text {
+        self.line(
+            "further: 'nbdcheck order' with the same words and more ",
+            option,
+        )
     }
 }

@@ -5,36 +5,28 @@
 //! `rules` who broke one. The names of the protocol's numbers stand in `nbd_wire`.
 #![tactic(auto)]
 
-mod amiss;
-mod arriving;
 mod content;
 mod contexts;
 mod differing;
 mod explanation;
-mod granted;
 mod improper;
 mod layers;
 mod malformed;
 mod messages;
 mod order;
-mod parts;
 mod reading;
 mod recording;
+mod refused;
 mod refutation;
 mod related;
-mod requests;
 mod rules;
-mod source;
 mod states;
+mod statuses;
 mod story;
 mod stream;
 mod text;
 mod told;
-mod window;
 mod wire;
-mod words;
-mod worth;
-mod zeroes;
 
 pub use explanation::{Sources, explanation_of};
 pub use messages::{told_error, told_words};

@@ -2,131 +2,110 @@
 //!
 //! Data are told with the place of their first byte; no byte of the other side comes between them.
 
-use crate::arriving::last_told;
 use crate::reading::number_in;
 use crate::story::Story;
 use crate::text::Text;
 use crate::told::{Form, Told};
 use nbd_wire::limits::{LEAST_SIZE, PREFERRED_SIZE};
-use nbd_wire::{Side, Sizes, WireFault, answers, infos, options, sizes_of};
+use nbd_wire::{Side, Sizes, WireFault, answers, infos, listed_of, options, sizes_of};
 
 impl Text {
     /// Adds which part of its form an option lacks that was granted, or a refused reply to an option.
     pub fn negotiation_reason(self, fault: WireFault, told: &Told, story: &Story) -> Text {
         match (fault, told.form) {
-            (WireFault::SuccessOfImproper, Form::Answer) => self.improper_option(
-                last_told(&story.told, Side::Client, 0),
-                story,
-            ),
-            (WireFault::BadReplyPayload, Form::Answer) => self.bad_reply(
-                told.answer,
-                story.behind(told),
-                first_behind(told),
-            ),
+            (WireFault::SuccessOfImproper, Form::Answer(_)) => {
+                self.improper_option(story.last_of(Side::Client, 0), story)
+            }
+            (WireFault::BadReplyPayload, Form::Answer(head)) => {
+                self.bad_reply(head.kind, story.behind(told), first_behind(told))
+            }
             _ => self,
         }
     }
 
     // An option whose data has not its form, and what it lacks.
     fn improper_option(self, told: &Told, story: &Story) -> Text {
-        let data = story.behind(told);
-        let first = first_behind(told);
         let text = self.told("option: ", told, story);
-        match story.option {
-            options::INFO | options::GO => text.bad_name(data, first).bad_infos(data, first),
-            options::LIST_META_CONTEXT | options::SET_META_CONTEXT => text
-                .bad_name(data, first)
-                .bad_queries(data, first),
-            _ => text.number(
-                "wrong: the option has no data, and there is some from byte {first} on\n",
-                first,
-            ),
+        let (data, first) = (story.behind(told), first_behind(told));
+        let has_queries = match story.option {
+            options::INFO | options::GO => false,
+            options::LIST_META_CONTEXT | options::SET_META_CONTEXT => true,
+            _ => {
+                return text.number(
+                    "wrong: the option has no data, and there is some from byte {first} on\n",
+                    first,
+                );
+            }
+        };
+        match listed_of(data) {
+            None => text.bad_name(data, first),
+            Some((_, rest)) => {
+                let name = (data.len() as u64).saturating_sub(rest.len() as u64);
+                let place = first.saturating_add(name);
+                if has_queries {
+                    text.bad_queries(rest, place)
+                } else {
+                    text.bad_infos(rest, place)
+                }
+            }
         }
     }
 
     // A name whose length is not there whole, or passes the end of the data.
     fn bad_name(self, data: &[u8], first: u64) -> Text {
         let length = number_in(data, 0, 4);
-        let behind = count_behind(data, 4);
-        self.number_if(
-            data.len() < 4,
-            "wrong: the data ends within the length of the name, 4 bytes from byte {first} on\n",
-            first,
-        )
-        .fill_if(
-            length > behind,
-            "wrong: at byte {first} the name has the length {length}, and the bytes behind that are {there}\n",
-            &[first, length, behind],
-        )
-    }
-
-    // A count of infos that is not there whole, or does not fit the bytes behind it. Where the name is not whole, that is told.
-    fn bad_infos(self, data: &[u8], first: u64) -> Text {
-        let at = end_of_name(data);
-        let there = count_behind(data, at);
-        let place = first.saturating_add(at);
-        if (data.len() as u64) < at {
-            self
-        } else if there < 2 {
-            self.number(
-                "wrong: the data ends within the count of infos, 2 bytes from byte {first} on\n",
-                place,
-            )
+        let words = if data.len() < 4 {
+            "wrong: the data ends within the length of the name, 4 bytes from byte {first} on\n"
         } else {
-            self.fill(
-                "wrong: at byte {first} the count of infos is {count}, of 2 bytes each, and the bytes behind that are {there}\n",
-                &[place, number_in(data, at, 2), there - 2],
-            )
-        }
+            "wrong: at byte {first} the name has the length {length}, and the bytes behind that are {there}\n"
+        };
+        self.fill(
+            words,
+            &[first, length, (data.len() as u64).saturating_sub(4)],
+        )
     }
 
-    // A count of queries that is not there whole, the first query that is not, or the bytes behind the last one. Where the name is not
-    // whole, that is told.
+    // A count of infos that is not there whole, or does not fit the bytes behind it.
+    fn bad_infos(self, data: &[u8], first: u64) -> Text {
+        let words = if data.len() < 2 {
+            "wrong: the data ends within the count of infos, 2 bytes from byte {first} on\n"
+        } else {
+            "wrong: at byte {first} the count of infos is {count}, of 2 bytes each, and the bytes behind that are {there}\n"
+        };
+        let there = (data.len() as u64).saturating_sub(2);
+        self.fill(words, &[first, number_in(data, 0, 2), there])
+    }
+
+    // A count of queries that is not there whole, the first query that is not, or the bytes behind the last one.
     fn bad_queries(self, data: &[u8], first: u64) -> Text {
-        let mut at = end_of_name(data);
-        if (data.len() as u64) < at {
-            return self;
-        }
-        if count_behind(data, at) < 4 {
-            return self.number(
-                "wrong: the data ends within the count of queries, 4 bytes from byte {first} on\n",
-                first.saturating_add(at),
-            );
-        }
-        let count = number_in(data, at, 4);
-        at = at.saturating_add(4);
+        let count = number_in(data, 0, 4);
+        let mut at = 4u64;
         for number in 0..count {
-            let there = count_behind(data, at);
+            let there = (data.len() as u64).saturating_sub(at);
             let length = number_in(data, at, 4);
             if there < 4 || length > there - 4 {
-                return self
-                    .fill(
-                        "wrong: the data has {whole} of {count} queries whole; ",
-                        &[number, count],
-                    )
-                    .cut_query(length, there, first.saturating_add(at));
+                let words = if there < 4 {
+                    "wrong: the data has {whole} of {count} queries whole; the data ends within the length of the next, 4 bytes from byte {first} on\n"
+                } else {
+                    "wrong: the data has {whole} of {count} queries whole; at byte {first} the next has the length {length}, and the bytes behind that are {there}\n"
+                };
+                let behind = there.saturating_sub(4);
+                return self.fill(
+                    words,
+                    &[number, count, first.saturating_add(at), length, behind],
+                );
             }
             at = at.saturating_add(length).saturating_add(4);
+        }
+        if data.len() < 4 {
+            let words =
+                "wrong: the data ends within the count of queries, 4 bytes from byte {first} on\n";
+            return self.number(words, first);
         }
         self.fill(
             "wrong: the count of queries is {count}, and behind them the data goes on, from byte {first}\n",
             &[count, first.saturating_add(at)],
         )
-    }
-
-    // A query of this length of which so many bytes are there.
-    fn cut_query(self, length: u64, there: u64, place: u64) -> Text {
-        if there < 4 {
-            self.number(
-                "the data ends within the length of the next, 4 bytes from byte {first} on\n",
-                place,
-            )
-        } else {
-            self.fill(
-                "at byte {first} the next has the length {length}, and the bytes behind that are {there}\n",
-                &[place, length, there - 4],
-            )
-        }
     }
 
     // A reply to an option that has not its form; of block sizes each that no server may announce.
@@ -135,33 +114,34 @@ impl Text {
             (answers::SERVER, _) => self.bad_name(data, first),
             (answers::INFO, Some(sizes)) => self.bad_sizes(sizes),
             (answers::INFO, None) => self.wrong(info_reason(data)),
-            (answers::META_CONTEXT, _) if data.len() < 4 => self.wrong(
-                "its data is shorter than the id of a context, which has 4 bytes",
-            ),
-            (answers::META_CONTEXT, _) => self.wrong(
-                "a context that was selected before has the same id",
-            ),
+            (answers::META_CONTEXT, _) if data.len() < 4 => {
+                self.wrong("its data is shorter than the id of a context, which has 4 bytes")
+            }
+            (answers::META_CONTEXT, _) => {
+                self.wrong("a context that was selected before has the same id")
+            }
             _ => self.wrong("an ACK has no data"),
         }
     }
 
     // What of these block sizes no server may announce: each that is wrong.
     fn bad_sizes(self, sizes: Sizes) -> Text {
-        let has_least = sizes.least.is_power_of_two();
-        let has_preferred = sizes.preferred.is_power_of_two();
-        let is_small = sizes.preferred < PREFERRED_SIZE;
+        let (least, preferred) = (sizes.least, sizes.preferred);
+        let has_least = least.is_power_of_two();
+        let has_preferred = preferred.is_power_of_two();
+        let is_small = preferred < PREFERRED_SIZE;
         self.wrong_if(!has_least, "the least block size is no power of 2")
             .wrong_if(
-                has_least && sizes.least > LEAST_SIZE,
+                has_least & (least > LEAST_SIZE),
                 "the least block size is above 65536",
             )
             .wrong_if(!has_preferred, "the preferred block size is no power of 2")
             .wrong_if(
-                has_preferred && is_small,
+                has_preferred & is_small,
                 "the preferred block size is below 512",
             )
             .wrong_if(
-                has_preferred && !is_small && sizes.preferred < sizes.least,
+                has_preferred & !is_small & (preferred < least),
                 "the preferred block size is below the least",
             )
             .wrong_if(sizes.largest == 0, "the largest block size is 0")
@@ -170,18 +150,7 @@ impl Text {
 
 // The place of the first byte behind the head of a message.
 fn first_behind(told: &Told) -> u64 {
-    told.first
-        .saturating_add(told.length.saturating_sub(told.payload))
-}
-
-// How many bytes of data stand behind the name that they begin with, and its length.
-fn end_of_name(data: &[u8]) -> u64 {
-    number_in(data, 0, 4).saturating_add(4)
-}
-
-// How many of these bytes stand behind so many of them.
-fn count_behind(data: &[u8], count: u64) -> u64 {
-    (data.len() as u64).saturating_sub(count)
+    told.first.saturating_add(told.head())
 }
 
 // Why an INFO has not its form.

@@ -1,12 +1,12 @@
 //! Messages and requests in words.
 
-use crate::requests::Request;
 use crate::story::Story;
-use crate::text::Text;
-use crate::told::{Form, Told};
-use crate::words::letter_of;
+use crate::text::{Text, letter_of};
+use crate::told::{Form, Request, Told};
 use nbd_wire::names::{CHUNKS, COMMANDS, INFOS, Name, OPTIONS, REPLIES, name_in};
-use nbd_wire::{Info, RequestHead, Side, answers, chunks, flag_names, info_of, infos};
+use nbd_wire::{
+    AnswerHead, ChunkHead, Info, RequestHead, answers, chunks, flag_names, info_of, infos,
+};
 use std::alloc::{AllocError, Global};
 
 /// A message in words, behind the letter of its sender.
@@ -21,7 +21,7 @@ pub fn told_words(alloc: Global, told: &Told, story: &Story) -> Result<String, A
 /// The error that a request's reply told.
 pub fn told_error(alloc: Global, told: &Told, story: &Story) -> Result<String, AllocError> {
     Text::new(alloc, story.is_marked)
-        .error("", story.request(told.request).error)
+        .error("", story.request(told.number).error)
         .finish()
 }
 
@@ -29,20 +29,20 @@ impl Text {
     /// A message, and the request that it is or answers.
     pub fn message(self, told: &Told, story: &Story) -> Text {
         match told.form {
-            Form::Greeting => self
+            Form::Greeting(flags) => self
                 .say("greeting, ")
-                .flags(flag_names::HANDSHAKE, u32::from(told.flags)),
-            Form::ClientFlags => self
-                .say("client flags, ")
-                .flags(flag_names::CLIENT, told.choice),
-            Form::Choice => self
-                .option(told.choice)
+                .flags(flag_names::HANDSHAKE, u32::from(flags)),
+            Form::ClientFlags(flags) => self.say("client flags, ").flags(flag_names::CLIENT, flags),
+            Form::Choice(head) => self
+                .option(head.id)
                 .number(", {payload:byte} of data", told.payload),
-            Form::Answer => self.answer(told, story),
-            Form::Exported => self.export("export of ", told.part.length, told.flags),
-            Form::Request => self.request(&told.head(), told.request).filter(told, story),
-            Form::Simple => self.simple(told, story),
-            Form::Chunk => self.chunk(told, story),
+            Form::Answer(head) => self.answer(&head, told, story),
+            Form::Exported(export) => self.export("export of ", export.size, export.flags),
+            Form::Request(head) => self.request(&head, told.number).filter(told, story),
+            Form::Simple(head) => self
+                .reply("simple reply", head.cookie, told, story)
+                .outcome(told.error),
+            Form::Chunk(head) => self.chunk(&head, told, story),
         }
     }
 
@@ -64,21 +64,21 @@ impl Text {
 
     /// A request as it was asked, with its places, behind a label.
     pub fn asked(self, label: &str, request: &Request) -> Text {
+        let told = &request.told;
         self.say(label)
-            .request(&request.head, request.number)
-            .places("; ", request.first, request.last)
+            .request(&request.head, told.number)
+            .places("; ", told.first, told.last)
     }
 
     /// A request by its type and its number, behind words: `READ #3`.
     pub fn numbered(self, words: &str, request: &Request) -> Text {
-        self.say(words)
-            .command(request.head.command)
-            .number(" #{request}", request.number)
+        self.typed(words, request)
+            .number(" #{request}", request.told.number)
     }
 
-    /// Words and a request that was named before, by its type: ` before the READ`.
-    pub fn the(self, words: &str, request: &Request) -> Text {
-        self.say(words).say("the ").command(request.head.command)
+    /// A request by its type, behind words: ` before the READ`.
+    pub fn typed(self, words: &str, request: &Request) -> Text {
+        self.say(words).command(request.head.command)
     }
 
     /// The type of a request: `READ`, and `command 9` of one without a name.
@@ -89,19 +89,17 @@ impl Text {
 
     /// A request, its range and its flags, where it has these; DISC has no number, and its cookie is not told.
     pub fn request(self, head: &RequestHead, number: u64) -> Text {
-        let length = head.length;
+        let (offset, length) = (head.offset, head.length);
         self.command(head.command)
-            .two_if(
+            .fill_if(
                 number != 0,
                 " #{request}, cookie {cookie:#x}",
-                number,
-                head.cookie,
+                &[number, head.cookie],
             )
-            .two_if(
-                length | head.offset != 0,
+            .fill_if(
+                length | offset != 0,
                 ", {length:byte} at {offset}",
-                length,
-                head.offset,
+                &[length, offset],
             )
             .flags_in(flag_names::COMMAND, head.flags)
     }
@@ -116,47 +114,42 @@ impl Text {
     }
 
     // A reply by what it is, the request that it answers, and its cookie.
-    fn reply(self, what: &str, told: &Told, story: &Story) -> Text {
+    fn reply(self, what: &str, cookie: u64, told: &Told, story: &Story) -> Text {
         let text = self.say(what);
-        let text = if told.request == 0 {
+        let text = if told.number == 0 {
             text
         } else {
-            text.numbered(" to ", story.request(told.request))
+            text.numbered(" to ", story.request(told.number))
         };
-        text.number(", cookie {cookie:#x}: ", told.cookie)
+        text.number(", cookie {cookie:#x}: ", cookie)
     }
 
-    fn simple(self, told: &Told, story: &Story) -> Text {
-        let text = self.reply("simple reply", told, story);
-        if told.error == 0 {
-            text.say("success")
+    // What a simple reply tells.
+    fn outcome(self, error: u32) -> Text {
+        if error == 0 {
+            self.say("success")
         } else {
-            text.error("", told.error)
+            self.error("", error)
         }
     }
 
-    fn chunk(self, told: &Told, story: &Story) -> Text {
-        self.reply("chunk", told, story)
-            .name(CHUNKS, "type", u32::from(told.kind))
-            .number(", {payload:byte} of payload", told.payload)
-            .brought(told)
-            .status(told, story)
-            .flags_in(flag_names::CHUNK, told.flags)
-    }
-
-    // What a chunk brings: where its content lies, or its error.
-    fn brought(self, told: &Told) -> Text {
-        if told.part.length != 0 {
-            return self.part(", ", told.part);
-        }
-        if told.error == 0 {
-            return self;
-        }
-        self.error(", ", told.error).number_if(
-            told.kind == chunks::ERROR_OFFSET,
-            " at {offset}",
-            told.part.offset,
-        )
+    // A chunk, and what it brings: where its content lies, or its error.
+    fn chunk(self, head: &ChunkHead, told: &Told, story: &Story) -> Text {
+        let text = self
+            .reply("chunk", head.cookie, told, story)
+            .name(CHUNKS, "type", u32::from(head.kind))
+            .number(", {payload:byte} of payload", told.payload);
+        let text = if told.part.length != 0 {
+            text.part(", ", told.part)
+        } else if told.error != 0 {
+            let has_offset = head.kind == chunks::ERROR_OFFSET;
+            text.error(", ", told.error)
+                .fill_if(has_offset, " at {offset}", &[told.part.offset])
+        } else {
+            text
+        };
+        text.status(told, story)
+            .flags_in(flag_names::CHUNK, head.flags)
     }
 
     /// An option by its name and its number.
@@ -165,39 +158,34 @@ impl Text {
     }
 
     // A reply to an option, and what it states.
-    fn answer(self, told: &Told, story: &Story) -> Text {
+    fn answer(self, head: &AnswerHead, told: &Told, story: &Story) -> Text {
         let data = story.behind(told);
         let text = self
             .say("reply to ")
-            .option(told.choice)
+            .option(head.option)
             .say(": ")
-            .name(REPLIES, "kind", told.answer)
+            .name(REPLIES, "kind", head.kind)
             .number(", {payload:byte} of data", told.payload);
-        match told.answer {
-            answers::INFO if data.len() as u64 == told.payload => text.info(data),
-            answers::META_CONTEXT => text.context_told(data),
+        match (head.kind, info_of(data)) {
+            (answers::INFO, Some(info)) if data.len() as u64 == told.payload => text.info(info),
+            (answers::META_CONTEXT, _) => text.context_told(data),
             _ => text,
         }
     }
 
     // What an INFO states.
-    fn info(self, data: &[u8]) -> Text {
-        match info_of(data) {
-            Some(Info::Export { size, flags }) => self
-                .info_kind(infos::EXPORT)
-                .export(": ", size, flags),
-            Some(
-                Info::BlockSize {
-                    least,
-                    preferred,
-                    most,
-                },
-            ) => self.info_kind(infos::BLOCK_SIZE).fill(
+    fn info(self, info: Info) -> Text {
+        match info {
+            Info::Export { size, flags } => self.info_kind(infos::EXPORT).export(": ", size, flags),
+            Info::BlockSize {
+                least,
+                preferred,
+                most,
+            } => self.info_kind(infos::BLOCK_SIZE).fill(
                 ": at least {least}, preferred {preferred}, at most {largest}",
                 &[u64::from(least), u64::from(preferred), u64::from(most)],
             ),
-            Some(Info::Other { kind }) => self.info_kind(kind),
-            None => self,
+            Info::Other { kind } => self.info_kind(kind),
         }
     }
 

@@ -1,31 +1,17 @@
 //! Why no session with these bytes is served in an order.
 
 use crate::explanation::{NO_PLACE, Sources};
-use crate::layers::Stretches;
-use crate::parts::{common, has_offset, meet, outside, part_in};
-use crate::requests::{Request, range};
 use crate::rules::order_rule;
 use crate::story::Story;
 use crate::text::Text;
+use crate::told::{Request, common, has_offset, meet, outside, part_in};
 use nbd_judge::OrderFault;
 use nbd_wire::{Entry, Part, Profile};
-use std::alloc::Global;
-
-/// What stands for an entry where there is none.
-const NO_ENTRY: Entry = Entry {
-    request: 0,
-    part: None,
-};
+use std::alloc::AllocError;
 
 impl Text {
     /// Adds what is wrong with this entry of the order, counted from 1, or of Missing and NotCovered with this request.
-    pub fn order_fault(
-        self,
-        alloc: Global,
-        entry: u64,
-        fault: OrderFault,
-        sources: &Sources<'_>,
-    ) -> Text {
+    pub fn order_fault(self, entry: u64, fault: OrderFault, sources: &Sources<'_>) -> Text {
         let request = sources.story.request(entry);
         let text = self
             .rule(&order_rule(fault), "the order that was given")
@@ -38,17 +24,16 @@ impl Text {
             OrderFault::NotCovered => text
                 .moments("request: ", request)
                 .range(request, sources.story.export.size)
-                .gap(
-                    &served_where_due(alloc, request, sources),
-                    ", which no part serves\n",
-                ),
+                .gap(first_gap(request, sources), ", which no part serves\n"),
             _ => text.wrong_entry(entry.wrapping_sub(1) as usize, fault, sources),
         }
     }
 
-    // What is wrong with an entry.
+    // What is wrong with the entry at a place.
     fn wrong_entry(self, place: usize, fault: OrderFault, sources: &Sources<'_>) -> Text {
-        let entry = sources.order.get(place).unwrap_or(&NO_ENTRY);
+        let Some(entry) = sources.order.get(place) else {
+            return self;
+        };
         let request = sources.story.request(entry.request);
         match fault {
             OrderFault::Twice => self
@@ -60,7 +45,7 @@ impl Text {
             OrderFault::BadPart => self
                 .entry_at(place, sources)
                 .range(request, sources.story.export.size)
-                .bad_part(place, entry, request, sources),
+                .bad_part(place, entry, sources),
             _ => self.entry_at(place, sources),
         }
     }
@@ -77,11 +62,8 @@ impl Text {
         if request.is_there() {
             text.moments("", request)
         } else {
-            text.two(
-                "request {request}; the capture has {requests:request}\n",
-                entry.request,
-                sources.story.requests.len() as u64,
-            )
+            let words = "request {request}; the capture has {requests:request}\n";
+            text.fill(words, &[entry.request, sources.story.requests.len() as u64])
         }
     }
 
@@ -89,16 +71,13 @@ impl Text {
     fn moments(self, label: &str, request: &Request) -> Text {
         let text = self
             .say(label)
-            .request(&request.head, request.number)
-            .number("; whole at byte {whole}", request.last);
+            .request(&request.head, request.told.number)
+            .number("; whole at byte {whole}", request.told.last);
         if request.due > request.replied {
             text.number(", served before byte {before}\n", request.due)
         } else {
-            text.number_or(
-                request.replied,
-                ", first reply at byte {replied}\n",
-                ", no reply\n",
-            )
+            let words = ", first reply at byte {replied}\n";
+            text.number_or(request.replied, words, ", no reply\n")
         }
     }
 
@@ -117,30 +96,24 @@ impl Text {
         } else {
             ", in the export of {size:byte} only {inside:byte} at {at}\n"
         };
-        self.part("range: ", range(&request.head))
+        self.part("range: ", request.range())
             .fill(words, &[size, inside.length, inside.offset])
     }
 
     // What is wrong with the part of an entry: each that is. Of what an earlier entry serves of the request already, the first offset is
     // told, and that entry.
-    fn bad_part(
-        self,
-        place: usize,
-        entry: &Entry,
-        request: &Request,
-        sources: &Sources<'_>,
-    ) -> Text {
+    fn bad_part(self, place: usize, entry: &Entry, sources: &Sources<'_>) -> Text {
         let Some(part) = entry.part else {
             return self;
         };
+        let request = sources.story.request(entry.request);
         let (offset, at) = first_shared(place, entry.request, part, sources.order);
         self.say_if(part.length == 0, "wrong: the part is empty\n")
             .outside(part, request, sources.story.export.size)
-            .two_if(
+            .fill_if(
                 at < place,
                 "wrong: the part has offset {offset}, which entry {entry} serves already\n",
-                offset,
-                (at as u64).saturating_add(1),
+                &[offset, (at as u64).saturating_add(1)],
             )
             .entry_at(at, sources)
     }
@@ -148,13 +121,13 @@ impl Text {
     // The first offset of a part that lies outside its request.
     fn outside(self, part: Part, request: &Request, size: u64) -> Text {
         let rest = outside(part, request.inside(size));
-        let is_in_range = request.has_inside() && has_offset(range(&request.head), rest.offset);
+        let is_in_range = request.has_inside() & has_offset(request.range(), rest.offset);
         let words = if is_in_range {
             "wrong: the part has offset {offset}, which lies beyond the end of the export\n"
         } else {
             "wrong: the part has offset {offset}, which lies outside the request's range\n"
         };
-        self.number_if(rest.length != 0, words, rest.offset)
+        self.fill_if(rest.length != 0, words, &[rest.offset])
     }
 }
 
@@ -162,7 +135,7 @@ impl Text {
 fn is_wider(fault: OrderFault, story: &Story) -> bool {
     match fault {
         OrderFault::Late | OrderFault::Missing | OrderFault::NotCovered => {
-            story.profile == Profile::Base && story.has_chunks_apart()
+            (story.profile == Profile::Base) & story.has_chunks_apart()
         }
         _ => false,
     }
@@ -171,8 +144,8 @@ fn is_wider(fault: OrderFault, story: &Story) -> bool {
 // The place of the first entry that an entry repeats: one that serves the request atomically, or any where the entry itself does.
 fn first_naming(place: usize, entry: &Entry, order: &[Entry]) -> usize {
     for at in 0..place.min(order.len()) {
-        let is_whole = order[at].part.is_none() || entry.part.is_none();
-        if order[at].request == entry.request && is_whole {
+        let is_whole = order[at].part.is_none() | entry.part.is_none();
+        if (order[at].request == entry.request) & is_whole {
             return at;
         }
     }
@@ -198,22 +171,23 @@ fn served_by(entry: &Entry, sources: &Sources<'_>) -> Request {
     story.request_for(entry.request, entry.part.unwrap_or(inside))
 }
 
-// What an order serves of a request. Of a READ by chunk whose reply has not ended, what it serves of the first message with a gap.
-fn served_where_due(alloc: Global, request: &Request, sources: &Sources<'_>) -> Stretches {
+// The first bytes of a request that no entry serves. Of a READ by chunk whose reply has not ended, those of the first message with such.
+fn first_gap(request: &Request, sources: &Sources<'_>) -> Result<Part, AllocError> {
+    let number = request.told.number;
     let inside = request.inside(sources.story.export.size);
-    if request.finished == 0 && sources.story.serves_by_chunk(request) {
+    if (request.finished == 0) & sources.story.serves_by_chunk(request) {
         for message in &sources.story.told {
-            let shown = common(message.content_to(request.number), inside);
+            let shown = common(message.content_to(number), inside);
             if shown.length == 0 {
                 continue;
             }
-            let served = Stretches::served(alloc, request.number, shown, sources.order);
-            if served.gap().length != 0 {
-                return served;
+            let gap = sources.unserved(number, shown)?;
+            if gap.length != 0 {
+                return Ok(gap);
             }
         }
     }
-    Stretches::served(alloc, request.number, inside, sources.order)
+    sources.unserved(number, inside)
 }
 
 // The least offset of a part that an entry before a place serves of this request, and the place of that entry.

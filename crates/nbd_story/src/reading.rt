@@ -1,214 +1,165 @@
 //! Messages read from the bytes of a side.
 
-use crate::requests::range;
 use crate::story::Story;
-use crate::told::{Form, NO_MESSAGE, Told};
-use nbd_wire::{
-    Content, Part, Profile, RequestHead, Side, SimpleHead, answer_head, bytes_in, carries_payload,
-    choice_head, chunk_head, client_flags_head, commands, content_of, export_head,
-    extended_chunk_head, extended_request_head, failure_of, greeting_head, head_lengths, options,
-    read_as, request_head, simple_head,
+use crate::told::{EMPTY, Form, NO_MESSAGE, Told};
+use nbd_state::Export;
+use nbd_wire::head_lengths::{
+    ANSWER, CHOICE, CHUNK, CLIENT_FLAGS, EXPORT, EXTENDED_CHUNK, EXTENDED_REQUEST, GREETING,
+    REQUEST, SIMPLE,
 };
+use nbd_wire::{
+    ChunkHead, Content, Part, RequestHead, Side, SimpleHead, answer_head, bytes_in,
+    carries_payload, choice_head, chunk_head, client_flags_head, commands, content_of, export_head,
+    extended_chunk_head, extended_request_head, failure_of, greeting_head, options, read_as,
+    request_head, simple_head,
+};
+
+/// The form of a message, the length of its head, and how many bytes follow that.
+type Begun = Option<(Form, usize, u64)>;
 
 impl Story {
     /// The message that a side has begun behind its messages, if its head is there.
     pub fn begun(&self, side: Side) -> Told {
-        let before = self.count(side);
-        let bytes = self.recording.bytes_from(side, before);
-        let mut told = match side {
+        let bytes = self.recording.bytes_from(side, self.count(side));
+        let begun = match side {
             Side::Client => self.begun_by_client(bytes),
             Side::Server => self.begun_by_server(bytes),
         };
-        let end = before.saturating_add(told.length);
-        told.side = side;
-        told.request = self.request_of(&told);
-        told.before = before;
-        told.first = self.recording.place(side, before);
-        told.last = self.recording.place(side, end.saturating_sub(1));
-        if let Some((length, _)) = self.filter_in(&told) {
-            told.part.length = length;
+        match begun {
+            Some((form, head, payload)) => self.message(side, form, head, payload),
+            None => NO_MESSAGE,
         }
-        told
     }
 
-    fn begun_by_client(&self, bytes: &[u8]) -> Told {
+    fn begun_by_client(&self, bytes: &[u8]) -> Begun {
         if self.is_transmission {
             request(self.is_extended, bytes)
         } else if self.count(Side::Client) == 0 {
-            client_flags(bytes)
+            let flags = client_flags_head(front(bytes, CLIENT_FLAGS))?;
+            Some((Form::ClientFlags(flags), CLIENT_FLAGS, 0))
         } else {
-            choice(bytes)
+            let head = choice_head(front(bytes, CHOICE))?;
+            Some((Form::Choice(head), CHOICE, u64::from(head.length)))
         }
     }
 
-    fn begun_by_server(&self, bytes: &[u8]) -> Told {
+    fn begun_by_server(&self, bytes: &[u8]) -> Begun {
         if self.is_transmission {
             self.reply(bytes)
         } else if self.count(Side::Server) == 0 {
-            greeting(bytes)
+            let flags = greeting_head(front(bytes, GREETING))?;
+            Some((Form::Greeting(flags), GREETING, 0))
         } else if self.option == options::EXPORT_NAME {
-            exported(bytes, self.padding)
+            let (size, flags) = export_head(front(bytes, EXPORT))?;
+            let export = Export { size, flags };
+            Some((Form::Exported(export), EXPORT, self.padding))
         } else {
-            answer(bytes)
+            let head = answer_head(front(bytes, ANSWER))?;
+            Some((Form::Answer(head), ANSWER, u64::from(head.length)))
         }
     }
 
-    fn reply(&self, bytes: &[u8]) -> Told {
-        match simple_head(bytes_in(bytes, 0, head_lengths::SIMPLE)) {
-            Some(head) if !self.is_extended => self.simple(head),
-            _ => chunk(self.profile, self.is_extended, bytes),
+    // A simple reply or a chunk.
+    fn reply(&self, bytes: &[u8]) -> Begun {
+        match simple_head(front(bytes, SIMPLE)) {
+            Some(head) if !self.is_extended => {
+                Some((Form::Simple(head), SIMPLE, self.answer_to(&head).length))
+            }
+            _ => chunk(self.is_extended, bytes),
         }
     }
 
-    // A simple reply, which brings a READ its part of the export.
-    fn simple(&self, head: SimpleHead) -> Told {
+    // The part of the export that a simple reply brings: that which a READ asks for.
+    fn answer_to(&self, head: &SimpleHead) -> Part {
         let request = self.answered(head.cookie);
-        let mut told = message(Form::Simple, head_lengths::SIMPLE, 0);
-        told.cookie = head.cookie;
-        told.error = head.error;
-        if head.error == 0 && request.head.command == commands::READ {
-            told.part = range(&request.head);
-            told.payload = told.part.length;
-            told.length = told.length.saturating_add(told.payload);
+        if (head.error == 0) & (request.head.command == commands::READ) {
+            request.range()
+        } else {
+            EMPTY
+        }
+    }
+
+    // The next message of a side, with a head of this length and so many bytes behind it.
+    fn message(&self, side: Side, form: Form, head: usize, payload: u64) -> Told {
+        let before = self.count(side);
+        let length = payload.saturating_add(head as u64);
+        let last = before.saturating_add(length).saturating_sub(1);
+        let mut told = Told {
+            side,
+            form,
+            payload,
+            before,
+            length,
+            number: self.number_of(&form),
+            first: self.recording.place(side, before),
+            last: self.recording.place(side, last),
+            ..NO_MESSAGE
+        };
+        match form {
+            Form::Request(head) => {
+                if let Some((length, _)) = self.filter_in(&told) {
+                    told.form = Form::Request(RequestHead { length, ..head });
+                }
+            }
+            Form::Simple(head) => {
+                told.error = head.error;
+                told.part = self.answer_to(&head);
+            }
+            Form::Chunk(head) => self.read_payload(&mut told, &head),
+            _ => {}
         }
         told
     }
+
+    // What the payload of a chunk says, if it has come whole.
+    fn read_payload(&self, told: &mut Told, head: &ChunkHead) {
+        let payload = front(self.behind(told), head.length as usize);
+        if let Some(content) = content_of(head.kind, payload) {
+            let (offset, length) = match content {
+                Content::Bytes { offset, bytes } => (offset, bytes.len() as u64),
+                Content::Hole { offset, size } => (offset, size),
+            };
+            told.part = Part { offset, length };
+        }
+        if let Some(failure) = failure_of(read_as(self.profile, head.kind), payload) {
+            told.error = failure.error;
+            told.part.offset = failure.offset.unwrap_or(0);
+        }
+    }
 }
 
-// One with a head of this length, and so many bytes behind it.
-fn message(form: Form, head: usize, payload: u64) -> Told {
-    let mut told = NO_MESSAGE;
-    told.form = form;
-    told.payload = payload;
-    told.length = payload.saturating_add(head as u64);
-    told
+// The first so many bytes, where all are there.
+fn front(bytes: &[u8], length: usize) -> &[u8] {
+    bytes_in(bytes, 0, length)
 }
 
-// A request, by whether extended headers are in force.
-fn request(is_extended: bool, bytes: &[u8]) -> Told {
-    let length = request_length(is_extended);
-    let front = bytes_in(bytes, 0, length);
-    let read = if is_extended {
-        extended_request_head(front)
+// A request, by whether extended headers are in force. A payload follows a WRITE, and where its extended header says so.
+fn request(is_extended: bool, bytes: &[u8]) -> Begun {
+    let (length, head) = if is_extended {
+        let head = extended_request_head(front(bytes, EXTENDED_REQUEST))?;
+        (EXTENDED_REQUEST, head)
     } else {
-        request_head(front)
+        (REQUEST, request_head(front(bytes, REQUEST))?)
     };
-    let Some(head) = read else {
-        return NO_MESSAGE;
+    let payload = if is_extended && carries_payload(head.flags, head.command)
+        || head.command == commands::WRITE
+    {
+        head.length
+    } else {
+        0
     };
-    let carried = if has_payload(&head) { head.length } else { 0 };
-    let mut told = message(Form::Request, length, carried);
-    told.extended = is_extended;
-    told.flags = head.flags;
-    told.kind = head.command;
-    told.cookie = head.cookie;
-    told.part = range(&head);
-    told
-}
-
-fn client_flags(bytes: &[u8]) -> Told {
-    let Some(flags) = client_flags_head(bytes_in(bytes, 0, head_lengths::CLIENT_FLAGS)) else {
-        return NO_MESSAGE;
-    };
-    let mut told = message(Form::ClientFlags, head_lengths::CLIENT_FLAGS, 0);
-    told.choice = flags;
-    told
-}
-
-fn choice(bytes: &[u8]) -> Told {
-    let Some(head) = choice_head(bytes_in(bytes, 0, head_lengths::CHOICE)) else {
-        return NO_MESSAGE;
-    };
-    let mut told = message(Form::Choice, head_lengths::CHOICE, u64::from(head.length));
-    told.choice = head.id;
-    told
-}
-
-fn greeting(bytes: &[u8]) -> Told {
-    let Some(flags) = greeting_head(bytes_in(bytes, 0, head_lengths::GREETING)) else {
-        return NO_MESSAGE;
-    };
-    let mut told = message(Form::Greeting, head_lengths::GREETING, 0);
-    told.flags = flags;
-    told
-}
-
-// An export, and so many zeroes behind it.
-fn exported(bytes: &[u8], padding: u64) -> Told {
-    let Some((size, flags)) = export_head(bytes_in(bytes, 0, head_lengths::EXPORT)) else {
-        return NO_MESSAGE;
-    };
-    let mut told = message(Form::Exported, head_lengths::EXPORT, padding);
-    told.flags = flags;
-    told.part.length = size;
-    told
-}
-
-fn answer(bytes: &[u8]) -> Told {
-    let Some(head) = answer_head(bytes_in(bytes, 0, head_lengths::ANSWER)) else {
-        return NO_MESSAGE;
-    };
-    let mut told = message(Form::Answer, head_lengths::ANSWER, u64::from(head.length));
-    told.choice = head.option;
-    told.answer = head.kind;
-    told
+    Some((Form::Request(head), length, payload))
 }
 
 // A chunk, by whether extended headers are in force.
-fn chunk(profile: Profile, is_extended: bool, bytes: &[u8]) -> Told {
-    let (length, read) = if is_extended {
-        let length = head_lengths::EXTENDED_CHUNK;
-        (length, extended_chunk_head(bytes_in(bytes, 0, length)))
+fn chunk(is_extended: bool, bytes: &[u8]) -> Begun {
+    let (length, head) = if is_extended {
+        let head = extended_chunk_head(front(bytes, EXTENDED_CHUNK))?;
+        (EXTENDED_CHUNK, head)
     } else {
-        let length = head_lengths::CHUNK;
-        (length, chunk_head(bytes_in(bytes, 0, length)))
+        (CHUNK, chunk_head(front(bytes, CHUNK))?)
     };
-    let Some(head) = read else {
-        return NO_MESSAGE;
-    };
-    let payload = bytes_in(bytes, length, head.length as usize);
-    let mut told = message(Form::Chunk, length, head.length);
-    told.extended = is_extended;
-    told.at = head.at.unwrap_or(0);
-    told.flags = head.flags;
-    told.kind = head.kind;
-    told.cookie = head.cookie;
-    if let Some(content) = content_of(head.kind, payload) {
-        told.part = part_of(content);
-    }
-    if let Some(failure) = failure_of(read_as(profile, head.kind), payload) {
-        told.error = failure.error;
-        told.part.offset = failure.offset.unwrap_or(0);
-    }
-    told
-}
-
-// Where content lies.
-fn part_of(content: Content<'_>) -> Part {
-    match content {
-        Content::Bytes { offset, bytes } => Part {
-            offset,
-            length: bytes.len() as u64,
-        },
-        Content::Hole { offset, size } => Part {
-            offset,
-            length: size,
-        },
-    }
-}
-
-// Whether a payload follows the head of a request.
-fn has_payload(head: &RequestHead) -> bool {
-    head.command == commands::WRITE || head.extended && carries_payload(head.flags, head.command)
-}
-
-// How many bytes the head of a request has.
-fn request_length(is_extended: bool) -> usize {
-    if is_extended {
-        head_lengths::EXTENDED_REQUEST
-    } else {
-        head_lengths::REQUEST
-    }
+    Some((Form::Chunk(head), length, head.length))
 }
 
 /// The number that so many bytes from an index on are; of bytes that are not there all, 0.

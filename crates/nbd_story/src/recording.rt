@@ -1,7 +1,7 @@
 //! The bytes of a capture with their senders and their places.
 
 use crate::stream::Stream;
-use nbd_wire::{Bytes, Side};
+use nbd_wire::Side;
 use std::alloc::{AllocError, Global};
 
 /// Bytes of a side that came one after the other.
@@ -31,12 +31,9 @@ impl Stretch {
         }
     }
 
-    // How many bytes of the other side stand before them.
-    fn count_of_other(&self, side: Side) -> u64 {
-        match side {
-            Side::Client => self.server,
-            Side::Server => self.client,
-        }
+    // How many of the other side.
+    fn others(&self, side: Side) -> u64 {
+        self.count(None).saturating_sub(self.count(Some(side)))
     }
 }
 
@@ -67,23 +64,7 @@ impl Recording {
                 server: self.server.len(),
             })?;
         }
-        match side {
-            Side::Client => self.client.add(bytes),
-            Side::Server => self.server.add(bytes),
-        }
-    }
-
-    /// Takes the next so many bytes of a side for a message, which ends with this payload.
-    pub fn tell(
-        &mut self,
-        side: Side,
-        length: u64,
-        payload: Option<&Bytes>,
-    ) -> Result<(), AllocError> {
-        match side {
-            Side::Client => self.client.tell(length, payload),
-            Side::Server => self.server.tell(length, payload),
-        }
+        self.stream_mut(side).add(bytes)
     }
 
     /// How many bytes there are, of both sides.
@@ -99,6 +80,14 @@ impl Recording {
         }
     }
 
+    /// The same, to be told of.
+    pub fn stream_mut(&mut self, side: Side) -> &mut Stream {
+        match side {
+            Side::Client => &mut self.client,
+            Side::Server => &mut self.server,
+        }
+    }
+
     /// The bytes of a side that have so many of this side before them, as far as they stand together: those of a payload, or those
     /// behind the messages.
     pub fn bytes_from(&self, side: Side, before: u64) -> &[u8] {
@@ -111,27 +100,25 @@ impl Recording {
         bytes.get(..length as usize).unwrap_or(bytes)
     }
 
-    /// The byte of a side that has so many of this side before it.
-    pub fn byte_of(&self, side: Side, before: u64) -> Option<u8> {
-        self.bytes_from(side, before).first().copied()
+    /// The byte of a side that has so many of this side before it; 0 where there is none.
+    pub fn byte(&self, side: Side, before: u64) -> u8 {
+        let first = self.bytes_from(side, before).first();
+        first.copied().unwrap_or(0)
     }
 
     // The last stretch before which at most so many bytes of a side stand, or of both.
     fn stretch(&self, side: Option<Side>, most: u64) -> Stretch {
         let after = self
             .stretches
-            .partition_point(|stretch| stretch.count(side) <= most);
-        self.stretches
-            .get(after.saturating_sub(1))
-            .copied()
-            .unwrap_or(NO_STRETCH)
+            .partition_point(|one| one.count(side) <= most);
+        let last = self.stretches.get(after.saturating_sub(1));
+        last.copied().unwrap_or(NO_STRETCH)
     }
 
     /// The place in the capture, from 1, of the byte of a side that has so many of this side before it.
     pub fn place(&self, side: Side, before: u64) -> u64 {
-        before
-            .saturating_add(self.stretch(Some(side), before).count_of_other(side))
-            .saturating_add(1)
+        let others = self.stretch(Some(side), before).others(side);
+        before.saturating_add(others).saturating_add(1)
     }
 
     /// The sender of the byte at this place of the capture, which is there.
@@ -148,18 +135,12 @@ impl Recording {
         }
     }
 
-    /// The byte at this place of the capture, which this side sent.
-    pub fn byte(&self, side: Side, place: u64) -> u8 {
-        let count = self.count_up_to(side, place);
-        self.byte_of(side, count.saturating_sub(1)).unwrap_or(0)
-    }
-
     /// How many bytes of a side stand up to this place of the capture, with the byte there.
     pub fn count_up_to(&self, side: Side, place: u64) -> u64 {
         let stretch = self.stretch(None, place.saturating_sub(1));
         if stretch.side == side {
             place
-                .saturating_sub(stretch.count_of_other(side))
+                .saturating_sub(stretch.others(side))
                 .min(self.stream(side).len())
         } else {
             stretch.count(Some(side))

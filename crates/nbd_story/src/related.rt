@@ -1,55 +1,76 @@
 //! What a refused message is to be compared with.
 
-use crate::arriving::last_told;
-use crate::content::bringer;
-use crate::improper::{chunk_reason, content_reason};
-use crate::layers::{Stretch, Stretches};
-use crate::requests::{NO_REQUEST, Request, range};
 use crate::story::Story;
 use crate::text::Text;
-use crate::told::Told;
-use nbd_wire::flags::has;
-use nbd_wire::{Part, Side, WireFault, command_flags};
-use std::alloc::Global;
+use crate::told::{NO_MESSAGE, NO_REQUEST, Request, Told};
+use nbd_wire::{Part, Side, WireFault};
+use std::alloc::AllocError;
 
 /// How many outstanding requests are listed.
 const LISTED: u64 = 8;
 
-impl Text {
-    /// Adds the requests, the chunks and the export that a refused message is to be compared with.
-    pub fn related(self, alloc: Global, fault: WireFault, told: &Told, story: &Story) -> Text {
-        let request = story.answered(told.cookie);
-        if !told.has_cookie() {
-            self.negotiation_reason(fault, told, story)
-        } else if matches!(fault, WireFault::UnknownCookie) {
-            self.answered_before(told.cookie, story)
-                .outstanding(story)
-                .arriving(told, story)
-        } else if request.is_there() {
-            self.holder(alloc, fault, told, request, story)
+impl Story {
+    // The client's message of which some bytes were there, and not all, when so many bytes of the client had come, if its head is in the
+    // capture.
+    fn arriving(&self, count: u64) -> Told {
+        for told in &self.told {
+            if is_under_way(told, count) {
+                return *told;
+            }
+        }
+        let begun = self.begun(Side::Client);
+        if is_under_way(&begun, count) {
+            begun
         } else {
-            self
+            NO_MESSAGE
         }
     }
 
-    // The outstanding request with the cookie of a message.
-    fn holder(
-        self,
-        alloc: Global,
-        fault: WireFault,
-        told: &Told,
-        request: &Request,
-        story: &Story,
-    ) -> Text {
+    /// Whether the reply that the server has begun names a message of the client that was not whole when the reply began.
+    pub fn is_answered_early(&self) -> bool {
+        let reply = self.begun(Side::Server);
+        let arriving = self.arriving(self.recording.count_up_to(Side::Client, reply.first));
+        arriving.cookie().is_some() & (arriving.cookie() == reply.cookie())
+    }
+
+    /// The last message of a side that asks or answers the request with this number, or none.
+    pub fn last_of(&self, side: Side, number: u64) -> &Told {
+        let mut last = &NO_MESSAGE;
+        for message in &self.told {
+            if (message.side == side) & (message.number == number) {
+                last = message;
+            }
+        }
+        last
+    }
+}
+
+// Whether only a part of it was there when so many bytes of the client had come.
+fn is_under_way(told: &Told, count: u64) -> bool {
+    let end = told.before.saturating_add(told.length);
+    (told.side == Side::Client) & (told.before < count) & (count < end)
+}
+
+impl Text {
+    /// Adds the requests, the chunks and the export that a refused message is to be compared with.
+    pub fn related(self, fault: WireFault, told: &Told, story: &Story) -> Text {
+        let Some(cookie) = told.cookie() else {
+            return self.negotiation_reason(fault, told, story);
+        };
+        let request = story.answered(cookie);
         match (told.side, fault) {
-            (Side::Server, _) => self
+            (_, WireFault::UnknownCookie) => self
+                .answered_before(cookie, story)
+                .outstanding(story)
+                .arriving(told, story),
+            (Side::Server, _) if request.is_there() => self
                 .asked("request: ", request)
                 .end()
-                .reason(alloc, fault, told, request, story),
-            (Side::Client, WireFault::CookieInUse) => self
+                .reason(fault, told, request, story),
+            (Side::Client, WireFault::CookieInUse) if request.is_there() => self
                 .asked("outstanding: ", request)
                 .end()
-                .without_done(last_told(&story.told, Side::Server, request.number), story),
+                .without_done(story.last_of(Side::Server, request.told.number), story),
             _ => self,
         }
     }
@@ -66,37 +87,19 @@ impl Text {
     }
 
     // Why the server's message does not answer its request, where the words of both do not show it.
-    fn reason(
-        self,
-        alloc: Global,
-        fault: WireFault,
-        told: &Told,
-        request: &Request,
-        story: &Story,
-    ) -> Text {
+    fn reason(self, fault: WireFault, told: &Told, request: &Request, story: &Story) -> Text {
         match fault {
             WireFault::SuccessOfImproper => self
                 .export("export: ", story.export.size, story.export.flags)
                 .end()
                 .improper(request, story),
-            WireFault::BadChunk => self.wrong(chunk_reason(told, story)),
-            WireFault::BadContent => self.wrong(content_reason(told, request, story)).told(
-                "content before: ",
-                bringer(&story.told, request.number, rivalled(told.part, request)),
-                story,
-            ),
-            WireFault::IncompleteRead => self.gap(
-                &Stretches::got(alloc, request.number, range(&request.head), story).with(
-                    Stretch::brought_by(told, request.number),
-                ),
-                ", which no chunk brings\n",
-            ),
-            WireFault::IncompleteStatus => self.missing_statuses(alloc, told, request, story),
-            WireFault::BadReplyOffset => self.two(
-                "wrong: its header has offset {came}, that of its request is {offset}\n",
-                told.at,
-                request.head.offset,
-            ),
+            WireFault::BadChunk => self.bad_chunk(told, story),
+            WireFault::BadContent => self.bad_content(told, request, story),
+            WireFault::IncompleteRead => {
+                self.gap(story.unread(told, request), ", which no chunk brings\n")
+            }
+            WireFault::IncompleteStatus => self.missing_statuses(told, request, story),
+            WireFault::BadReplyOffset => self.bad_offset(told, request),
             _ => self,
         }
     }
@@ -105,7 +108,7 @@ impl Text {
     fn answered_before(self, cookie: u64, story: &Story) -> Text {
         let mut last = &NO_REQUEST;
         for request in &story.requests {
-            if request.head.cookie == cookie && request.finished != 0 {
+            if (request.head.cookie == cookie) & (request.finished != 0) {
                 last = request;
             }
         }
@@ -133,26 +136,43 @@ impl Text {
             .more(count, LISTED, "outstanding: {more} more\n")
     }
 
-    /// Adds the first bytes that are not known, where there are some, and what of them is said.
-    pub fn gap(self, parts: &Stretches, what: &str) -> Text {
-        let gap = parts.gap();
-        let text = self.refused_if(parts.is_refused);
-        if gap.length == 0 {
-            text
+    // The client's message that was not whole before a reply began, or its bytes that are no whole head of one, if there are some.
+    fn arriving(self, reply: &Told, story: &Story) -> Text {
+        let count = story.recording.count_up_to(Side::Client, reply.first);
+        let told = story.arriving(count);
+        if told.is_there() {
+            self.say("arriving: ")
+                .message(&told, story)
+                .cut(&told, count.saturating_sub(told.before))
+                .say(" when the reply began\n")
         } else {
-            text.part("first gap: ", gap).say(what)
+            let before = story.count(Side::Client);
+            self.fill_if(
+                count > before,
+                "arriving: {count:byte} of the client from byte {first} on, no whole head of a message\n",
+                &[
+                    count.saturating_sub(before),
+                    story.recording.place(Side::Client, before),
+                ],
+            )
         }
     }
-}
 
-// What other content may not share with this part of a READ: with DF any offset.
-fn rivalled(part: Part, request: &Request) -> Part {
-    if part.length != 0 && has(request.head.flags, command_flags::DF) {
-        Part {
-            offset: 0,
-            length: u64::MAX,
+    /// Adds from which byte on a message is there, and how many of its bytes have come and how many are missing.
+    pub fn cut(self, told: &Told, there: u64) -> Text {
+        let missing = told.length.saturating_sub(there);
+        self.fill(
+            "; from byte {first} on, {there} of its {whole} bytes, {missing} missing",
+            &[told.first, there, told.length, missing],
+        )
+    }
+
+    /// Adds the first bytes that are missing, where there are some, and what of them is said.
+    pub fn gap(self, gap: Result<Part, AllocError>, what: &str) -> Text {
+        match gap {
+            Ok(gap) if gap.length == 0 => self,
+            Ok(gap) => self.part("first gap: ", gap).say(what),
+            Err(_) => self.refused_if(true),
         }
-    } else {
-        part
     }
 }

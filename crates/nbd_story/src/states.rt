@@ -1,14 +1,13 @@
 //! The states of a refutation by several READs: what of its requests can have been served so far. A BLOCK_STATUS that calls the offset
 //! zero counts as a READ that got 00.
 
-use crate::content::{byte_by, found_byte};
+use crate::content::found_byte;
 use crate::explanation::Sources;
 use crate::refutation::Contest;
-use crate::requests::Request;
 use crate::text::Text;
+use crate::told::Request;
 use nbd_state::is_change;
 use nbd_wire::Part;
-use std::alloc::Global;
 
 /// The most requests whose states are told.
 const MOST: usize = 64;
@@ -32,38 +31,39 @@ struct Parties {
 }
 
 impl Parties {
-    fn of(alloc: Global, contest: &Contest<'_>, sources: &Sources<'_>) -> Parties {
+    fn of(contest: &Contest<'_>, sources: &Sources<'_>) -> Parties {
         let mut parties = Parties {
-            all: Vec::new(alloc),
+            all: Vec::new(sources.story.alloc()),
             is_refused: false,
         };
-        parties.add(contest.changes, contest.offset, sources);
-        parties.add(contest.reads, contest.offset, sources);
+        for numbers in [contest.changes, contest.reads] {
+            for number in numbers {
+                parties.add(*number, contest.offset, sources);
+            }
+        }
         parties
     }
 
-    fn add(&mut self, numbers: &[u64], offset: u64, sources: &Sources<'_>) {
-        for number in numbers {
-            let part = Part { offset, length: 1 };
-            let request = sources.story.request_for(*number, part);
-            let byte = if is_change(request.head.command) {
-                byte_by(&request, offset, sources)
-            } else {
-                Some(found_byte(*number, offset, sources.story).byte)
-            };
-            self.is_refused |= self.all.push(Party { request, byte }).is_err();
-        }
+    fn add(&mut self, number: u64, offset: u64, sources: &Sources<'_>) {
+        let story = sources.story;
+        let request = story.request_for(number, Part { offset, length: 1 });
+        let byte = if is_change(request.head.command) {
+            story.byte_by(&request, offset)
+        } else {
+            Some(found_byte(number, offset, story).byte)
+        };
+        self.is_refused |= self.all.push(Party { request, byte }).is_err();
     }
 
     // Whether one can be served next, once these were: it was not, and each that had to be served before it was.
     fn is_next(&self, one: &Request, served: &[u64]) -> bool {
         for party in &self.all {
             let other = &party.request;
-            if other.is_before(one) && !served.contains(&other.number) {
+            if other.is_before(one) & !served.contains(&other.told.number) {
                 return false;
             }
         }
-        !served.contains(&one.number)
+        !served.contains(&one.told.number)
     }
 }
 
@@ -74,20 +74,17 @@ impl Text {
         if contest.changes.len().saturating_add(contest.reads.len()) > MOST {
             return self.say("states: not told of more than 64 requests\n");
         }
-        let parties = Parties::of(*sources.story.requests.allocator(), contest, sources);
+        let parties = Parties::of(contest, sources);
+        let count = contest.states.len();
         let mut text = self.refused_if(parties.is_refused).say(
             "states: a change that is next leads to a state that has it, where nothing that is next got its byte; no state has all that got one\n",
         );
-        for place in 0..contest.states.len().min(LISTED) {
+        for place in 0..count.min(LISTED) {
             text = text
                 .number("state {step}: ", (place as u64).saturating_add(1))
                 .state(contest.states[place], &parties);
         }
-        text.more(
-            contest.states.len() as u64,
-            LISTED as u64,
-            "states: {more} more\n",
-        )
+        text.more(count as u64, LISTED as u64, "states: {more} more\n")
     }
 
     // What was served, in this order, and what can be served next.
@@ -96,7 +93,7 @@ impl Text {
         let mut mark = "";
         for number in served {
             for party in &parties.all {
-                if party.request.number == *number {
+                if party.request.told.number == *number {
                     text = text.party(mark, party);
                 }
             }

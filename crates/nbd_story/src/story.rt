@@ -2,14 +2,15 @@
 
 use crate::content::bringer;
 use crate::contexts::Contexts;
+use crate::explanation::Sources;
 use crate::recording::Recording;
-use crate::requests::{NO_REQUEST, Request};
-use crate::told::{Form, Told};
+use crate::told::{Form, NO_MESSAGE, NO_REQUEST, Request, Told};
+use nbd_export::Start;
 use nbd_state::{Export, is_proper};
 use nbd_wire::flags::{has, has_wide};
 use nbd_wire::{
-    Bytes, Info, Message, Part, Profile, RequestHead, Side, Sizing, answers, chunks, commands,
-    handshake, head_lengths, info_of, options, side_of,
+    AnswerHead, Bytes, ChoiceHead, Entry, Info, Message, Part, Profile, RequestHead, Side, Sizing,
+    answers, chunks, commands, handshake, head_lengths, info_of, options, side_of,
 };
 use std::alloc::{AllocError, Global};
 use std::collections::BTreeMap;
@@ -69,16 +70,28 @@ impl Story {
         }
     }
 
+    /// Where its memory comes from.
+    pub fn alloc(&self) -> Global {
+        *self.told.allocator()
+    }
+
+    /// Itself with an order and a start.
+    pub fn with<'a>(&'a self, order: &'a [Entry], start: Option<&'a Start>) -> Sources<'a> {
+        Sources {
+            story: self,
+            order,
+            start,
+        }
+    }
+
     /// Tells those of these messages, which are all so far, that it was not told of yet. The recording has their bytes: all but who
     /// sent them is read from there, and it then has their long payloads in common with them.
     pub fn tell(&mut self, messages: &[Message]) -> Result<(), AllocError> {
         for message in messages.get(self.told.len()..).unwrap_or(&[]) {
             let told = self.begun(side_of(message));
             self.note(&told);
-            self.is_refused |= self
-                .recording
-                .tell(told.side, told.length, payload_in(message))
-                .is_err();
+            let stream = self.recording.stream_mut(told.side);
+            self.is_refused |= stream.tell(told.length, payload_in(message)).is_err();
             self.is_refused |= self.told.push(told).is_err();
         }
         if self.is_refused {
@@ -88,84 +101,74 @@ impl Story {
         }
     }
 
-    // What a message changes: the phase, and what is known of a request.
+    // What a message changes: where the session stands, and what is known of a request.
     fn note(&mut self, told: &Told) {
         match told.form {
-            Form::Request => self.ask(told),
-            Form::Simple | Form::Chunk => self.answer(told),
-            _ => self.negotiate(told),
-        }
-    }
-
-    // What a message of the negotiation changes.
-    fn negotiate(&mut self, told: &Told) {
-        let data = payload_of(&self.recording, told);
-        match told.form {
-            Form::Choice => {
-                self.option = told.choice;
-                self.sizing = Sizing::at(told.choice, data);
-                self.is_refused |= self.contexts.choose(told.choice, data).is_err();
-            }
-            Form::Answer => {
-                self.export = export_after(self.export, told, data);
-                self.is_transmission = told.choice == options::GO && told.answer == answers::ACK;
-                self.is_extended |= told.choice == options::EXTENDED_HEADERS
-                    && told.answer == answers::ACK;
-                self.sizing = self.sizing.after(told.answer, data);
-                self.is_refused |= self.contexts.answer(told, data).is_err();
-            }
-            Form::ClientFlags if has_wide(told.choice, handshake::C_NO_ZEROES) => self.padding = 0,
-            Form::Exported => {
-                self.export.size = told.part.length;
-                self.export.flags = told.flags;
+            Form::ClientFlags(flags) if has_wide(flags, handshake::C_NO_ZEROES) => self.padding = 0,
+            Form::Choice(head) => self.choose(told, &head),
+            Form::Answer(head) => self.agree(told, &head),
+            Form::Exported(export) => {
+                self.export = export;
                 self.is_transmission = true;
             }
+            Form::Request(head) => self.ask(told, &head),
+            Form::Simple(head) => self.answer(told, head.cookie, true),
+            Form::Chunk(head) => self.answer(told, head.cookie, has(head.flags, chunks::DONE)),
             _ => {}
         }
     }
 
+    // The client has chosen an option.
+    fn choose(&mut self, told: &Told, head: &ChoiceHead) {
+        let data = payload_of(&self.recording, told);
+        self.option = head.id;
+        self.sizing = Sizing::at(head.id, data);
+        self.is_refused |= self.contexts.choose(head.id, data).is_err();
+    }
+
+    // The server has answered it.
+    fn agree(&mut self, told: &Told, head: &AnswerHead) {
+        let data = payload_of(&self.recording, told);
+        let is_granted = head.kind == answers::ACK;
+        if let (answers::INFO, Some(Info::Export { size, flags })) = (head.kind, info_of(data)) {
+            self.export = Export { size, flags };
+        }
+        self.is_transmission = is_granted & (head.option == options::GO);
+        self.is_extended |= is_granted & (head.option == options::EXTENDED_HEADERS);
+        self.sizing = self.sizing.after(head.kind, data);
+        self.is_refused |= self
+            .contexts
+            .answer(told.before_last(0), head, data)
+            .is_err();
+    }
+
     // A request has come. DISC has no number.
-    fn ask(&mut self, told: &Told) {
-        if told.request != 0 {
-            let head = told.head();
+    fn ask(&mut self, told: &Told, head: &RequestHead) {
+        if told.number != 0 {
             let request = Request {
-                number: told.request,
-                head,
-                payload: told.payload,
-                payload_from: told.before_last(told.payload),
-                first: told.first,
-                last: told.last,
-                replied: 0,
-                finished: 0,
-                due: 0,
-                error: 0,
-                proper: self.is_proper(told, &head),
+                told: *told,
+                head: *head,
+                proper: self.is_proper(told, head),
+                ..NO_REQUEST
             };
             self.is_refused |= self.requests.push(request).is_err();
-            self.is_refused |= self.outstanding.insert(told.cookie, told.request).is_err();
+            self.is_refused |= self.outstanding.insert(head.cookie, told.number).is_err();
         }
     }
 
     // Whether a client should send a request that has come. Where memory was refused that is not known.
     fn is_proper(&mut self, told: &Told, head: &RequestHead) -> bool {
-        let alloc = *self.requests.allocator();
-        let payload = payload_of(&self.recording, told);
-        match self
-            .contexts
-            .asking(alloc, self.export.flags, head, payload)
-        {
+        let asking = self.asking(told, head);
+        self.is_refused |= asking.is_err();
+        match asking {
             Ok(asking) => is_proper(self.export, &asking, head),
-            Err(_) => {
-                self.is_refused = true;
-                false
-            }
+            Err(_) => false,
         }
     }
 
     // A message of a reply has come; after the last one its cookie is free.
-    fn answer(&mut self, told: &Told) {
-        let is_last = matches!(told.form, Form::Simple) || has(told.flags, chunks::DONE);
-        if let Some(request) = self.requests.get_mut(told.request.wrapping_sub(1) as usize) {
+    fn answer(&mut self, told: &Told, cookie: u64, is_last: bool) {
+        if let Some(request) = self.requests.get_mut(told.number.wrapping_sub(1) as usize) {
             if request.replied == 0 {
                 request.replied = told.first;
                 request.due = told.first;
@@ -178,7 +181,7 @@ impl Story {
             }
         }
         if is_last {
-            self.outstanding.remove(&told.cookie);
+            self.outstanding.remove(&cookie);
         }
     }
 
@@ -190,6 +193,11 @@ impl Story {
     /// What a message has behind its head, as far as it has come.
     pub fn behind(&self, told: &Told) -> &[u8] {
         payload_of(&self.recording, told)
+    }
+
+    /// The last message, if there is one.
+    pub fn last(&self) -> &Told {
+        self.told.last().unwrap_or(&NO_MESSAGE)
     }
 
     /// The request with this number, from 1; 0 wraps to a place that is not there.
@@ -205,11 +213,10 @@ impl Story {
         let mut request = *self.request(number);
         if self.serves_by_chunk(&request) {
             let reply = bringer(&self.told, number, part);
-            request.due = if reply.is_there() {
-                reply.last
-            } else {
-                request.finished
-            };
+            request.due = request.finished;
+            if reply.is_there() {
+                request.due = reply.last;
+            }
         }
         request
     }
@@ -232,16 +239,11 @@ impl Story {
 
     // Whether a request came whole behind the first byte of another one's reply and before its last one.
     fn is_answered_around(&self, answered: &Request) -> bool {
-        let next = self
-            .requests
-            .partition_point(|one| one.last < answered.replied);
-        let end = if answered.finished == 0 {
-            u64::MAX
-        } else {
-            answered.finished
-        };
+        let replied = answered.replied;
+        let next = self.requests.partition_point(|one| one.told.last < replied);
         let one = self.requests.get(next).unwrap_or(&NO_REQUEST);
-        one.is_there() && answered.replied != 0 && one.last < end
+        let is_open = answered.finished == 0;
+        one.is_there() & (replied != 0) & (is_open | (one.told.last < answered.finished))
     }
 
     /// The outstanding request with this cookie.
@@ -249,32 +251,22 @@ impl Story {
         self.request(self.outstanding.get(&cookie).copied().unwrap_or(0))
     }
 
-    /// The number of the request that a message asks or answers.
-    pub fn request_of(&self, told: &Told) -> u64 {
-        match told.form {
-            Form::Request if told.kind == commands::DISC => 0,
-            Form::Request => (self.requests.len() as u64).saturating_add(1),
-            Form::Simple | Form::Chunk => self.answered(told.cookie).number,
+    /// The number of the request that a message of this form, which comes next, asks or answers.
+    pub fn number_of(&self, form: &Form) -> u64 {
+        match form {
+            Form::Request(head) if head.command == commands::DISC => 0,
+            Form::Request(_) => (self.requests.len() as u64).saturating_add(1),
+            Form::Simple(head) => self.answered(head.cookie).told.number,
+            Form::Chunk(head) => self.answered(head.cookie).told.number,
             _ => 0,
         }
     }
 }
 
-// The export that is known behind a reply to an option with these data.
-fn export_after(known: Export, told: &Told, data: &[u8]) -> Export {
-    match info_of(data) {
-        Some(Info::Export { size, flags }) if told.answer == answers::INFO => Export {
-            size,
-            flags,
-        },
-        _ => known,
-    }
-}
-
 // What a message has behind its head.
 fn payload_of<'a>(recording: &'a Recording, told: &Told) -> &'a [u8] {
-    let head = told.length.saturating_sub(told.payload);
-    recording.bytes_at(told.side, told.before.saturating_add(head), told.payload)
+    let before = told.before.saturating_add(told.head());
+    recording.bytes_at(told.side, before, told.payload)
 }
 
 // What a message has behind its head, where that is more than its kind says.

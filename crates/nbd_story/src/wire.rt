@@ -3,9 +3,8 @@
 use crate::rules::{Breaker, Rule, wire_rule};
 use crate::story::Story;
 use crate::text::Text;
-use crate::told::{Form, NO_MESSAGE, Told};
-use nbd_wire::{Side, WireFault, head_lengths};
-use std::alloc::Global;
+use crate::told::{Form, Told};
+use nbd_wire::{Profile, Side, WireFault, head_lengths, options};
 
 /// Who broke a rule where a request was answered before it was whole.
 const EARLY: &str =
@@ -27,33 +26,37 @@ const OF_READ: &str =
 
 const SHOULD: &str = "the client, a SHOULD";
 
+/// What metadata contexts are for, and in which profile they are followed.
+const CONTEXTS: &str = "metadata contexts, which block status needs";
+
+const CONTEXTS_IN_WIDE: &str =
+    "try --profile wide, which follows metadata contexts and block status; or ";
+
+/// What of a message with an extended header nbdcheck does not follow: how a session is recorded without it.
+const BEYOND: &str = "record requests and chunks whose payload has at most 4294967295 bytes";
+
 impl Text {
     /// Adds why the byte at this place was refused.
-    pub fn wire_fault(self, alloc: Global, at: u64, fault: WireFault, story: &Story) -> Text {
-        let sender = story.recording.sender(at);
-        let text = self.wire_rule(at, fault, sender, story);
-        let text = match (fault, sender) {
+    pub fn wire_fault(self, at: u64, fault: WireFault, story: &Story) -> Text {
+        let text = self.wire_rule(at, fault, story);
+        let text = match (fault, story.recording.sender(at)) {
             (WireFault::Unfinished, _) => text
-                .open_message(alloc, Side::Client, at, fault, story)
-                .open_message(alloc, Side::Server, at, fault, story),
-            (_, Some(side)) => text.open_message(alloc, side, at, fault, story),
+                .open_message(Side::Client, at, fault, story)
+                .open_message(Side::Server, at, fault, story),
+            (_, Some(side)) => text.open_message(side, at, fault, story),
             (_, None) => text,
         };
-        text.told(
-            "before it: ",
-            story.told.last().unwrap_or(&NO_MESSAGE),
-            story,
-        )
-        .window(&story.recording, at)
+        text.told("before it: ", story.last(), story)
+            .window(&story.recording, at)
     }
 
-    // The rule of a fault and who broke it, where it judges the session; `sender` sent the byte at which it was seen.
-    fn wire_rule(self, at: u64, fault: WireFault, sender: Option<Side>, story: &Story) -> Text {
+    // The rule of a fault that was seen at this place, and who broke it, where it judges the session.
+    fn wire_rule(self, at: u64, fault: WireFault, story: &Story) -> Text {
         let rule = wire_rule(fault);
         match fault {
             WireFault::OutOfProfile => self.not_judged(&rule).instead(story),
             WireFault::ExportTooLarge => self.not_judged(&rule),
-            _ => self.rule(&rule, story.breaker(at, fault, rule.breaker, sender)),
+            _ => self.rule(&rule, story.breaker(at, fault, rule.breaker)),
         }
     }
 
@@ -63,26 +66,31 @@ impl Text {
             .line("section: ", rule.section)
     }
 
+    // What to do about an option that the server granted last and that nbdcheck does not follow: how the session is followed further, or
+    // recorded without it; or about what a message with an extended header says.
+    fn instead(self, story: &Story) -> Text {
+        if story.is_transmission {
+            return self.line("instead: ", BEYOND);
+        }
+        let (purpose, wider, advice) = extension_of(story.option);
+        self.say("granted: ")
+            .option(story.option)
+            .line(", for ", purpose)
+            .say("instead: ")
+            .say_if(story.profile == Profile::Base, wider)
+            .line("", advice)
+    }
+
     // The message of a side that was not complete, where there is one, or its bytes that are no whole head of one.
-    fn open_message(
-        self,
-        alloc: Global,
-        side: Side,
-        at: u64,
-        fault: WireFault,
-        story: &Story,
-    ) -> Text {
-        let taken = story
-            .recording
-            .count_up_to(side, at)
-            .saturating_sub(story.count(side));
+    fn open_message(self, side: Side, at: u64, fault: WireFault, story: &Story) -> Text {
+        let taken = story.came(side, at);
         let told = story.begun(side);
         if taken == 0 {
             self
         } else if told.is_there() {
-            self.begun(&told, story).related(alloc, fault, &told, story)
+            self.begun(&told, story).related(fault, &told, story)
         } else {
-            self.headless(side, taken, fault, story)
+            self.headless(side, taken, matches!(fault, WireFault::BadMagic), story)
         }
     }
 
@@ -100,36 +108,37 @@ impl Text {
     }
 
     // The bytes of a side, so many, that are no whole head of a message.
-    fn headless(self, side: Side, taken: u64, fault: WireFault, story: &Story) -> Text {
+    fn headless(self, side: Side, taken: u64, is_bad: bool, story: &Story) -> Text {
         let before = story.count(side);
         let last = before.saturating_add(taken).saturating_sub(1);
-        let is_bad = matches!(fault, WireFault::BadMagic);
-        self.number("message: {length:byte} of the ", taken)
-            .say_either(side == Side::Client, "client, ", "server, ")
-            .say_either(
-                is_bad,
-                "which begin no message; ",
-                "no whole head of a message; ",
-            )
-            .places(
-                "",
-                story.recording.place(side, before),
-                story.recording.place(side, last),
-            )
+        let words = match (side, is_bad) {
+            (Side::Client, true) =>
+                "message: {length:byte} of the client, which begin no message; ",
+            (Side::Server, true) =>
+                "message: {length:byte} of the server, which begin no message; ",
+            (Side::Client, false) =>
+                "message: {length:byte} of the client, no whole head of a message; ",
+            (Side::Server, false) =>
+                "message: {length:byte} of the server, no whole head of a message; ",
+        };
+        let first = story.recording.place(side, before);
+        self.number(words, taken)
+            .places("", first, story.recording.place(side, last))
             .end()
             .say_if(is_bad, magic_of(side, story))
     }
 }
 
 impl Story {
-    // Who broke the rule of a fault; `sender` sent the byte at which it was seen.
-    fn breaker(
-        &self,
-        at: u64,
-        fault: WireFault,
-        breaker: Breaker,
-        sender: Option<Side>,
-    ) -> &'static str {
+    // How many bytes of a side had come behind its messages up to this place.
+    fn came(&self, side: Side, at: u64) -> u64 {
+        let count = self.recording.count_up_to(side, at);
+        count.saturating_sub(self.count(side))
+    }
+
+    // Who broke the rule of a fault that was seen at this place.
+    fn breaker(&self, at: u64, fault: WireFault, breaker: Breaker) -> &'static str {
+        let sender = self.recording.sender(at);
         match fault {
             WireFault::NotFixedNewstyle => NOT_FIXED,
             WireFault::CookieInUse => SHOULD,
@@ -150,20 +159,15 @@ impl Story {
 
     // Whether the server sent this byte, and the head of an option had come and its data had not.
     fn is_hasty(&self, at: u64, sender: Option<Side>) -> bool {
-        let before = self.count(Side::Client);
-        let came = self
-            .recording
-            .count_up_to(Side::Client, at)
-            .saturating_sub(before);
         sender == Some(Side::Server)
-            && came >= head_lengths::CHOICE as u64
-            && matches!(self.begun(Side::Client).form, Form::Choice)
+            && self.came(Side::Client, at) >= head_lengths::CHOICE as u64
+            && matches!(self.begun(Side::Client).form, Form::Choice(_))
     }
 
     // Whether a simple reply with the bytes of a READ has begun.
     fn is_reading(&self) -> bool {
         let told = self.begun(Side::Server);
-        matches!(told.form, Form::Simple) && told.payload != 0
+        matches!(told.form, Form::Simple(_)) & (told.payload != 0)
     }
 }
 
@@ -189,5 +193,37 @@ fn breaker_name(breaker: Breaker, sender: Option<Side>) -> &'static str {
         (Breaker::Client, _) | (Breaker::Sender, Some(Side::Client)) => "the client",
         (Breaker::Nobody, _) => "nobody, where the recording was cut off; else the sender",
         _ => "the server",
+    }
+}
+
+// What an option is for that a server may grant and nbdcheck does not follow in some profile; which profile goes further, where the other
+// one does; and how its client or its server is told to do without.
+fn extension_of(option: u32) -> (&'static str, &'static str, &'static str) {
+    match option {
+        options::STARTTLS => (
+            "TLS",
+            "",
+            "record without TLS: a client of nbd: in place of nbds:, qemu without tls-creds, nbdkit --tls=off",
+        ),
+        options::LIST_META_CONTEXT => (
+            CONTEXTS,
+            CONTEXTS_IN_WIDE,
+            "record without listing contexts: nbdinfo --size, nbdsh without opt_list_meta_context; qemu-nbd --list always asks",
+        ),
+        options::SET_META_CONTEXT => (
+            CONTEXTS,
+            CONTEXTS_IN_WIDE,
+            "record without block status: nbdsh without --base-allocation and add_meta_context, nbdcopy --no-extents; qemu always asks, so serve without structured replies: nbdkit --no-sr",
+        ),
+        options::EXTENDED_HEADERS => (
+            "extended headers, of 64 bits",
+            "try --profile wide, which follows extended headers; or ",
+            "record without them: in libnbd h.set_request_extended_headers(False), or a server that has none",
+        ),
+        _ => (
+            "an extension that nbdcheck has no name for",
+            "",
+            "record with a client that does not ask for it, or a server that refuses it",
+        ),
     }
 }
