@@ -26,15 +26,19 @@ pub use Rattle.nbd_judge.specs.Conclusions.{Answers, IsConclusion, IsReportOf}
 pub use Rattle.nbd_judge.specs.declared.verdict.Verdict.{Verdict}
 pub use Rattle.nbd_judge.specs.declared.verdict.Verdict.TheVariants.{Content, Order, Status, Yes}
 pub use Rattle.nbd_judge.specs.internal.Captures.{HasReport}
+pub use Rattle.nbd_session.proofs.judge.PieceLemmas.{kept_taken}
+pub use Rattle.nbd_session.specs.Following.{Follows, IsPushed, past_of}
 pub use Rattle.nbd_session.specs.Refusals.{EndsIn, IsRefusalOf, IsWireFaultOf, Refuses}
-pub use Rattle.nbd_session.specs.Sessions.{AddsPrefix, IsAtEnd, IsReported, SessionView, bytes_taken, end_by, fault_at_end, fault_of, open_end_fault, pairs_of}
+pub use Rattle.nbd_session.specs.Sessions.{AddsPrefix, IsAtEnd, IsReported, SessionView, bytes_taken, empty_session_of, end_by, fault_at_end, fault_of, open_end_fault, pairs_of}
 pub use Rattle.nbd_session.specs.declared.fault.SessionFault.{SessionFault}
 pub use Rattle.nbd_session.specs.declared.fault.SessionFault.TheVariants.{Wire}
+pub use Rattle.nbd_session.specs.declared.monitor.Monitor.{Monitor}
 pub use Rattle.nbd_tool.specs.Beginnings.{IsBeginningOf, IsReadAs, room_in}
-pub use Rattle.nbd_tool.specs.Ends.{IsOver, IsOverText, IsWireAt}
+pub use Rattle.nbd_tool.specs.Ends.{IsFinishOf, IsOver, IsOverText, IsWireAt}
 pub use Rattle.nbd_tool.specs.Runs.{AnswersExactly, IsCapture, IsCaptureCause, IsVerdictOn, LeavesWritten, SaysYes, Tells, flat_of}
 pub use Rattle.nbd_tool.specs.Uniqueness.{OneLine}
 pub use Rattle.nbd_tool.specs.Verdicts.{IsYes, line}
+pub use Rattle.nbd_tool.specs.internal.Intakes.{IsFollowing, IsOverChunks}
 pub use Rattle.nbd_tool.specs.internal.Outcomes.{IsConcluded}
 pub use Rattle.nbd_wire.specs.declared.entry.Entry.{Entry}
 pub use Rattle.nbd_wire.specs.declared.fault.WireFault.{WireFault}

@@ -1,5 +1,5 @@
 -- A session over a capture's chunks: what it took, and how it stands at its end.
-use Rattle.nbd_tool.proofs.Common.{◌≡◌, ℕ, ◌≤◌, List, [], ◌∷◌, ◌++◌, length, refl, sym, ◌∙◌, ap, subst, arith, length-append, append_assoc, append-nil, Option, Some, None, IfSome, Result, Ok, Err, IfOk, IfErr, OnErr, OnOk, inl, result_and, Profile, Entry, WireFault, Side, Pair, side_pairs, Start, Item, pairs, Report, IsRunOf, Chunk, NamesFirstBadLine, Reading, Reads, Open, reads-append, CaptureFault, SessionFault, Wire, EndsIn, IsRefusalOf, IsWireFaultOf, Refuses, AddsPrefix, IsAtEnd, IsReported, SessionView, bytes_taken, end_by, fault_at_end, fault_of, open_end_fault, pairs_of, IsChecked, IsFaultOf, Answers, IsConclusion, IsReportOf, Verdict, HasReport, checked, told_of, of_capture, IsCapture, IsCaptureCause, flat_of, IsOver, IsOverText, IsWireAt}
+use Rattle.nbd_tool.proofs.Common.{◌≡◌, ℕ, ◌≤◌, List, [], ◌∷◌, ◌++◌, length, refl, sym, ◌∙◌, ap, subst, arith, length-append, append_assoc, append-nil, Option, Some, None, IfSome, Result, Ok, Err, IfOk, IfErr, OnErr, OnOk, inl, result_and, Profile, Entry, WireFault, Side, Pair, side_pairs, Start, Item, pairs, Report, IsRunOf, Chunk, NamesFirstBadLine, Reading, Reads, Open, reads-append, CaptureFault, SessionFault, Wire, EndsIn, Follows, empty_session_of, IsFollowing, IsPushed, Monitor, kept_taken, past_of, IsRefusalOf, IsWireFaultOf, Refuses, AddsPrefix, IsReported, SessionView, bytes_taken, end_by, fault_at_end, fault_of, open_end_fault, pairs_of, IsChecked, IsFaultOf, Answers, IsConclusion, IsReportOf, Verdict, HasReport, checked, told_of, of_capture, IsCapture, IsCaptureCause, flat_of, IsOver, IsOverText, IsWireAt}
 use Rattle.nbd_capture.specs.declared.capture.CaptureFault.TheVariants as reader
 use Rattle.nbd_session.specs.declared.fault.SessionFault.TheVariants.{Memory}
 
@@ -30,6 +30,10 @@ over_open capture r base took unclosed = record {
   at = subst (λ c. IfSome c (IsWireAt (bytes_taken r))) (sym unclosed) tt;
   refused = subst (λ c. IfSome c (Refuses r)) (sym unclosed) tt;
 }
+
+-- a session before its first byte
+pub over_empty : (profile : Profile) (r : SessionView) → r ≡ empty_session_of profile → IsOver profile [] r
+over_empty profile r is = over_open [] r (ap (λ (r : SessionView). r.profile) is) (ap pairs_of is) (ap (λ (r : SessionView). r.closed) is)
 
 -- all was taken of an open session's capture
 pub took_all : {profile : Profile} (capture : List Pair) (r : SessionView) → IsOver profile capture r → r.closed ≡ None → pairs_of r ≡ capture
@@ -64,21 +68,36 @@ over_before capture more r fault over closed = record {
 }
 
 -- one more piece was pushed, and memory did not run out
-pub over_pushed : {profile : Profile} (capture : List Pair) (old new : SessionView) (s : Side) (piece : List ℕ) (o : Result (Unit {0}) SessionFault) → IsOver profile capture old → new.profile ≡ old.profile →
-    OnOk o (pairs_of new ≡ pairs_of old ++ side_pairs s piece) → OnOk o (new.closed ≡ None) → AddsPrefix old new s piece → IfErr o (λ fault. new.closed ≡ Some fault) →
-    IfErr o (λ fault. old.closed ≡ None → IsAtEnd new fault) → ((fault : SessionFault) → old.closed ≡ Some fault → (o ≡ Err fault) × (new ≡ old)) → IfErr o (Refuses new) →
+pub over_pushed : {profile : Profile} (capture : List Pair) (old new : SessionView) (s : Side) (piece : List ℕ) (o : Result (Unit {0}) SessionFault) → IsOver profile capture old → IsPushed old new s piece o →
     (o ≡ Err Memory → ⊥) → IsOver profile (capture ++ side_pairs s piece) new
-over_pushed {profile} capture old new s piece o over kept added unshut prefix closed at same wire some = go old.closed refl
+over_pushed {profile} capture old new s piece o over push some = go old.closed refl
   where
-    once : (o : Result (Unit {0}) SessionFault) → old.closed ≡ None → OnOk o (pairs_of new ≡ pairs_of old ++ side_pairs s piece) → OnOk o (new.closed ≡ None) → IfErr o (λ fault. new.closed ≡ Some fault) →
-        IfErr o (λ fault. old.closed ≡ None → IsAtEnd new fault) → IfErr o (Refuses new) → (o ≡ Err Memory → ⊥) → IsOver profile (capture ++ side_pairs s piece) new
-    once (Ok u) unclosed added unshut closed at wire some = over_open (capture ++ side_pairs s piece) new (kept ∙ over.profile_is) (added ∙ ap (λ ps. ps ++ side_pairs s piece) (took_all capture old over unclosed)) unshut
-    once (Err (Wire n fault)) unclosed added unshut closed at wire some = over_closed capture s piece old new n fault (kept ∙ over.profile_is) (took_all capture old over unclosed) prefix closed (at unclosed) wire
-    once (Err Memory) unclosed added unshut closed at wire some = absurd (some refl)
+    once : (o : Result (Unit {0}) SessionFault) → old.closed ≡ None → IsPushed old new s piece o → (o ≡ Err Memory → ⊥) → IsOver profile (capture ++ side_pairs s piece) new
+    once (Ok u) unclosed p some = over_open (capture ++ side_pairs s piece) new (p.profile ∙ over.profile_is) (p.added ∙ ap (λ ps. ps ++ side_pairs s piece) (took_all capture old over unclosed)) p.unclosed
+    once (Err (Wire n fault)) unclosed p some = over_closed capture s piece old new n fault (p.profile ∙ over.profile_is) (took_all capture old over unclosed) p.prefix p.refused p.wire.0 p.wire
+    once (Err Memory) unclosed p some = absurd (some refl)
 
     go : (c : Option SessionFault) → old.closed ≡ c → IsOver profile (capture ++ side_pairs s piece) new
-    go None unclosed = once o unclosed added unshut closed at wire some
-    go (Some fault) shut = subst (IsOver profile (capture ++ side_pairs s piece)) (sym (same fault shut).1) (over_before capture (side_pairs s piece) old fault over shut)
+    go None unclosed = once o unclosed push some
+    go (Some fault) shut = subst (IsOver profile (capture ++ side_pairs s piece)) (sym (push.closed fault shut).1) (over_before capture (side_pairs s piece) old fault over shut)
+
+-- the same of a monitor
+pub following_pushed : {profile : Profile} (capture : List Pair) (old new : Monitor) (s : Side) (piece : List ℕ) (o : Result (Unit {0}) SessionFault) → IsFollowing profile capture old →
+    ((r : SessionView) → Follows old r → (next : SessionView) × Follows new next × IsPushed r next s piece o) → (o ≡ Err Memory → ⊥) → IsFollowing profile (capture ++ side_pairs s piece) new
+following_pushed capture old new s piece o f push some =
+    let next = push f.session f.follows in
+    record { session = next.0; follows = next.1; over = over_pushed capture f.session next.0 s piece o f.over next.2 some }
+
+-- a monitor before its first byte
+pub following_empty : (profile : Profile) (monitor : Monitor) → Follows monitor (empty_session_of profile) → IsFollowing profile [] monitor
+following_empty profile monitor f = record { session = empty_session_of profile; follows = f; over = over_empty profile (empty_session_of profile) refl }
+
+-- what a monitor took is no more than there is
+pub following_within : {profile : Profile} (capture : List Pair) (monitor : Monitor) (f : IsFollowing profile capture monitor) → monitor.taken ≤ length capture
+following_within capture monitor f =
+    let within = taken_within capture f.session f.over in
+    let is = kept_taken monitor (past_of f.session) f.follows.kept in
+    omega (arith, within, is)
 
 -- the report of a session that is over is that of its capture
 pub report_over : {profile : Profile} (capture : List Pair) (r : SessionView) (o : Result Report SessionFault) → IsOver profile capture r → fault_of o ≡ fault_at_end r → IfOk o (IsReported r) → IfOk o (HasReport profile capture)
@@ -112,11 +131,11 @@ cause_of known reader.Read named = tt
 cause_of known reader.Memory named = tt
 
 -- a chunk was read and pushed
-pub next_pushed : {profile : Profile} (first old next : Reading) (new : SessionView) (chunks : List Chunk) (s : Side) (bytes piece : List ℕ) → Reads first old chunks → Reads old next (record { side = s; bytes = bytes } ∷ []) →
-    next.state ≡ Open → piece ≡ bytes → IsOver profile (flat_of chunks ++ side_pairs s piece) new → (all : List Chunk) × Reads first next all × (next.state ≡ Open) × IsOver profile (flat_of all) new
-next_pushed {profile} first old next new chunks s bytes piece before chunk state same over =
+pub next_pushed : (IsOverAll : List Pair → Type 0) (first old next : Reading) (chunks : List Chunk) (s : Side) (bytes piece : List ℕ) → Reads first old chunks → Reads old next (record { side = s; bytes = bytes } ∷ []) →
+    next.state ≡ Open → piece ≡ bytes → IsOverAll (flat_of chunks ++ side_pairs s piece) → (all : List Chunk) × Reads first next all × (next.state ≡ Open) × IsOverAll (flat_of all)
+next_pushed IsOverAll first old next chunks s bytes piece before chunk state same over =
     let one : Chunk = record { side = s; bytes = bytes } in
-    (chunks ++ one ∷ [], reads-append first old next chunks (one ∷ []) before chunk, state, subst (λ ps. IsOver profile ps new) (ap (λ bs. flat_of chunks ++ side_pairs s bs) same ∙ sym (flat-snoc chunks one)) over)
+    (chunks ++ one ∷ [], reads-append first old next chunks (one ∷ []) before chunk, state, subst IsOverAll (ap (λ bs. flat_of chunks ++ side_pairs s bs) same ∙ sym (flat-snoc chunks one)) over)
 
 -- the conclusion from a session that is over is the verdict on its capture
 pub checked_over : {profile : Profile} (capture : List Pair) (r : SessionView) (order : List Entry) (initial : Start) (finished : Result Report SessionFault) (v : Verdict) → IsOver profile capture r →
@@ -137,6 +156,20 @@ joined_on P (Err fault) b both e holds = subst (λ r. OnOk r P) (sym e) tt
 pub joined_err : {A B E : Type 0} (P : E → Type 0) (o : Result A E) (b : B) (both : Result B E) → both ≡ result_and o (Ok b) → IfErr o P → IfErr both P
 joined_err P (Ok a) b both e holds = subst (λ r. IfErr r P) (sym e) tt
 joined_err P (Err fault) b both e holds = subst (λ r. IfErr r P) (sym e) holds
+
+-- what follows of a result
+pub on_ok_of : {A E : Type 0} (P Q : Type 0) (o : Result A E) → OnOk o P → (P → Q) → OnOk o Q
+on_ok_of P Q (Ok a) h f = f h
+on_ok_of P Q (Err e) h f = tt
+
+-- and of each thing that it is said of
+pub of_ok : {A B E : Type 0} (P : B → Type 0) (Q : B → A → Type 0) (o : Result A E) → IfOk o (λ a. (b : B) → P b → Q b a) → (b : B) → P b → IfOk o (Q b)
+of_ok P Q (Ok a) h b p = h b p
+of_ok P Q (Err e) h b p = tt
+
+pub of_err : {A B E : Type 0} (P : B → Type 0) (Q : B → E → Type 0) (o : Result A E) → IfErr o (λ e. (b : B) → P b → Q b e) → (b : B) → P b → IfErr o (Q b)
+of_err P Q (Ok a) h b p = tt
+of_err P Q (Err e) h b p = h b p
 
 -- what such a pair says of its parts
 pub both_ok : {A B E : Type 0} (o : Result A E) (b second : B) → Ok second ≡ result_and o (Ok b) → second ≡ b

@@ -1,5 +1,5 @@
 -- Each run of `check` has one line to write.
-use Rattle.nbd_tool.proofs.Common.{◌≡◌, List, subst, Profile, Entry, Chunk, IsCaptureLine, IsOrderLine, one_saying, one_entry, one_reading, IsChecked, one_answer, flat_of, OneLine}
+use Rattle.nbd_tool.proofs.Common.{◌≡◌, List, subst, Entry, Chunk, IsCaptureLine, IsOrderLine, one_saying, one_entry, one_reading, IsChecked, one_answer, flat_of, OneLine}
 
 pub one_line : OneLine
 one_line profile text order_text initial v w a b =

@@ -1,14 +1,15 @@
 -- How a session that is shown stands at its end, and the last line.
-use Rattle.std.specs.Prelude.{◌≡◌, ℕ, List, [], ◌++◌, Bool, true, false, Option, Some, None, IfSome, codes}
+use Rattle.std.specs.Prelude.{◌≡◌, ℕ, List, [], ◌++◌, Bool, true, false, Option, Some, None, IfSome, Result, IfOk, IfErr, codes}
 use Rattle.std.specs.Io.KnownBytes.{Keeps}
 use Rattle.nbd_wire.specs.declared.profile.Profile.{Profile}
 use Rattle.nbd_wire.specs.protocol.Captures.{Pair}
+use Rattle.nbd_wire.specs.protocol.Reports.{Report}
 use Rattle.nbd_capture.specs.Capture.{Chunk, IsCaptureText}
 use Rattle.nbd_capture.specs.Writing.{AppendsPrefix}
 use Rattle.nbd_session.specs.declared.fault.SessionFault.{SessionFault}
 use Rattle.nbd_session.specs.declared.fault.SessionFault.TheVariants as session
-use Rattle.nbd_session.specs.Refusals.{Refuses}
-use Rattle.nbd_session.specs.Sessions.{SessionView, pairs_of, bytes_taken}
+use Rattle.nbd_session.specs.Refusals.{EndsIn, Refuses}
+use Rattle.nbd_session.specs.Sessions.{IsReported, SessionView, bytes_taken, fault_at_end, fault_of, pairs_of}
 use Rattle.nbd_judge.specs.declared.verdict.Verdict.TheVariants.{Wire}
 use Rattle.nbd_files.specs.declared.fault.RunFault.{RunFault}
 use Rattle.nbd_files.specs.declared.fault.RunFault.TheVariants.{Write, Memory}
@@ -35,6 +36,15 @@ pub record IsOverText (profile : Profile) (known : Option (List ℕ)) (r : Sessi
   pub chunks : List Chunk
   pub is_text : IfSome known (λ text. IsCaptureText text chunks)
   pub over : IsOver profile (flat_of chunks) r
+
+-- what a session of the profile over the chunks of a capture text came to at its end
+pub record IsFinishOf (profile : Profile) (known : Option (List ℕ))
+    (finished : Result Report SessionFault) : Type 0 where
+  pub session : SessionView
+  pub over : IsOverText profile known session
+  pub fault : fault_of finished ≡ fault_at_end session
+  pub report : IfOk finished (IsReported session)
+  pub wire : IfErr finished (EndsIn session)
 
 -- the session was accepted
 abbrev pub is_accepted : Option SessionFault → Bool

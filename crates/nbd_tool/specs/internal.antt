@@ -1,2 +1,3 @@
+pub mod Intakes
 pub mod Outcomes
 pub mod VerdictParts

@@ -1,18 +1,19 @@
 //! A session over a capture that is read chunk by chunk.
 
-ghost use Rattle.std.specs.Prelude.{◌≡◌, ◌+◌, ◌<◌, ◌^◌, ◌++◌, List, IfErr, IfOk, OnOk, length};
+ghost use Rattle.std.specs.Prelude.{◌≡◌, ◌+◌, ◌<◌, ◌^◌, ◌++◌, [], List, IfErr, IfOk, OnOk, length};
 ghost use Rattle.nbd_wire.specs.declared.profile.Profile.{Profile};
 ghost use Rattle.nbd_wire.specs.protocol.Captures.{Pair, side_pairs};
 ghost use Rattle.nbd_capture.specs.Reading.{at_start};
 ghost use Rattle.nbd_files.specs.declared.input.TheConstants.{READ_LIMIT};
-ghost use Rattle.nbd_session.specs.Sessions.{bytes_taken, empty_session_of};
 ghost use Rattle.nbd_tool.specs.Runs.{IsCaptureCause};
 ghost use Rattle.nbd_files.specs.Starts.{IsWithinLimit};
-ghost use Rattle.nbd_tool.specs.Ends.{IsOver, IsOverText};
+ghost use Rattle.nbd_tool.specs.Ends.{IsFinishOf, IsOverText};
+ghost use Rattle.nbd_tool.specs.internal.Intakes.{IsOverChunks};
 
+use crate::intake::Intake;
 use nbd_capture::CaptureReader;
 use nbd_files::{READ_LIMIT, RunFault};
-use nbd_session::{Session, SessionFault};
+use nbd_session::{Monitor, Session, SessionFault, Transcript};
 use nbd_wire::{Message, Profile, Side};
 use std::alloc::{AllocError, Global};
 use std::io::BufRead;
@@ -59,67 +60,77 @@ pub fn session_over<C: BufRead + Drop, S: Witness>(
     push_all(alloc, capture, &mut session, witness).and(Ok(session))
 }
 
-// Pushes all chunks of a capture text into a session that has taken nothing.
-fn push_all<C: BufRead + Drop, S: Witness>(
+/// What a session of this profile over the capture text that the reader has comes to at its end. None of its messages is
+/// kept.
+///
+/// The text is read as `session_over` reads it.
+pub fn transcript_over<C: BufRead + Drop>(
+    alloc: Global,
+    profile: Profile,
+    capture: C,
+) -> Result<Result<Transcript, SessionFault>, RunFault>
+    ensures finish { IfOk result (IsFinishOf profile (C.remaining capture)) }
+    ensures limited { OnOk result (IsWithinLimit (C.remaining capture)) }
+    ensures cause { IfErr result (IsCaptureCause (C.remaining capture)) }
+{
+    let mut monitor = Monitor::of(alloc, profile);
+    match push_all(alloc, capture, &mut monitor, &mut Unseen) {
+        Ok(()) => Ok(monitor.finish()),
+        Err(fault) => Err(fault),
+    }
+}
+
+// Pushes all chunks of a capture text into an intake that has taken nothing.
+fn push_all<C: BufRead + Drop, T: Intake, S: Witness>(
     alloc: Global,
     capture: C,
-    session: &mut Session,
+    intake: &mut T,
     witness: &mut S,
 ) -> Result<(), RunFault>
-    requires { session.old ≡ empty_session_of session.old.profile }
-    ensures over { OnOk result (IsOverText session.old.profile (C.remaining capture) session.new) }
+    requires { (profile : Profile) × T.over intake.old profile [] }
+    ensures over { OnOk result ((profile : Profile) → T.over intake.old profile [] →
+        IsOverChunks (T.over intake.new profile) (C.remaining capture)) }
     ensures limited { OnOk result (IsWithinLimit (C.remaining capture)) }
     ensures cause { IfErr result (IsCaptureCause (C.remaining capture)) }
 {
     let mut reader = CaptureReader::new(alloc, capture, READ_LIMIT as u64);
-    push_read(alloc, &mut reader, session, witness)
+    push_read(alloc, &mut reader, intake, witness)
 }
 
-// Pushes all chunks that a new reader has into a session that has taken nothing.
-fn push_read<C: BufRead, S: Witness>(
+// Pushes all chunks that a new reader has into an intake that has taken nothing.
+fn push_read<C: BufRead, T: Intake, S: Witness>(
     alloc: Global,
     reader: &mut CaptureReader<C>,
-    session: &mut Session,
+    intake: &mut T,
     witness: &mut S,
 ) -> Result<(), RunFault>
     requires new { reader.old ≡ at_start reader.old.rest READ_LIMIT }
-    requires empty { session.old ≡ empty_session_of session.old.profile }
-    ensures over { OnOk result (IsOverText session.old.profile reader.old.rest session.new) }
+    requires empty { (profile : Profile) × T.over intake.old profile [] }
+    ensures over { OnOk result ((profile : Profile) → T.over intake.old profile [] →
+        IsOverChunks (T.over intake.new profile) reader.old.rest) }
     ensures limited { OnOk result (IsWithinLimit reader.old.rest) }
     ensures cause { IfErr result (IsCaptureCause reader.old.rest) }
 {
     let mut bytes = Vec::new(alloc);
     while let Some(side) = reader.next_into(&mut bytes)? {
-        push_shown(session, witness, side, bytes.as_slice())?;
+        push_shown(intake, witness, side, bytes.as_slice())?;
     }
     Ok(())
 }
 
-// Shows a piece of a capture to the witness, pushes it into a session, and shows what that accepted.
-fn push_shown<S: Witness>(
-    session: &mut Session,
+// Shows a piece of a capture to the witness, pushes it into an intake, and shows what that accepted.
+fn push_shown<T: Intake, S: Witness>(
+    intake: &mut T,
     witness: &mut S,
     side: Side,
     piece: &[u8],
 ) -> Result<(), AllocError>
-    requires { bytes_taken session.old + length piece.now < 2 ^ 63 }
-    ensures { OnOk result ((profile : Profile) (capture : List Pair) → IsOver profile capture session.old →
-        IsOver profile (capture ++ side_pairs side piece.now) session.new) }
+    requires { (profile : Profile) × (capture : List Pair) × T.over intake.old profile capture
+        × (length capture + length piece.now < 2 ^ 63) }
+    ensures { OnOk result ((profile : Profile) (capture : List Pair) → T.over intake.old profile capture →
+        T.over intake.new profile (capture ++ side_pairs side piece.now)) }
 {
     witness.see(side, piece)?;
-    push(session, side, piece)?;
-    witness.accept(session.messages())
-}
-
-// Pushes a piece of a capture into a session. An `Err` says that memory ran out.
-fn push(session: &mut Session, side: Side, piece: &[u8]) -> Result<(), AllocError>
-    requires { bytes_taken session.old + length piece.now < 2 ^ 63 }
-    ensures { OnOk result ((profile : Profile) (capture : List Pair) → IsOver profile capture session.old →
-        IsOver profile (capture ++ side_pairs side piece.now) session.new) }
-{
-    match session.push(side, piece) {
-        Ok(()) => Ok(()),
-        Err(SessionFault::Wire { .. }) => Ok(()),
-        Err(SessionFault::Memory) => Err(AllocError),
-    }
+    intake.take(side, piece)?;
+    witness.accept(intake.messages())
 }

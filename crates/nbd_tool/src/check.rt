@@ -9,7 +9,7 @@ ghost use Rattle.nbd_tool.specs.internal.Outcomes.{IsConcluded};
 ghost use Rattle.nbd_files.specs.Starts.{IsStartCause, IsStartWellFormed, IsWithinLimit, OfStart};
 
 use crate::beginning::{read_start, room_of};
-use crate::capture::{Unseen, session_over};
+use crate::capture::transcript_over;
 use crate::concluding::conclude_from;
 use crate::verdict::write_verdict;
 use nbd_capture::parse_order;
@@ -82,8 +82,8 @@ pub fn run_check_of<C: BufRead + Drop, O: Read + Drop, I: Measured + Drop, W: Wr
     ensures left { IfErr result (λ fault. OfStart I.remaining start (λ initial. LeavesWritten profile (C.remaining capture)
         (O.remaining order) initial (W.contents out.old) (W.contents out.new) fault)) }
 {
-    let session = session_over(alloc, profile, capture, &mut Unseen)?;
-    let verdict = verdict_over(alloc, profile, session.finish(), &mut order, start)?;
+    let finished = transcript_over(alloc, profile, capture)?;
+    let verdict = verdict_over(alloc, profile, finished, &mut order, start)?;
     write_verdict(alloc, verdict, out)
 }
 

@@ -7,8 +7,8 @@ use Rattle.nbd_tool.proofs.check.run_check_of.Goals as goal
 pub returns-clause-written : goal.returns-clause-written
 returns-clause-written g c = each_ok _ _ c.write_verdict.result (λ initial is_initial.
     let judged = c.in_ok-verdict.ensures.verdict in
-    let is = concluded (g.C.Read.remaining c.args.capture) (g.O.Read.remaining c.args.order) initial c.in_ok-session.session c.finish.result judged.0 c.in_ok-verdict.verdict
-    c.in_ok-session.ensures.over c.finish.ensures.fault c.finish.ensures.report c.finish.ensures.wire judged.1 (judged.2 initial is_initial) in
+    let is = concluded (g.C.Read.remaining c.args.capture) (g.O.Read.remaining c.args.order) initial c.in_ok-finished.ensures.finish.session c.in_ok-finished.finished judged.0 c.in_ok-verdict.verdict
+    c.in_ok-finished.ensures.finish.over c.in_ok-finished.ensures.finish.fault c.in_ok-finished.ensures.finish.report c.in_ok-finished.ensures.finish.wire judged.1 (judged.2 initial is_initial) in
     tells c.args.profile (g.C.Read.remaining c.args.capture) (g.O.Read.remaining c.args.order) initial (g.W.Write.contents c.args.out.now) (g.W.Write.contents c.write_verdict.new.out)
     c.in_ok-verdict.verdict c.write_verdict.result is
     c.write_verdict.ensures.answer c.write_verdict.ensures.written)
@@ -21,22 +21,22 @@ returns-clause-exactly g c =
 pub returns-clause-left : goal.returns-clause-left
 returns-clause-left g c = each_err _ _ c.write_verdict.result (λ initial is_initial.
     let judged = c.in_ok-verdict.ensures.verdict in
-    let is = concluded (g.C.Read.remaining c.args.capture) (g.O.Read.remaining c.args.order) initial c.in_ok-session.session c.finish.result judged.0 c.in_ok-verdict.verdict
-    c.in_ok-session.ensures.over c.finish.ensures.fault c.finish.ensures.report c.finish.ensures.wire judged.1 (judged.2 initial is_initial) in
+    let is = concluded (g.C.Read.remaining c.args.capture) (g.O.Read.remaining c.args.order) initial c.in_ok-finished.ensures.finish.session c.in_ok-finished.finished judged.0 c.in_ok-verdict.verdict
+    c.in_ok-finished.ensures.finish.over c.in_ok-finished.ensures.finish.fault c.in_ok-finished.ensures.finish.report c.in_ok-finished.ensures.finish.wire judged.1 (judged.2 initial is_initial) in
     leaves c.args.profile (g.C.Read.remaining c.args.capture) (g.O.Read.remaining c.args.order) initial (g.W.Write.contents c.args.out.now) (g.W.Write.contents c.write_verdict.new.out)
     c.in_ok-verdict.verdict c.write_verdict.result is c.write_verdict.ensures.left)
 
 pub returns-clause-yes : goal.returns-clause-yes
 returns-clause-yes g c = λ initial is_initial.
     let judged = c.in_ok-verdict.ensures.verdict in
-    let is = concluded (g.C.Read.remaining c.args.capture) (g.O.Read.remaining c.args.order) initial c.in_ok-session.session c.finish.result judged.0 c.in_ok-verdict.verdict
-    c.in_ok-session.ensures.over c.finish.ensures.fault c.finish.ensures.report c.finish.ensures.wire judged.1 (judged.2 initial is_initial) in
+    let is = concluded (g.C.Read.remaining c.args.capture) (g.O.Read.remaining c.args.order) initial c.in_ok-finished.ensures.finish.session c.in_ok-finished.finished judged.0 c.in_ok-verdict.verdict
+    c.in_ok-finished.ensures.finish.over c.in_ok-finished.ensures.finish.fault c.in_ok-finished.ensures.finish.report c.in_ok-finished.ensures.finish.wire judged.1 (judged.2 initial is_initial) in
     says_written c.args.profile (g.C.Read.remaining c.args.capture) (g.O.Read.remaining c.args.order) initial (g.W.Write.contents c.args.out.now) (g.W.Write.contents c.write_verdict.new.out)
     c.in_ok-verdict.verdict c.write_verdict.result is
     c.write_verdict.ensures.written c.write_verdict.ensures.left
 
-pub returns-in_err-session-clause-yes : goal.returns-in_err-session-clause-yes
-returns-in_err-session-clause-yes g c = λ initial is_initial. says_nothing c.args.profile (g.C.Read.remaining c.args.capture) (g.O.Read.remaining c.args.order) initial (g.W.Write.contents c.args.out.now)
+pub returns-in_err-finished-clause-yes : goal.returns-in_err-finished-clause-yes
+returns-in_err-finished-clause-yes g c = λ initial is_initial. says_nothing c.args.profile (g.C.Read.remaining c.args.capture) (g.O.Read.remaining c.args.order) initial (g.W.Write.contents c.args.out.now)
 
 pub returns-in_err-verdict-clause-yes : goal.returns-in_err-verdict-clause-yes
 returns-in_err-verdict-clause-yes g c = λ initial is_initial. says_nothing c.args.profile (g.C.Read.remaining c.args.capture) (g.O.Read.remaining c.args.order) initial (g.W.Write.contents c.args.out.now)
@@ -44,4 +44,4 @@ returns-in_err-verdict-clause-yes g c = λ initial is_initial. says_nothing c.ar
 pub returns-in_err-verdict-clause-cause : goal.returns-in_err-verdict-clause-cause
 returns-in_err-verdict-clause-cause g c =
     let p = err_from_is_err_and c.from_residual-in_err-verdict.result c.from_residual-in_err-verdict.ensures.1 in
-    rw (p.1, p.2) (c.in_err-verdict.ensures.cause (g.C.Read.remaining c.args.capture) (capture_over (g.C.Read.remaining c.args.capture) c.in_ok-session.session c.in_ok-session.ensures.over))
+    rw (p.1, p.2) (c.in_err-verdict.ensures.cause (g.C.Read.remaining c.args.capture) (capture_over (g.C.Read.remaining c.args.capture) c.in_ok-finished.ensures.finish.session c.in_ok-finished.ensures.finish.over))
