@@ -51,31 +51,38 @@ impl Text {
             return text;
         };
         let text = text.served("message: ", place, entry, sources.story);
-        let came = found_byte(number, offset, sources.story);
-        let Ok(compared) = Compared::of(place, entry, sources) else {
-            return text.refused_if(true);
-        };
-        let held = byte_at(&compared.held, offset);
-        if came.place == 0 {
-            text.expected(held, place, offset, sources)
-        } else {
-            text.came(&came, offset, sources.story)
-                .expected(held, place, offset, sources)
-                .differing(&compared)
-                .say("assumes: the start is right, this is the only connection\n")
-                .window(&sources.story.recording, came.place)
+        match Compared::of(place, entry, sources) {
+            Ok(compared) => text.came_wrong(number, offset, &compared, sources),
+            Err(_) => text.refused_if(true),
         }
+    }
+
+    // The byte that came, if one did, the one that was right, and how many others are wrong.
+    fn came_wrong(
+        self,
+        number: u64,
+        offset: u64,
+        compared: &Compared,
+        sources: &Sources<'_>,
+    ) -> Text {
+        let came = found_byte(number, offset, sources.story);
+        if came.place == 0 {
+            return self.expected(compared, offset, sources);
+        }
+        self.came(&came, offset, sources.story)
+            .expected(compared, offset, sources)
+            .differing(compared)
+            .say("assumes: the start is right, this is the only connection\n")
+            .window(&sources.story.recording, came.place)
     }
 
     // The request of an entry, the part of it that the entry serves, and its place, counted from 0.
     fn served(self, label: &str, place: usize, entry: &Entry, story: &Story) -> Text {
+        let number = (place as u64).saturating_add(1);
         self.asked(label, story.request(entry.request))
             .say("; ")
             .part_served(entry, " ")
-            .number(
-                "served by entry {entry}\n",
-                (place as u64).saturating_add(1),
-            )
+            .number("served by entry {entry}\n", number)
     }
 
     /// The part that an entry serves, before words; nothing where it serves its request atomically.
@@ -92,28 +99,23 @@ impl Text {
         if came.is_status() {
             text.called_zero(came, offset, story)
         } else {
-            text.fill(
-                "came: {value:02x} for offset {offset}",
-                &[u64::from(came.byte), offset],
-            )
-            .place_of(came)
+            let words = "came: {value:02x} for offset {offset}";
+            text.fill(words, &[u64::from(came.byte), offset])
+                .place_of(came)
         }
     }
 
     // The descriptor that called an offset zero, and its places.
     fn called_zero(self, came: &Came<'_>, offset: u64, story: &Story) -> Text {
-        let one = &came.descriptor;
+        let (one, part) = (&came.descriptor, came.descriptor.part);
         let status = story.status_in(came.reply);
         let (first, last) = status.places(one, story);
+        let words =
+            "called zero: offset {offset}, in {length:byte} at {at}, descriptor {descriptor} of {descriptors}";
+        let count = status.count();
         self.fill(
-            "called zero: offset {offset}, in {length:byte} at {at}, descriptor {descriptor} of {descriptors}",
-            &[
-                offset,
-                one.part.length,
-                one.part.offset,
-                one.number,
-                status.count(),
-            ],
+            words,
+            &[offset, part.length, part.offset, one.number, count],
         )
         .context(" of ", status.id, story)
         .places("; ", first, last)
@@ -132,9 +134,9 @@ impl Text {
         self.number(words, came.place)
     }
 
-    // The byte that the export held at an offset when the entry at a place was reached, and whose change that was, where it is known.
-    fn expected(self, held: Option<u8>, place: usize, offset: u64, sources: &Sources<'_>) -> Text {
-        let Some(byte) = held else {
+    // The byte that the export held at an offset when an entry was reached, and whose change that was, where it is known.
+    fn expected(self, compared: &Compared, offset: u64, sources: &Sources<'_>) -> Text {
+        let Some(byte) = byte_at(&compared.held, offset) else {
             return self;
         };
         let text = self.number("expected: {value:02x}", u64::from(byte));
@@ -143,7 +145,7 @@ impl Text {
             Some(Start::Contents(_)) => ", of the contents that were given\n",
             _ => ", of the image\n",
         };
-        let last = place_changing(place, offset, sources);
+        let last = place_changing(compared.place, offset, sources);
         match sources.order.get(last) {
             Some(entry) => text.served(", by ", last, entry, sources.story),
             None => text.say(first).say(DOUBTED),

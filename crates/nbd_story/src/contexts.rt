@@ -6,8 +6,8 @@ use crate::told::{Form, Request, Told};
 use nbd_state::{Asking, Selection};
 use nbd_wire::flags::has;
 use nbd_wire::{
-    AnswerHead, RequestHead, Side, answers, bytes_in, command_flags, commands, context_of,
-    filter_of, first_id, options,
+    AnswerHead, RequestHead, answers, bytes_in, command_flags, commands, context_of, filter_of,
+    first_id, options,
 };
 use std::alloc::{AllocError, Global};
 use std::collections::{BTreeMap, BTreeSet};
@@ -18,21 +18,13 @@ pub const LISTED: u64 = 8;
 /// How many bytes of a longer name are told, so that it costs no more each time than a message.
 const NAMED: usize = 64;
 
-/// Bytes of the server.
-#[derive(Clone, Copy)]
-struct Place {
-    /// How many bytes of the server stand before them.
-    before: u64,
-    length: u64,
-}
-
 /// What the negotiation said of metadata contexts.
 #[derive(Drop)]
 pub struct Contexts {
     /// What the last SET_META_CONTEXT selected.
     pub selection: Selection,
-    /// The names of these contexts, by their ids.
-    names: BTreeMap<u32, Place>,
+    /// The answers that named these contexts, by their ids.
+    names: BTreeMap<u32, Told>,
     /// Structured replies are in force.
     pub structured: bool,
     /// In transmission: the selection is in force.
@@ -69,17 +61,20 @@ impl Contexts {
         self.selection.choose(option, data)
     }
 
-    /// The server has answered it with these data, which end behind so many of its bytes; a name stands at their end.
-    pub fn answer(&mut self, end: u64, head: &AnswerHead, data: &[u8]) -> Result<(), AllocError> {
+    /// The server has answered it with these data.
+    pub fn answer(
+        &mut self,
+        told: &Told,
+        head: &AnswerHead,
+        data: &[u8],
+    ) -> Result<(), AllocError> {
         match (head.option, head.kind, context_of(data)) {
             (options::STRUCTURED_REPLY | options::EXTENDED_HEADERS, answers::ACK, _) => {
                 self.structured = true;
                 return Ok(());
             }
-            (options::SET_META_CONTEXT, answers::META_CONTEXT, Some((id, name))) => {
-                let length = name.len() as u64;
-                let before = end.saturating_sub(length);
-                self.names.insert(id, Place { before, length })?;
+            (options::SET_META_CONTEXT, answers::META_CONTEXT, Some((id, _))) => {
+                self.names.insert(id, *told)?;
             }
             (options::SET_META_CONTEXT, _, _) => {}
             _ => return Ok(()),
@@ -89,26 +84,31 @@ impl Contexts {
 }
 
 impl Story {
-    /// The filter of a request, whose payload is a filter and has come whole: the length of its range in bytes, and the bytes
-    /// of the ids that it asks.
+    /// The filter of a request that has come whole, if it has one: the length of its range in bytes, and the bytes of the ids that it asks.
     pub fn filter_in(&self, told: &Told) -> Option<(u64, &[u8])> {
         let payload = self.behind(told);
-        let is_whole = payload.len() as u64 == told.payload;
         match told.form {
-            Form::Request(head) if is_whole & self.may_filter(&head) => filter_of(payload),
+            Form::Request(head) if payload.len() as u64 == told.payload => {
+                self.filter_of(&head, payload)
+            }
             _ => None,
         }
     }
 
-    // Whether the payload of a request with this head is a filter, if it has the form of one.
-    fn may_filter(&self, head: &RequestHead) -> bool {
+    /// The same of a request with this head and payload.
+    pub fn filter_of<'a>(&self, head: &RequestHead, payload: &'a [u8]) -> Option<(u64, &'a [u8])> {
         let is_flagged = head.extended & has(head.flags, command_flags::PAYLOAD_LEN);
-        is_flagged & (head.command == commands::BLOCK_STATUS) & self.contexts.are_in_force()
+        let is_status = head.command == commands::BLOCK_STATUS;
+        if is_flagged & is_status & self.contexts.are_in_force() {
+            filter_of(payload)
+        } else {
+            None
+        }
     }
 
     // The ids of the contexts in force that a request asks.
     fn asked(&self, request: &Request) -> Result<BTreeSet<u32>, AllocError> {
-        let asking = self.asking(&request.told, &request.head)?;
+        let asking = self.asking(&request.head, self.payload(request))?;
         if asking.told.filtered {
             Ok(asking.told.ids)
         } else {
@@ -116,10 +116,24 @@ impl Story {
         }
     }
 
-    /// What a request asks of the export.
-    pub fn asking(&self, told: &Told, head: &RequestHead) -> Result<Asking, AllocError> {
-        let contexts = &self.contexts;
-        let (flags, payload) = (self.export.flags, self.behind(told));
+    // Those of them of which its reply has no status, with this chunk.
+    fn missing(&self, chunk: &Told, request: &Request) -> Result<BTreeSet<u32>, AllocError> {
+        let mut missing = self.asked(request)?;
+        if let Some(id) = self.status_id(chunk) {
+            missing.remove(&id);
+        }
+        for message in &self.told {
+            match self.status_id(message) {
+                Some(id) if message.answers(request.number) => missing.remove(&id),
+                _ => false,
+            };
+        }
+        Ok(missing)
+    }
+
+    /// What a request with this head and payload asks of the export.
+    pub fn asking(&self, head: &RequestHead, payload: &[u8]) -> Result<Asking, AllocError> {
+        let (contexts, flags) = (&self.contexts, self.export.flags);
         contexts
             .selection
             .asking(self.alloc(), contexts.agreed, flags, head, payload)
@@ -127,7 +141,7 @@ impl Story {
 
     /// Whether a request asks the context in force with this id.
     pub fn asks(&self, request: &Request, id: u32) -> bool {
-        let Some((_, ids)) = self.filter_in(&request.told) else {
+        let Some((_, ids)) = self.filter_of(&request.head, self.payload(request)) else {
             return true;
         };
         for number in 0..count_of_ids(ids) {
@@ -155,13 +169,17 @@ fn id_in(ids: &[u8], number: u64) -> u32 {
 impl Text {
     /// A context by its name, if the last SET_META_CONTEXT selected it, and its id: `base:allocation (1)`.
     pub fn context(self, words: &str, id: u32, story: &Story) -> Text {
-        let text = self.say(words);
         match story.contexts.names.get(&id) {
-            Some(name) => {
-                let (before, length) = (name.before, name.length);
-                text.named(story.recording.bytes_at(Side::Server, before, length), id)
-            }
-            None => text.number("context {context}", u64::from(id)),
+            Some(told) => self.context_in(words, story.behind(told)),
+            None => self.say(words).number("context {context}", u64::from(id)),
+        }
+    }
+
+    /// What the data of an answer say of a context, behind words.
+    pub fn context_in(self, words: &str, data: &[u8]) -> Text {
+        match context_of(data) {
+            Some((id, name)) => self.say(words).named(name, id),
+            None => self,
         }
     }
 
@@ -202,7 +220,8 @@ impl Text {
     /// What is wrong with the filter of a request that has one: its first id that no client sends.
     pub fn bad_filter(self, request: &Request, story: &Story) -> Text {
         let mut seen = BTreeSet::new(story.alloc());
-        let (_, ids) = story.filter_in(&request.told).unwrap_or((0, &[] as &[u8]));
+        let filter = story.filter_of(&request.head, story.payload(request));
+        let (_, ids) = filter.unwrap_or((0, &[] as &[u8]));
         for number in 0..count_of_ids(ids) {
             let id = id_in(ids, number);
             let words = match (story.contexts.has(id), seen.insert(id)) {
@@ -216,28 +235,11 @@ impl Text {
         self
     }
 
-    /// What a reply to an option with these data says of a context.
-    pub fn context_told(self, data: &[u8]) -> Text {
-        match context_of(data) {
-            Some((id, name)) => self.say(", ").named(name, id),
-            None => self,
-        }
-    }
-
     /// The contexts in force that a request asks and of which its reply has no status, with the refused chunk.
     pub fn missing_statuses(self, chunk: &Told, request: &Request, story: &Story) -> Text {
-        let Ok(mut missing) = story.asked(request) else {
+        let Ok(missing) = story.missing(chunk, request) else {
             return self.refused_if(true);
         };
-        if let Some(id) = story.status_id(chunk) {
-            missing.remove(&id);
-        }
-        for message in &story.told {
-            match story.status_id(message) {
-                Some(id) if message.answers(request.told.number) => missing.remove(&id),
-                _ => false,
-            };
-        }
         let mut text = self;
         let mut count = 0u64;
         for id in &missing {

@@ -1,5 +1,4 @@
-//! How many bytes of a READ are wrong, or of those that a BLOCK_STATUS called zero, and the first of them beside those that the export
-//! held.
+//! How many bytes of a READ are wrong, or of those that a BLOCK_STATUS called zero, and the first of them.
 
 use crate::explanation::Sources;
 use crate::layers::byte_at;
@@ -15,6 +14,8 @@ const SHOWN: u64 = 16;
 /// What an entry of an order serves of a READ or a BLOCK_STATUS.
 #[derive(Drop)]
 pub struct Compared {
+    /// The place of the entry.
+    pub place: usize,
     is_status: bool,
     part: Part,
     /// What the export held of it before.
@@ -30,6 +31,7 @@ impl Compared {
         let inside = request.inside(sources.story.export.size);
         let part = entry.part.unwrap_or(inside);
         Ok(Compared {
+            place,
             is_status: request.is_status(),
             part,
             held: sources.held(place, part)?,
@@ -74,12 +76,11 @@ struct Differing {
 impl Differing {
     // Adds those of a part at which what came is not what was held, where both are known.
     fn compare(&mut self, part: Part, got: HeldPart<'_>, held: HeldPart<'_>) {
-        let is_known = !matches!(got, HeldPart::Unknown);
-        if is_known {
+        if let Some(bytes) = known(got, part) {
             self.among = self.among.saturating_add(part.length);
-        }
-        if is_known & !matches!(held, HeldPart::Unknown) {
-            self.add(part.offset, bytes_of(got, part), bytes_of(held, part));
+            if let Some(others) = known(held, part) {
+                self.add(part.offset, bytes, others);
+            }
         }
     }
 
@@ -98,11 +99,12 @@ impl Differing {
     }
 }
 
-// The bytes of a part from whose first offset on this is held; none where they are zeroes.
-fn bytes_of(held: HeldPart<'_>, part: Part) -> &[u8] {
+// The bytes of a part from whose first offset on this is held, where they are known; zeroes are left out.
+fn known(held: HeldPart<'_>, part: Part) -> Option<&[u8]> {
     match held {
-        HeldPart::Bytes(bytes) => bytes.get(..part.length as usize).unwrap_or(bytes),
-        _ => &[],
+        HeldPart::Unknown => None,
+        HeldPart::Zeroes => Some(&[]),
+        HeldPart::Bytes(bytes) => Some(bytes.get(..part.length as usize).unwrap_or(bytes)),
     }
 }
 
@@ -125,16 +127,14 @@ impl Text {
         } else {
             ", from offset {first} to {last}\nfrom offset {first}:\n"
         };
-        self.fill(
-            "differ: {count} of {length:byte}",
-            &[found.count, found.among],
-        )
-        .say(among)
-        .fill(places, &[found.first, found.last, found.first])
-        .say(came)
-        .row(shown, &compared.got)
-        .say("  expected")
-        .row(shown, &compared.held)
+        let words = "differ: {count} of {length:byte}";
+        self.fill(words, &[found.count, found.among])
+            .say(among)
+            .fill(places, &[found.first, found.last, found.first])
+            .say(came)
+            .row(shown, &compared.got)
+            .say("  expected")
+            .row(shown, &compared.held)
     }
 
     // The bytes of a part, and two points for one that is not known.

@@ -46,10 +46,9 @@ pub fn explanation_of(
 impl Text {
     /// Adds why an image of so many bytes does not fit an export of this size.
     pub fn image(self, image: u64, size: u64) -> Text {
-        self.rule(&IMAGE_RULE, "the image that was given").fill(
-            "sizes: the image has {image:byte}, the export {size:byte}\n",
-            &[image, size],
-        )
+        let words = "sizes: the image has {image:byte}, the export {size:byte}\n";
+        self.rule(&IMAGE_RULE, "the image that was given")
+            .fill(words, &[image, size])
     }
 
     /// Adds a rule, who broke it, and where it stands.
@@ -106,9 +105,7 @@ impl Text {
 
     /// Adds how the search goes further: this option gives it more.
     pub fn further(self, option: &str) -> Text {
-        self.line(
-            "further: 'nbdcheck order' with the same words and more ",
-            option,
-        )
+        let words = "further: 'nbdcheck order' with the same words and more ";
+        self.line(words, option)
     }
 }

@@ -40,23 +40,19 @@ const FLAGS: u16 = FUA | NO_HOLE | DF | REQ_ONE | FAST_ZERO;
 const UNKNOWN_TYPE: &str = "its type is none of READ, WRITE, FLUSH, TRIM, CACHE and WRITE_ZEROES";
 
 impl Story {
-    // The block sizes that the client has to keep, if there are some; in Base no request counts as improper by them.
-    fn sizes(&self) -> Option<Sizes> {
-        match self.profile {
+    // The block sizes in force of which a request is outside, if it is; in Base no request counts as improper by them.
+    fn broken_sizes(&self, head: &RequestHead) -> Option<Sizes> {
+        let sizes = match self.profile {
             Profile::Base => None,
             Profile::Wide => self.sizing.kept(),
+        };
+        let kept = sizes_for(self.contexts.structured, head.command, sizes);
+        let in_force = self.contexts.are_in_force();
+        if is_outside(kept, in_force, head.command, head.offset, head.length) {
+            sizes
+        } else {
+            None
         }
-    }
-
-    // Whether a request is outside of them.
-    fn is_outside(&self, head: &RequestHead) -> bool {
-        is_outside(
-            sizes_for(self.contexts.structured, head.command, self.sizes()),
-            self.contexts.are_in_force(),
-            head.command,
-            head.offset,
-            head.length,
-        )
     }
 }
 
@@ -66,7 +62,7 @@ impl Text {
         let mut reasons = Text::new(story.alloc(), story.is_marked);
         let mut count = 0u64;
         for request in &story.requests {
-            if !request.proper | story.is_outside(&request.head) {
+            if !request.proper | story.broken_sizes(&request.head).is_some() {
                 count = count.saturating_add(1);
                 if count <= LISTED {
                     reasons = reasons.why_amiss(request, story);
@@ -86,11 +82,9 @@ impl Text {
             .asked("message: ", request)
             .end()
             .improper(request, story);
-        match story.sizes() {
-            Some(sizes) if story.is_outside(&request.head) => {
-                text.unfit(&request.head, sizes, story.contexts.structured)
-            }
-            _ => text,
+        match story.broken_sizes(&request.head) {
+            Some(sizes) => text.unfit(&request.head, sizes, story.contexts.structured),
+            None => text,
         }
     }
 
@@ -186,7 +180,7 @@ impl Text {
                     "it carries PAYLOAD_LEN, and the export lacks BLOCK_STATUS_PAYLOAD",
                 )
                 .wrong_if(
-                    story.filter_in(&request.told).is_none(),
+                    story.filter_of(head, story.payload(request)).is_none(),
                     "its payload is no filter, which has a length of 8 bytes and ids of 4 bytes each",
                 )
                 .bad_filter(request, story),

@@ -6,8 +6,9 @@ use crate::story::Story;
 use crate::told::{EMPTY, Request, Told, between, common, end_of, part_in};
 use nbd_export::{Contents, Extents, HeldPart, Kind, Start};
 use nbd_state::{ends_by, is_change};
-use nbd_wire::{Part, commands};
+use nbd_wire::{Part, Side, commands};
 use std::alloc::AllocError;
+use std::rc::Rc;
 
 impl Story {
     // An export of which nothing is known, as large as can be.
@@ -19,28 +20,13 @@ impl Story {
     fn left_in(&self, part: Part, change: &Request) -> HeldPart<'_> {
         match change.head.command {
             commands::WRITE if change.succeeded() => {
-                let last = end_of(change.range()).saturating_sub(part.offset);
-                self.last_bytes(part, last, &change.told)
+                let skipped = part.offset.saturating_sub(change.head.offset);
+                let before = change.before.saturating_add(skipped);
+                HeldPart::Bytes(self.recording.bytes_at(Side::Client, before, part.length))
             }
             commands::WRITE_ZEROES if change.succeeded() => HeldPart::Zeroes,
             _ => HeldPart::Unknown,
         }
-    }
-
-    // The content that a message brings of a part; it ends with that, or is a hole.
-    fn brought_in(&self, part: Part, told: &Told) -> HeldPart<'_> {
-        if told.is_hole() {
-            HeldPart::Zeroes
-        } else {
-            let last = end_of(told.part).saturating_sub(part.offset);
-            self.last_bytes(part, last, told)
-        }
-    }
-
-    // The bytes of a part, with which so many last bytes of a message begin.
-    fn last_bytes(&self, part: Part, last: u64, told: &Told) -> HeldPart<'_> {
-        let before = told.before_last(last);
-        HeldPart::Bytes(self.recording.bytes_at(told.side, before, part.length))
     }
 
     /// The byte that a change left at an offset, where that is known.
@@ -54,38 +40,46 @@ impl Story {
 
     /// What the request with this number got for a part, or called zero of it.
     pub fn got(&self, number: u64, part: Part) -> Result<Extents, AllocError> {
-        let status = self.zeroes_of(number);
         let mut got = self.unknown()?;
+        self.lay_reply(&mut got, number, part)?;
+        Ok(got)
+    }
+
+    // Lays that over what is not known.
+    fn lay_reply(&self, got: &mut Extents, number: u64, part: Part) -> Result<(), AllocError> {
+        let status = self.zeroes_of(number);
         let mut one = NO_DESCRIPTOR;
         for _ in 0..status.count() {
             one = status.after(&one);
             let zero = common(status.called_zero(&one), part);
-            lay(&mut got, zero, HeldPart::Zeroes)?;
+            lay(got, zero, HeldPart::Zeroes)?;
         }
         for told in &self.told {
-            self.lay_content(&mut got, number, part, told)?;
+            if told.answers(number) {
+                self.lay_content(got, part, told)?;
+            }
         }
-        Ok(got)
+        Ok(())
     }
 
-    // Lays what a message brings the request with this number of a part over what it got before.
-    fn lay_content(
-        &self,
-        got: &mut Extents,
-        number: u64,
-        part: Part,
-        told: &Told,
-    ) -> Result<(), AllocError> {
-        let content = common(told.content_to(number), part);
-        lay(got, content, self.brought_in(content, told))
+    // Lays what a message brings of a part over what came before.
+    fn lay_content(&self, got: &mut Extents, part: Part, told: &Told) -> Result<(), AllocError> {
+        let content = common(told.part, part);
+        if told.is_hole() {
+            return lay(got, content, HeldPart::Zeroes);
+        }
+        let before = told.before_last(end_of(told.part).saturating_sub(content.offset));
+        let bytes = self
+            .recording
+            .bytes_at(Side::Server, before, content.length);
+        lay(got, content, HeldPart::Bytes(bytes))
     }
 
     /// The first bytes of a READ that its reply does not bring, with the refused chunk.
     pub fn unread(&self, chunk: &Told, read: &Request) -> Result<Part, AllocError> {
-        let range = read.range();
-        let mut got = self.got(chunk.number, range)?;
-        self.lay_content(&mut got, chunk.number, range, chunk)?;
-        Ok(gap(&got, range))
+        let mut got = self.got(chunk.number, read.range())?;
+        let laid = self.lay_content(&mut got, read.range(), chunk);
+        laid.and(Ok(gap(&got, read.range())))
     }
 }
 
@@ -102,44 +96,58 @@ impl Sources<'_> {
 
     // What it held at first.
     fn at_first(&self) -> Result<Extents, AllocError> {
-        let alloc = self.story.alloc();
         match self.start {
-            Some(Start::Zeroes) => Extents::new(alloc, u64::MAX, Start::Zeroes),
-            Some(Start::Image(image)) => {
-                let size = image.len() as u64;
-                Extents::new(alloc, size, Start::Image(image.clone()?))
-            }
-            Some(Start::Contents(contents)) => {
-                let size = contents.size();
-                Extents::new(alloc, size, Start::Contents(contents.clone()?))
-            }
+            Some(Start::Zeroes) => Extents::new(self.story.alloc(), u64::MAX, Start::Zeroes),
+            Some(Start::Image(image)) => self.of_image(image.clone()?),
+            Some(Start::Contents(contents)) => self.of_contents(contents.clone()?),
             _ => self.story.unknown(),
         }
+    }
+
+    fn of_image(&self, image: Rc<Vec<u8>>) -> Result<Extents, AllocError> {
+        let size = image.len() as u64;
+        Extents::new(self.story.alloc(), size, Start::Image(image))
+    }
+
+    fn of_contents(&self, contents: Rc<Extents>) -> Result<Extents, AllocError> {
+        let size = contents.size();
+        Extents::new(self.story.alloc(), size, Start::Contents(contents))
     }
 
     /// What a part held before the entry at a place of the order.
     pub fn held(&self, place: usize, part: Part) -> Result<Extents, AllocError> {
         let mut held = self.at_first()?;
+        self.lay_changes(&mut held, place, part)?;
+        Ok(held)
+    }
+
+    // Lays the changes of a part before that entry over what was held.
+    fn lay_changes(&self, held: &mut Extents, place: usize, part: Part) -> Result<(), AllocError> {
         for at in 0..place.min(self.order.len()) {
             let entry = &self.order[at];
             let change = self.story.request(entry.request);
             let served = common(entry.part.unwrap_or(part), part);
             let left = common(change.range(), served);
             if is_change(change.head.command) {
-                lay(&mut held, left, self.story.left_in(left, change))?;
+                lay(held, left, self.story.left_in(left, change))?;
             }
         }
-        Ok(held)
+        Ok(())
     }
 
     /// The first bytes of a part of the request with this number that no entry serves.
     pub fn unserved(&self, number: u64, part: Part) -> Result<Part, AllocError> {
         let mut served = self.story.unknown()?;
+        let mut is_refused = false;
         for entry in self.order {
             let one = common(part_in(entry, number), part);
-            lay(&mut served, one, HeldPart::Zeroes)?;
+            is_refused |= lay(&mut served, one, HeldPart::Zeroes).is_err();
         }
-        Ok(gap(&served, part))
+        if is_refused {
+            Err(AllocError)
+        } else {
+            Ok(gap(&served, part))
+        }
     }
 }
 

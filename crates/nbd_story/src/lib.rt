@@ -1,8 +1,5 @@
-//! A session in words: the messages with their places in the capture, what became of its requests, which of them its client should not
-//! have sent, the bytes round a place, and why the answer was no.
-//!
-//! All of it is told by a `Text`, which takes what is said and notes that memory was refused. Proved is that each call returns, and of
-//! `rules` who broke one. The names of the protocol's numbers stand in `nbd_wire`.
+//! A session in words: its messages with their places, what became of its requests, and why the answer was no. All of it is told by a
+//! `Text`. Proved is that each call returns, and of `rules` who broke one.
 #![tactic(auto)]
 
 mod content;

@@ -1,6 +1,4 @@
-//! Which part of its form the data of an option lacks, or that of its reply.
-//!
-//! Data are told with the place of their first byte; no byte of the other side comes between them.
+//! Which part of its form the data of an option lacks, or that of its reply; no byte of the other side comes between data.
 
 use crate::reading::number_in;
 use crate::story::Story;
@@ -31,10 +29,9 @@ impl Text {
             options::INFO | options::GO => false,
             options::LIST_META_CONTEXT | options::SET_META_CONTEXT => true,
             _ => {
-                return text.number(
-                    "wrong: the option has no data, and there is some from byte {first} on\n",
-                    first,
-                );
+                let words =
+                    "wrong: the option has no data, and there is some from byte {first} on\n";
+                return text.number(words, first);
             }
         };
         match listed_of(data) {

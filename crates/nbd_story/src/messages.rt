@@ -5,7 +5,8 @@ use crate::text::{Text, letter_of};
 use crate::told::{Form, Request, Told};
 use nbd_wire::names::{CHUNKS, COMMANDS, INFOS, Name, OPTIONS, REPLIES, name_in};
 use nbd_wire::{
-    AnswerHead, ChunkHead, Info, RequestHead, answers, chunks, flag_names, info_of, infos,
+    AnswerHead, ChunkHead, Info, RequestHead, SimpleHead, answers, chunks, flag_names, info_of,
+    infos,
 };
 use std::alloc::{AllocError, Global};
 
@@ -39,9 +40,7 @@ impl Text {
             Form::Answer(head) => self.answer(&head, told, story),
             Form::Exported(export) => self.export("export of ", export.size, export.flags),
             Form::Request(head) => self.request(&head, told.number).filter(told, story),
-            Form::Simple(head) => self
-                .reply("simple reply", head.cookie, told, story)
-                .outcome(told.error),
+            Form::Simple(head) => self.simple(&head, told, story),
             Form::Chunk(head) => self.chunk(&head, told, story),
         }
     }
@@ -64,16 +63,15 @@ impl Text {
 
     /// A request as it was asked, with its places, behind a label.
     pub fn asked(self, label: &str, request: &Request) -> Text {
-        let told = &request.told;
         self.say(label)
-            .request(&request.head, told.number)
-            .places("; ", told.first, told.last)
+            .request(&request.head, request.number)
+            .places("; ", request.first, request.last)
     }
 
     /// A request by its type and its number, behind words: `READ #3`.
     pub fn numbered(self, words: &str, request: &Request) -> Text {
         self.typed(words, request)
-            .number(" #{request}", request.told.number)
+            .number(" #{request}", request.number)
     }
 
     /// A request by its type, behind words: ` before the READ`.
@@ -124,12 +122,12 @@ impl Text {
         text.number(", cookie {cookie:#x}: ", cookie)
     }
 
-    // What a simple reply tells.
-    fn outcome(self, error: u32) -> Text {
-        if error == 0 {
-            self.say("success")
+    fn simple(self, head: &SimpleHead, told: &Told, story: &Story) -> Text {
+        let text = self.reply("simple reply", head.cookie, told, story);
+        if head.error == 0 {
+            text.say("success")
         } else {
-            self.error("", error)
+            text.error("", head.error)
         }
     }
 
@@ -168,7 +166,7 @@ impl Text {
             .number(", {payload:byte} of data", told.payload);
         match (head.kind, info_of(data)) {
             (answers::INFO, Some(info)) if data.len() as u64 == told.payload => text.info(info),
-            (answers::META_CONTEXT, _) => text.context_told(data),
+            (answers::META_CONTEXT, _) => text.context_in(", ", data),
             _ => text,
         }
     }
@@ -181,10 +179,11 @@ impl Text {
                 least,
                 preferred,
                 most,
-            } => self.info_kind(infos::BLOCK_SIZE).fill(
-                ": at least {least}, preferred {preferred}, at most {largest}",
-                &[u64::from(least), u64::from(preferred), u64::from(most)],
-            ),
+            } => {
+                let words = ": at least {least}, preferred {preferred}, at most {largest}";
+                let sizes = [u64::from(least), u64::from(preferred), u64::from(most)];
+                self.info_kind(infos::BLOCK_SIZE).fill(words, &sizes)
+            }
             Info::Other { kind } => self.info_kind(kind),
         }
     }

@@ -9,16 +9,17 @@ use nbd_judge::OrderFault;
 use nbd_wire::{Entry, Part, Profile};
 use std::alloc::AllocError;
 
+/// Where a fault may be none.
+const IN_WIDE: &str =
+    "wide: each message of a READ's reply is served by itself there, so this may be no fault; try --profile wide\n";
+
 impl Text {
     /// Adds what is wrong with this entry of the order, counted from 1, or of Missing and NotCovered with this request.
     pub fn order_fault(self, entry: u64, fault: OrderFault, sources: &Sources<'_>) -> Text {
         let request = sources.story.request(entry);
         let text = self
             .rule(&order_rule(fault), "the order that was given")
-            .say_if(
-                is_wider(fault, sources.story),
-                "wide: each message of a READ's reply is served by itself there, so this may be no fault; try --profile wide\n",
-            );
+            .say_if(is_wider(fault, sources.story), IN_WIDE);
         match fault {
             OrderFault::Missing => text.moments("no entry: ", request),
             OrderFault::NotCovered => text
@@ -71,8 +72,8 @@ impl Text {
     fn moments(self, label: &str, request: &Request) -> Text {
         let text = self
             .say(label)
-            .request(&request.head, request.told.number)
-            .number("; whole at byte {whole}", request.told.last);
+            .request(&request.head, request.number)
+            .number("; whole at byte {whole}", request.last);
         if request.due > request.replied {
             text.number(", served before byte {before}\n", request.due)
         } else {
@@ -108,13 +109,11 @@ impl Text {
         };
         let request = sources.story.request(entry.request);
         let (offset, at) = first_shared(place, entry.request, part, sources.order);
+        let numbers = [offset, (at as u64).saturating_add(1)];
+        let words = "wrong: the part has offset {offset}, which entry {entry} serves already\n";
         self.say_if(part.length == 0, "wrong: the part is empty\n")
             .outside(part, request, sources.story.export.size)
-            .fill_if(
-                at < place,
-                "wrong: the part has offset {offset}, which entry {entry} serves already\n",
-                &[offset, (at as u64).saturating_add(1)],
-            )
+            .fill_if(at < place, words, &numbers)
             .entry_at(at, sources)
     }
 
@@ -173,9 +172,9 @@ fn served_by(entry: &Entry, sources: &Sources<'_>) -> Request {
 
 // The first bytes of a request that no entry serves. Of a READ by chunk whose reply has not ended, those of the first message with such.
 fn first_gap(request: &Request, sources: &Sources<'_>) -> Result<Part, AllocError> {
-    let number = request.told.number;
+    let number = request.number;
     let inside = request.inside(sources.story.export.size);
-    if (request.finished == 0) & sources.story.serves_by_chunk(request) {
+    if (request.finished == 0) & sources.story.profile.serves_by_chunk(request.head.command) {
         for message in &sources.story.told {
             let shown = common(message.content_to(number), inside);
             if shown.length == 0 {

@@ -90,18 +90,14 @@ impl Story {
             payload,
             before,
             length,
-            number: self.number_of(&form),
             first: self.recording.place(side, before),
             last: self.recording.place(side, last),
             ..NO_MESSAGE
         };
         match form {
-            Form::Request(head) => {
-                if let Some((length, _)) = self.filter_in(&told) {
-                    told.form = Form::Request(RequestHead { length, ..head });
-                }
-            }
+            Form::Request(head) => self.read_request(&mut told, &head),
             Form::Simple(head) => {
+                told.number = self.answered(head.cookie).number;
                 told.error = head.error;
                 told.part = self.answer_to(&head);
             }
@@ -111,9 +107,20 @@ impl Story {
         told
     }
 
-    // What the payload of a chunk says, if it has come whole.
+    // The number of a request that comes next, and the length of its range, if its filter has that. DISC has no number.
+    fn read_request(&self, told: &mut Told, head: &RequestHead) {
+        if head.command != commands::DISC {
+            told.number = (self.requests.len() as u64).saturating_add(1);
+        }
+        if let Some((length, _)) = self.filter_in(told) {
+            told.form = Form::Request(RequestHead { length, ..*head });
+        }
+    }
+
+    // The request that a chunk answers, and what its payload says, if that has come whole.
     fn read_payload(&self, told: &mut Told, head: &ChunkHead) {
         let payload = front(self.behind(told), head.length as usize);
+        told.number = self.answered(head.cookie).number;
         if let Some(content) = content_of(head.kind, payload) {
             let (offset, length) = match content {
                 Content::Bytes { offset, bytes } => (offset, bytes.len() as u64),

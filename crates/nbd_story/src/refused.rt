@@ -4,12 +4,17 @@ use crate::content::bringer;
 use crate::reading::number_in;
 use crate::story::Story;
 use crate::text::Text;
-use crate::told::{Form, Request, Told, meet, outside};
+use crate::told::{Request, Told, meet, outside};
 use nbd_wire::flags::has;
 use nbd_wire::{ChunkHead, Part, Profile, chunks, command_flags, commands, read_as};
 
-/// Why there can be no status at all.
-const NO_CONTEXT: &str = "it gives a status, and no metadata context is in force";
+/// What the payload of a status has.
+const SHORT_STATUS: &str =
+    "the payload of a status has an id of 4 bytes and a descriptor of 8 bytes or more of them";
+
+/// The same with an extended header.
+const WIDE_STATUS: &str =
+    "the payload of a status has an id and the number of its descriptors, of 4 bytes each, and so many descriptors of 16 bytes, at least one";
 
 impl Text {
     /// Adds what is wrong.
@@ -22,17 +27,9 @@ impl Text {
         if holds { self.wrong(reason) } else { self }
     }
 
-    /// Adds why a chunk has not the form of its type.
-    pub fn bad_chunk(self, told: &Told, story: &Story) -> Text {
-        match told.form {
-            Form::Chunk(head) => self.wrong(form_reason(&head, story.behind(told), story)),
-            _ => self,
-        }
-    }
-
     /// Adds why a chunk with content, or with the offset of an error, does not fit its request, and the content that it rivals.
     pub fn bad_content(self, told: &Told, request: &Request, story: &Story) -> Text {
-        let number = request.told.number;
+        let number = request.number;
         let status = story.status_in(told);
         let before = bringer(&story.told, number, rivalled(told.part, request));
         let reason = if status.count() != 0 {
@@ -44,24 +41,16 @@ impl Text {
         };
         self.wrong(reason).told("content before: ", before, story)
     }
-
-    /// Adds that an extended header has not the offset of its request.
-    pub fn bad_offset(self, told: &Told, request: &Request) -> Text {
-        let came = match told.form {
-            Form::Chunk(head) => head.at.unwrap_or(0),
-            _ => 0,
-        };
-        self.fill(
-            "wrong: its header has offset {came}, that of its request is {offset}\n",
-            &[came, request.head.offset],
-        )
-    }
 }
 
-// Why a chunk with this payload has not the form of its type.
-fn form_reason(head: &ChunkHead, payload: &[u8], story: &Story) -> &'static str {
+/// Why a chunk with this payload has not the form of its type.
+pub fn form_reason(head: &ChunkHead, payload: &[u8], story: &Story) -> &'static str {
     let kind = read_as(story.profile, head.kind);
-    match (kind, head.at) {
+    let length = payload.len() as u64;
+    let descriptors = number_in(payload, 4, 4).saturating_mul(16);
+    let is_odd = (head.length < 12) | (head.length % 8 != 4);
+    let is_odd_wide = (length < 24) | (length != descriptors.saturating_add(8));
+    match (kind, head.at.is_some()) {
         (chunks::NONE, _) if head.length > 0 => "a chunk of type NONE has no payload",
         (chunks::NONE, _) => "a chunk of type NONE ends its reply, so it has DONE",
         (chunks::OFFSET_DATA, _) if head.length < 8 =>
@@ -70,18 +59,14 @@ fn form_reason(head: &ChunkHead, payload: &[u8], story: &Story) -> &'static str 
         (chunks::OFFSET_HOLE, _) if head.length != 12 =>
             "the payload of a hole has 12 bytes, an offset and a size",
         (chunks::OFFSET_HOLE, _) => "its hole has size 0",
-        (chunks::BLOCK_STATUS, Some(_)) =>
+        (chunks::BLOCK_STATUS, true) =>
             "with an extended header a status is of type BLOCK_STATUS_EXT",
-        (chunks::BLOCK_STATUS, None) if story.profile == Profile::Wide => status_form(
-            (head.length < 12) | (head.length % 8 != 4),
+        (chunks::BLOCK_STATUS, false) if story.profile == Profile::Wide => status_form(
+            is_odd,
             SHORT_STATUS,
             story,
         ),
-        (chunks::BLOCK_STATUS_EXT, Some(_)) => {
-            let descriptors = number_in(payload, 4, 4).saturating_mul(16);
-            let length = payload.len() as u64;
-            status_form(length < 24 || length - 8 != descriptors, WIDE_STATUS, story)
-        }
+        (chunks::BLOCK_STATUS_EXT, true) => status_form(is_odd_wide, WIDE_STATUS, story),
         (chunks::ERROR | chunks::ERROR_OFFSET, _) => failure_reason(kind, payload),
         _ if kind >= chunks::FIRST_ERROR =>
             "its type has bit 15, and of these the profile base knows ERROR and ERROR_OFFSET alone (wide knows each)",
@@ -89,18 +74,10 @@ fn form_reason(head: &ChunkHead, payload: &[u8], story: &Story) -> &'static str 
     }
 }
 
-/// What the payload of a status has.
-const SHORT_STATUS: &str =
-    "the payload of a status has an id of 4 bytes and a descriptor of 8 bytes or more of them";
-
-/// The same with an extended header.
-const WIDE_STATUS: &str =
-    "the payload of a status has an id and the number of its descriptors, of 4 bytes each, and so many descriptors of 16 bytes, at least one";
-
 // Why a status chunk has not its form: these words where its payload has a wrong length.
 fn status_form(is_odd: bool, words: &'static str, story: &Story) -> &'static str {
     if !story.contexts.are_in_force() {
-        NO_CONTEXT
+        "it gives a status, and no metadata context is in force"
     } else if is_odd {
         words
     } else {
@@ -129,7 +106,7 @@ fn status_reason(id: u32, request: &Request, story: &Story) -> &'static str {
         "no metadata context in force has its id"
     } else if !story.asks(request, id) {
         "the filter of the request does not ask its context"
-    } else if story.is_told(id, request.told.number) {
+    } else if story.is_told(id, request.number) {
         "its context has a status before it in this reply"
     } else if has(request.head.flags, command_flags::REQ_ONE) {
         "the request has REQ_ONE, so it gets one descriptor, which ends with the range or before"

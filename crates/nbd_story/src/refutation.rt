@@ -1,5 +1,4 @@
-//! Why no order explains a session: a byte that a READ got, or that a BLOCK_STATUS called zero, has no source, or several contradict
-//! each other.
+//! Why no order explains a session: a byte that came has no source, or several contradict each other.
 
 use crate::content::{Came, found_byte, rule_of};
 use crate::explanation::{DOUBTED, Sources};
@@ -11,8 +10,10 @@ use nbd_wire::Part;
 /// How many changes are listed.
 const LISTED: u64 = 8;
 
-/// Who broke the rule of one request.
+/// Who broke a rule, and who broke one or the other of two.
 const BREAKER: &str = "the server, in whatever order it served";
+
+const BREAKERS: &str = "the server, one or the other, in whatever order it served";
 
 /// READs of an offset of the export, and BLOCK_STATUSes that call it zero, of which each order of the session has one wrong there, and
 /// the changes that it takes to show that, by their numbers.
@@ -56,27 +57,21 @@ impl Text {
         }
         let (first, second) = (rule_of(false), rule_of(true));
         if (statuses == 0) | (statuses == reads.len()) {
-            self.rule(rule_of(statuses != 0), BREAKER)
-        } else {
-            self.line("rule: ", first.sentence)
-                .line("rule: ", second.sentence)
-                .line(
-                    "broken by: ",
-                    "the server, one or the other, in whatever order it served",
-                )
-                .line("section: ", first.section)
-                .line("section: ", second.section)
+            return self.rule(rule_of(statuses != 0), BREAKER);
         }
+        self.line("rule: ", first.sentence)
+            .line("rule: ", second.sentence)
+            .line("broken by: ", BREAKERS)
+            .line("section: ", first.section)
+            .line("section: ", second.section)
     }
 
     // The byte at an offset at first, where that is known.
     fn byte_of_start(self, offset: u64, sources: &Sources<'_>) -> Text {
         match sources.byte_at_first(offset) {
             Some(byte) => {
-                self.fill(
-                    "start: {value:02x} at offset {offset}\n",
-                    &[u64::from(byte), offset],
-                )
+                let words = "start: {value:02x} at offset {offset}\n";
+                self.fill(words, &[u64::from(byte), offset])
             }
             None => self,
         }
@@ -87,8 +82,9 @@ impl Text {
         let mut text = self;
         for number in contest.changes {
             let change = sources.story.request(*number);
+            let byte = sources.story.byte_by(change, contest.offset);
             text = text.between("change: ", change).byte_or(
-                sources.story.byte_by(change, contest.offset),
+                byte,
                 "left {value:02x}\n",
                 "left a byte that is not known\n",
             );
@@ -128,7 +124,7 @@ impl Text {
     // A request with its places, and between which bytes of the capture it can have been served.
     fn between(self, label: &str, request: &Request) -> Text {
         self.asked(label, request)
-            .number("; served after byte {after}", request.told.last)
+            .number("; served after byte {after}", request.last)
             .number_or(request.due, " and before byte {before}; ", " or never; ")
     }
 
@@ -161,12 +157,8 @@ impl Text {
             return self.number("not the start: it had {value:02x}\n", u64::from(byte));
         }
         let change = got.change_behind(&NO_REQUEST, sources.story);
-        self.served_before(
-            "not the start: ",
-            change,
-            " was surely served before the ",
-            got,
-        )
+        let when = " was surely served before the ";
+        self.served_before("not the start: ", change, when, got)
     }
 
     // A change that was served before the READ, if there is one.
@@ -194,19 +186,14 @@ impl Text {
             }
         }
         if count == 0 {
+            let words = "not from: no change of this offset came before the ";
             text = text
-                .typed(
-                    "not from: no change of this offset came before the ",
-                    &got.read,
-                )
+                .typed(words, &got.read)
                 .say(" was answered\n")
                 .say(DOUBTED);
         }
-        text.more(
-            count,
-            LISTED,
-            "not from: {more} more that changed this offset before\n",
-        )
+        let words = "not from: {more} more that changed this offset before\n";
+        text.more(count, LISTED, words)
     }
 
     // Why the READ did not get its byte from a change: it left another one, or was overwritten by a change that was surely served after it

@@ -1,13 +1,18 @@
 //! What a refused message is to be compared with.
 
+use crate::refused::form_reason;
 use crate::story::Story;
 use crate::text::Text;
-use crate::told::{NO_MESSAGE, NO_REQUEST, Request, Told};
+use crate::told::{Form, NO_MESSAGE, NO_REQUEST, Request, Told};
 use nbd_wire::{Part, Side, WireFault};
 use std::alloc::AllocError;
 
 /// How many outstanding requests are listed.
 const LISTED: u64 = 8;
+
+/// Who is to mend a reply that has begun and not ended where the server took it for ended.
+const WITHOUT_DONE: &str =
+    "; no DONE (0x1), so the request is outstanding; if the server left DONE out, it is the one to mend\n";
 
 impl Story {
     // The client's message of which some bytes were there, and not all, when so many bytes of the client had come, if its head is in the
@@ -70,17 +75,16 @@ impl Text {
             (Side::Client, WireFault::CookieInUse) if request.is_there() => self
                 .asked("outstanding: ", request)
                 .end()
-                .without_done(story.last_of(Side::Server, request.told.number), story),
+                .without_done(story.last_of(Side::Server, request.number), story),
             _ => self,
         }
     }
 
-    // The last message of a reply that has begun and not ended, and who is to mend that where the server took it for ended.
+    // The last message of a reply that has begun and not ended.
     fn without_done(self, reply: &Told, story: &Story) -> Text {
         if reply.is_there() {
-            self.told_so_far("reply so far: ", reply, story).say(
-                "; no DONE (0x1), so the request is outstanding; if the server left DONE out, it is the one to mend\n",
-            )
+            self.told_so_far("reply so far: ", reply, story)
+                .say(WITHOUT_DONE)
         } else {
             self
         }
@@ -88,18 +92,25 @@ impl Text {
 
     // Why the server's message does not answer its request, where the words of both do not show it.
     fn reason(self, fault: WireFault, told: &Told, request: &Request, story: &Story) -> Text {
-        match fault {
-            WireFault::SuccessOfImproper => self
+        match (fault, told.form) {
+            (WireFault::SuccessOfImproper, _) => self
                 .export("export: ", story.export.size, story.export.flags)
                 .end()
                 .improper(request, story),
-            WireFault::BadChunk => self.bad_chunk(told, story),
-            WireFault::BadContent => self.bad_content(told, request, story),
-            WireFault::IncompleteRead => {
+            (WireFault::BadChunk, Form::Chunk(head)) => {
+                self.wrong(form_reason(&head, story.behind(told), story))
+            }
+            (WireFault::BadContent, _) => self.bad_content(told, request, story),
+            (WireFault::IncompleteRead, _) => {
                 self.gap(story.unread(told, request), ", which no chunk brings\n")
             }
-            WireFault::IncompleteStatus => self.missing_statuses(told, request, story),
-            WireFault::BadReplyOffset => self.bad_offset(told, request),
+            (WireFault::IncompleteStatus, _) => self.missing_statuses(told, request, story),
+            (WireFault::BadReplyOffset, Form::Chunk(head)) => {
+                let numbers = [head.at.unwrap_or(0), request.head.offset];
+                let words =
+                    "wrong: its header has offset {came}, that of its request is {offset}\n";
+                self.fill(words, &numbers)
+            }
             _ => self,
         }
     }
@@ -147,13 +158,13 @@ impl Text {
                 .say(" when the reply began\n")
         } else {
             let before = story.count(Side::Client);
+            let first = story.recording.place(Side::Client, before);
+            let words =
+                "arriving: {count:byte} of the client from byte {first} on, no whole head of a message\n";
             self.fill_if(
                 count > before,
-                "arriving: {count:byte} of the client from byte {first} on, no whole head of a message\n",
-                &[
-                    count.saturating_sub(before),
-                    story.recording.place(Side::Client, before),
-                ],
+                words,
+                &[count.saturating_sub(before), first],
             )
         }
     }
@@ -161,10 +172,8 @@ impl Text {
     /// Adds from which byte on a message is there, and how many of its bytes have come and how many are missing.
     pub fn cut(self, told: &Told, there: u64) -> Text {
         let missing = told.length.saturating_sub(there);
-        self.fill(
-            "; from byte {first} on, {there} of its {whole} bytes, {missing} missing",
-            &[told.first, there, told.length, missing],
-        )
+        let words = "; from byte {first} on, {there} of its {whole} bytes, {missing} missing";
+        self.fill(words, &[told.first, there, told.length, missing])
     }
 
     /// Adds the first bytes that are missing, where there are some, and what of them is said.

@@ -8,6 +8,7 @@ use crate::text::Text;
 use crate::told::Request;
 use nbd_state::is_change;
 use nbd_wire::Part;
+use std::alloc::AllocError;
 
 /// The most requests whose states are told.
 const MOST: usize = 64;
@@ -23,48 +24,33 @@ struct Party {
     byte: Option<u8>,
 }
 
-/// The changes of a refutation, and behind them its READs. Once memory was refused they are not known.
-#[derive(Drop)]
-struct Parties {
-    all: Vec<Party>,
-    is_refused: bool,
+// The changes of a refutation, and behind them its READs.
+fn parties(contest: &Contest<'_>, sources: &Sources<'_>) -> Result<Vec<Party>, AllocError> {
+    let (story, offset) = (sources.story, contest.offset);
+    let mut parties = Vec::new(story.alloc());
+    for numbers in [contest.changes, contest.reads] {
+        for number in numbers {
+            let request = story.request_for(*number, Part { offset, length: 1 });
+            let byte = if is_change(request.head.command) {
+                story.byte_by(&request, offset)
+            } else {
+                Some(found_byte(*number, offset, story).byte)
+            };
+            parties.push(Party { request, byte })?;
+        }
+    }
+    Ok(parties)
 }
 
-impl Parties {
-    fn of(contest: &Contest<'_>, sources: &Sources<'_>) -> Parties {
-        let mut parties = Parties {
-            all: Vec::new(sources.story.alloc()),
-            is_refused: false,
-        };
-        for numbers in [contest.changes, contest.reads] {
-            for number in numbers {
-                parties.add(*number, contest.offset, sources);
-            }
+// Whether one of them can be served next, once these were: it was not, and each that had to be served before it was.
+fn is_next(one: &Request, parties: &[Party], served: &[u64]) -> bool {
+    for party in parties {
+        let other = &party.request;
+        if other.is_before(one) & !served.contains(&other.number) {
+            return false;
         }
-        parties
     }
-
-    fn add(&mut self, number: u64, offset: u64, sources: &Sources<'_>) {
-        let story = sources.story;
-        let request = story.request_for(number, Part { offset, length: 1 });
-        let byte = if is_change(request.head.command) {
-            story.byte_by(&request, offset)
-        } else {
-            Some(found_byte(number, offset, story).byte)
-        };
-        self.is_refused |= self.all.push(Party { request, byte }).is_err();
-    }
-
-    // Whether one can be served next, once these were: it was not, and each that had to be served before it was.
-    fn is_next(&self, one: &Request, served: &[u64]) -> bool {
-        for party in &self.all {
-            let other = &party.request;
-            if other.is_before(one) & !served.contains(&other.told.number) {
-                return false;
-            }
-        }
-        !served.contains(&one.told.number)
-    }
+    !served.contains(&one.number)
 }
 
 impl Text {
@@ -74,9 +60,11 @@ impl Text {
         if contest.changes.len().saturating_add(contest.reads.len()) > MOST {
             return self.say("states: not told of more than 64 requests\n");
         }
-        let parties = Parties::of(contest, sources);
+        let Ok(parties) = parties(contest, sources) else {
+            return self.refused_if(true);
+        };
         let count = contest.states.len();
-        let mut text = self.refused_if(parties.is_refused).say(
+        let mut text = self.say(
             "states: a change that is next leads to a state that has it, where nothing that is next got its byte; no state has all that got one\n",
         );
         for place in 0..count.min(LISTED) {
@@ -88,12 +76,12 @@ impl Text {
     }
 
     // What was served, in this order, and what can be served next.
-    fn state(self, served: &[u64], parties: &Parties) -> Text {
+    fn state(self, served: &[u64], parties: &[Party]) -> Text {
         let mut text = self.say_if(served.is_empty(), "nothing");
         let mut mark = "";
         for number in served {
-            for party in &parties.all {
-                if party.request.told.number == *number {
+            for party in parties {
+                if party.request.number == *number {
                     text = text.party(mark, party);
                 }
             }
@@ -101,8 +89,8 @@ impl Text {
         }
         text = text.say(" served");
         mark = "; next ";
-        for party in &parties.all {
-            if parties.is_next(&party.request, served) {
+        for party in parties {
+            if is_next(&party.request, parties, served) {
                 text = text.party(mark, party);
                 mark = ", ";
             }

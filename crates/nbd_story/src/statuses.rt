@@ -129,21 +129,17 @@ impl Story {
 
     /// What the request with this number calls zero, if it is a BLOCK_STATUS whose reply begins with a status of `base:allocation`.
     pub fn zeroes_of(&self, number: u64) -> Status<'_> {
-        let mut status = self.status_in(self.first_reply(number));
+        let mut first = &NO_MESSAGE;
+        for message in self.told.iter().rev() {
+            if message.answers(number) {
+                first = message;
+            }
+        }
+        let mut status = self.status_in(first);
         if !self.contexts.selection.is_allocation(status.id) {
             status.bytes = &[];
         }
         status
-    }
-
-    // The first message of the reply to the request with this number.
-    fn first_reply(&self, number: u64) -> &Told {
-        for message in &self.told {
-            if message.answers(number) {
-                return message;
-            }
-        }
-        &NO_MESSAGE
     }
 
     /// The id of the context of a status chunk.

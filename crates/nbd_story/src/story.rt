@@ -4,7 +4,7 @@ use crate::content::bringer;
 use crate::contexts::Contexts;
 use crate::explanation::Sources;
 use crate::recording::Recording;
-use crate::told::{Form, NO_MESSAGE, NO_REQUEST, Request, Told};
+use crate::told::{Form, NO_REQUEST, Request, Told};
 use nbd_export::Start;
 use nbd_state::{Export, is_proper};
 use nbd_wire::flags::{has, has_wide};
@@ -136,34 +136,28 @@ impl Story {
         self.is_transmission = is_granted & (head.option == options::GO);
         self.is_extended |= is_granted & (head.option == options::EXTENDED_HEADERS);
         self.sizing = self.sizing.after(head.kind, data);
-        self.is_refused |= self
-            .contexts
-            .answer(told.before_last(0), head, data)
-            .is_err();
+        self.is_refused |= self.contexts.answer(told, head, data).is_err();
     }
 
-    // A request has come. DISC has no number.
+    // A request has come. DISC has no number. Where memory was refused it is not known whether a client should send it.
     fn ask(&mut self, told: &Told, head: &RequestHead) {
-        if told.number != 0 {
-            let request = Request {
-                told: *told,
-                head: *head,
-                proper: self.is_proper(told, head),
-                ..NO_REQUEST
-            };
-            self.is_refused |= self.requests.push(request).is_err();
-            self.is_refused |= self.outstanding.insert(head.cookie, told.number).is_err();
+        if told.number == 0 {
+            return;
         }
-    }
-
-    // Whether a client should send a request that has come. Where memory was refused that is not known.
-    fn is_proper(&mut self, told: &Told, head: &RequestHead) -> bool {
-        let asking = self.asking(told, head);
+        let asking = self.asking(head, self.behind(told));
         self.is_refused |= asking.is_err();
-        match asking {
-            Ok(asking) => is_proper(self.export, &asking, head),
-            Err(_) => false,
+        let mut request = NO_REQUEST;
+        request.number = told.number;
+        request.head = *head;
+        request.before = told.before.saturating_add(told.head());
+        request.payload = told.payload;
+        request.first = told.first;
+        request.last = told.last;
+        if let Ok(asking) = &asking {
+            request.proper = is_proper(self.export, asking, head);
         }
+        self.is_refused |= self.requests.push(request).is_err();
+        self.is_refused |= self.outstanding.insert(head.cookie, told.number).is_err();
     }
 
     // A message of a reply has come; after the last one its cookie is free.
@@ -195,9 +189,10 @@ impl Story {
         payload_of(&self.recording, told)
     }
 
-    /// The last message, if there is one.
-    pub fn last(&self) -> &Told {
-        self.told.last().unwrap_or(&NO_MESSAGE)
+    /// What a request has behind its head.
+    pub fn payload(&self, request: &Request) -> &[u8] {
+        self.recording
+            .bytes_at(Side::Client, request.before, request.payload)
     }
 
     /// The request with this number, from 1; 0 wraps to a place that is not there.
@@ -211,7 +206,7 @@ impl Story {
     /// of a READ, the last byte of the first message that brings something of the part, or else that of its reply.
     pub fn request_for(&self, number: u64, part: Part) -> Request {
         let mut request = *self.request(number);
-        if self.serves_by_chunk(&request) {
+        if self.profile.serves_by_chunk(request.head.command) {
             let reply = bringer(&self.told, number, part);
             request.due = request.finished;
             if reply.is_there() {
@@ -221,45 +216,25 @@ impl Story {
         request
     }
 
-    /// Whether what each message of a request's reply brings is served by itself: of a READ, in the profile `Wide`.
-    pub fn serves_by_chunk(&self, request: &Request) -> bool {
-        self.profile.serves_by_chunk(request.head.command)
-    }
-
     /// Whether a request came whole behind the first byte of a READ's reply and before its last one. Without that the profile `Wide`
     /// serves each READ as `Base` does.
     pub fn has_chunks_apart(&self) -> bool {
-        for request in &self.requests {
-            if request.head.command == commands::READ && self.is_answered_around(request) {
+        for read in &self.requests {
+            let replied = read.replied;
+            let next = self.requests.partition_point(|one| one.last < replied);
+            let one = self.requests.get(next).unwrap_or(&NO_REQUEST);
+            let is_around = (read.finished == 0) | (one.last < read.finished);
+            let is_answered = (read.head.command == commands::READ) & (replied != 0);
+            if is_answered & one.is_there() & is_around {
                 return true;
             }
         }
         false
     }
 
-    // Whether a request came whole behind the first byte of another one's reply and before its last one.
-    fn is_answered_around(&self, answered: &Request) -> bool {
-        let replied = answered.replied;
-        let next = self.requests.partition_point(|one| one.told.last < replied);
-        let one = self.requests.get(next).unwrap_or(&NO_REQUEST);
-        let is_open = answered.finished == 0;
-        one.is_there() & (replied != 0) & (is_open | (one.told.last < answered.finished))
-    }
-
     /// The outstanding request with this cookie.
     pub fn answered(&self, cookie: u64) -> &Request {
         self.request(self.outstanding.get(&cookie).copied().unwrap_or(0))
-    }
-
-    /// The number of the request that a message of this form, which comes next, asks or answers.
-    pub fn number_of(&self, form: &Form) -> u64 {
-        match form {
-            Form::Request(head) if head.command == commands::DISC => 0,
-            Form::Request(_) => (self.requests.len() as u64).saturating_add(1),
-            Form::Simple(head) => self.answered(head.cookie).told.number,
-            Form::Chunk(head) => self.answered(head.cookie).told.number,
-            _ => 0,
-        }
     }
 }
 

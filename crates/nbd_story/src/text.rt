@@ -119,10 +119,10 @@ impl Text {
 
     /// Adds words with a byte in the place of their braces, where it is known, and else other words.
     pub fn byte_or(self, byte: Option<u8>, words: &str, others: &str) -> Text {
-        self.number(
-            if byte.is_some() { words } else { others },
-            u64::from(byte.unwrap_or(0)),
-        )
+        match byte {
+            Some(byte) => self.number(words, u64::from(byte)),
+            None => self.say(others),
+        }
     }
 
     /// Adds how many more there are than were listed, in words with their number, where there are more.
@@ -157,12 +157,12 @@ impl Text {
 
     /// Words and places of a capture, from the first to the last: `byte 1`, `bytes 1 to 4`.
     pub fn places(self, words: &str, first: u64, last: u64) -> Text {
-        let places = if first == last {
-            "byte {first}"
+        let text = self.say(words);
+        if first == last {
+            text.number("byte {first}", first)
         } else {
-            "bytes {first} to {last}"
-        };
-        self.say(words).fill(places, &[first, last])
+            text.fill("bytes {first} to {last}", &[first, last])
+        }
     }
 
     /// A number with its name, as `NBD_OPT_GO (7)`; one that its table does not have as `option 77`.

@@ -121,10 +121,17 @@ impl Told {
 /// A numbered request.
 #[derive(Clone, Copy)]
 pub struct Request {
-    /// Its message.
-    pub told: Told,
+    /// From 1, in the order of arrival.
+    pub number: u64,
     /// What it asks for; its length is that of its range.
     pub head: RequestHead,
+    /// How many bytes of the client stand before those behind its head, and how many these are.
+    pub before: u64,
+    pub payload: u64,
+    /// The place of its first byte, from 1.
+    pub first: u64,
+    /// The place of its last one.
+    pub last: u64,
     /// The place of the first byte of its reply; 0 before that.
     pub replied: u64,
     /// The place of the last byte of its reply; 0 before that.
@@ -139,7 +146,7 @@ pub struct Request {
 
 /// What stands for a request where there is none: its number is 0, and its type asks for nothing.
 pub const NO_REQUEST: Request = Request {
-    told: NO_MESSAGE,
+    number: 0,
     head: RequestHead {
         extended: false,
         flags: 0,
@@ -148,6 +155,10 @@ pub const NO_REQUEST: Request = Request {
         offset: 0,
         length: 0,
     },
+    before: 0,
+    payload: 0,
+    first: 0,
+    last: 0,
     replied: 0,
     finished: 0,
     due: 0,
@@ -158,12 +169,15 @@ pub const NO_REQUEST: Request = Request {
 impl Request {
     /// Whether there is one.
     pub fn is_there(&self) -> bool {
-        self.told.is_there()
+        self.number != 0
     }
 
     /// The part of the export that it names.
     pub fn range(&self) -> Part {
-        range(&self.head)
+        Part {
+            offset: self.head.offset,
+            length: self.head.length,
+        }
     }
 
     /// Whether it changes the export at an offset.
@@ -201,15 +215,7 @@ impl Request {
 
     /// Whether it was surely served before another one: it had to be before that one had come whole.
     pub fn is_before(&self, other: &Request) -> bool {
-        (self.due != 0) & (self.due < other.told.last)
-    }
-}
-
-/// The part of the export that a request with this head names.
-pub fn range(head: &RequestHead) -> Part {
-    Part {
-        offset: head.offset,
-        length: head.length,
+        (self.due != 0) & (self.due < other.last)
     }
 }
 

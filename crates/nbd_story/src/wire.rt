@@ -3,7 +3,7 @@
 use crate::rules::{Breaker, Rule, wire_rule};
 use crate::story::Story;
 use crate::text::Text;
-use crate::told::{Form, Told};
+use crate::told::{Form, NO_MESSAGE, Told};
 use nbd_wire::{Profile, Side, WireFault, head_lengths, options};
 
 /// Who broke a rule where a request was answered before it was whole.
@@ -46,8 +46,12 @@ impl Text {
             (_, Some(side)) => text.open_message(side, at, fault, story),
             (_, None) => text,
         };
-        text.told("before it: ", story.last(), story)
-            .window(&story.recording, at)
+        text.told(
+            "before it: ",
+            story.told.last().unwrap_or(&NO_MESSAGE),
+            story,
+        )
+        .window(&story.recording, at)
     }
 
     // The rule of a fault that was seen at this place, and who broke it, where it judges the session.
@@ -139,35 +143,27 @@ impl Story {
     // Who broke the rule of a fault that was seen at this place.
     fn breaker(&self, at: u64, fault: WireFault, breaker: Breaker) -> &'static str {
         let sender = self.recording.sender(at);
+        let reply = self.begun(Side::Server);
+        let is_reading = matches!(reply.form, Form::Simple(_)) & (reply.payload != 0);
+        let front = self
+            .recording
+            .bytes_from(Side::Server, OLDSTYLE.len() as u64);
         match fault {
             WireFault::NotFixedNewstyle => NOT_FIXED,
             WireFault::CookieInUse => SHOULD,
-            WireFault::BadMagic if self.is_oldstyle() => OF_OLDSTYLE,
+            WireFault::BadMagic if front.starts_with(OLDSTYLE) => OF_OLDSTYLE,
             WireFault::OutOfTurn if self.is_hasty(at, sender) => HASTY,
-            WireFault::Unfinished if self.is_reading() => OF_READ,
+            WireFault::Unfinished if is_reading => OF_READ,
             WireFault::UnknownCookie if self.is_answered_early() => EARLY,
             _ => breaker_name(breaker, sender),
         }
     }
 
-    // Whether the server begins with a greeting in oldstyle.
-    fn is_oldstyle(&self) -> bool {
-        self.recording
-            .bytes_from(Side::Server, OLDSTYLE.len() as u64)
-            .starts_with(OLDSTYLE)
-    }
-
     // Whether the server sent this byte, and the head of an option had come and its data had not.
     fn is_hasty(&self, at: u64, sender: Option<Side>) -> bool {
-        sender == Some(Side::Server)
-            && self.came(Side::Client, at) >= head_lengths::CHOICE as u64
-            && matches!(self.begun(Side::Client).form, Form::Choice(_))
-    }
-
-    // Whether a simple reply with the bytes of a READ has begun.
-    fn is_reading(&self) -> bool {
-        let told = self.begun(Side::Server);
-        matches!(told.form, Form::Simple(_)) & (told.payload != 0)
+        let has_head = self.came(Side::Client, at) >= head_lengths::CHOICE as u64;
+        let is_choice = matches!(self.begun(Side::Client).form, Form::Choice(_));
+        (sender == Some(Side::Server)) & has_head & is_choice
     }
 }
 
