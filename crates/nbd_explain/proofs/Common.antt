@@ -20,7 +20,7 @@ pub use Rattle.nbd_explain.specs.declared.ordering.Ordered.{Ordered}
 pub use Rattle.nbd_explain.specs.declared.ordering.Ordered.TheVariants.{Refuted}
 pub use Rattle.nbd_explain.specs.internal.Fates.{AppendsFront, AppendsLine, AppendsNames, AreLines, AreReplies, EndsWith, fate, fate_by, fates_behind, has_cookie, outcome_by, reply_in}
 pub use Rattle.nbd_explain.specs.internal.Fates.AreLines.{named, none}
-pub use Rattle.nbd_explain.specs.internal.Lines.{Begins, HasVerdictLine, IsFinishOf, IsLineOf, IsToldBySearch, IsToldOfFound, IsToldOn, OnWritten}
+pub use Rattle.nbd_explain.specs.internal.Lines.{Begins, HasVerdictLine, IsLineOf, IsToldBySearch, IsToldOfFound, IsToldOn, OnWritten}
 pub use Rattle.nbd_explain.specs.internal.Outcomes.{IsToldFrom, IsToldOf}
 pub use Rattle.nbd_explain.specs.internal.Outcomes.IsToldOf.{of_refusal, of_report}
 pub use Rattle.nbd_files.specs.Starts.{IsStartCause}
@@ -63,7 +63,7 @@ pub use Rattle.nbd_state.specs.declared.asked.Outcome.TheVariants.{Failure, Pend
 pub use Rattle.nbd_tool.proofs.JudgedLemmas.{verdict_on}
 pub use Rattle.nbd_tool.proofs.OverLemmas.{both_ok, both_on, capture_over, checked_over, fault_over, first_on, report_over, took_all}
 pub use Rattle.nbd_tool.specs.Beginnings.{IsBeginningOf, IsReadAs, room_in}
-pub use Rattle.nbd_tool.specs.Ends.{IsOver, IsOverText, IsWireAt, LeavesLast, is_accepted, last_line}
+pub use Rattle.nbd_tool.specs.Ends.{IsFinishOf, IsOver, IsOverText, IsWireAt, LeavesLast, is_accepted, last_line}
 pub use Rattle.nbd_tool.specs.Runs.{IsCapture, IsCause, IsOrder, flat_of}
 pub use Rattle.nbd_tool.specs.Verdicts.{IsYes, line, words}
 pub use Rattle.nbd_tool.specs.declared.beginning.Beginning.{Beginning}

@@ -12,7 +12,7 @@ ghost use Rattle.nbd_explain.specs.Arrival.{Arrives, number_lines};
 use nbd_capture::write_whole;
 use nbd_files::RunFault;
 use nbd_session::SessionFault;
-use nbd_tool::{Unseen, session_over};
+use nbd_tool::transcript_over;
 use nbd_wire::Profile;
 use std::alloc::{AllocError, Global};
 use std::io::{BufRead, Write};
@@ -53,8 +53,8 @@ pub fn run_arrival_of<C: BufRead + Drop, W: Write>(
     ensures cause { IfErr result (IsShowCause (C.remaining capture)) }
     ensures left { IfErr result (LeavesOrdered (W.contents out.old) (W.contents out.new)) }
 {
-    let session = session_over(alloc, profile, capture, &mut Unseen)?;
-    match session.finish() {
+    let finished = transcript_over(alloc, profile, capture)?;
+    match finished {
         Ok(transcript) => {
             write_numbers(alloc, transcript.count(), out)?;
             Ok(true)

@@ -22,7 +22,7 @@ use nbd_judge::{Verdict, laws};
 use nbd_lines::write_contents;
 use nbd_order::{Left, left_by, left_by_each};
 use nbd_session::{SessionFault, Transcript};
-use nbd_tool::{Beginning, Unseen, session_over, write_verdict};
+use nbd_tool::{Beginning, transcript_over, write_verdict};
 use nbd_wire::{Entry, Profile};
 use std::alloc::{AllocError, Global};
 use std::io::{BufRead, Read, Write};
@@ -84,8 +84,8 @@ fn left_over<C: BufRead + Drop, O: Read + Drop, I: Measured + Drop>(
     ensures cause { IfErr result (IsExplainCause O.remaining I.remaining (C.remaining capture) order start) }
 {
     laws::verdicts_answer_runs();
-    let session = session_over(alloc, profile, capture, &mut Unseen)?;
-    left_behind(alloc, profile, &session.finish(), order, start)
+    let finished = transcript_over(alloc, profile, capture)?;
+    left_behind(alloc, profile, &finished, order, start)
 }
 
 // What is left of a finished session, from the order and the start that are read.

@@ -9,7 +9,8 @@ ghost use Rattle.nbd_tool.specs.Runs.{IsCapture, IsCaptureCause};
 ghost use Rattle.nbd_files.specs.Starts.{IsStartWellFormed, IsWithinLimit, OfStart};
 ghost use Rattle.nbd_explain.specs.Explained.{IsExplainCause, IsExplained, IsOrderWithinLimit};
 ghost use Rattle.nbd_explain.specs.internal.Leaving.{entries_of};
-ghost use Rattle.nbd_explain.specs.internal.Lines.{IsFinishOf, IsToldGiven, IsToldOn, OnWritten};
+ghost use Rattle.nbd_explain.specs.internal.Lines.{IsToldGiven, IsToldOn, OnWritten};
+ghost use Rattle.nbd_tool.specs.Ends.{IsFinishOf};
 
 use crate::answer::Answer;
 use crate::reading::{Recorder, finished_over, read_behind};

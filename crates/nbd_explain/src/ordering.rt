@@ -25,7 +25,7 @@ use nbd_judge::{Verdict, wrong_of};
 use nbd_order::{Found, Scope, find};
 use nbd_search::{Progress, Reason};
 use nbd_session::{SessionFault, Transcript};
-use nbd_tool::{Beginning, Line, Unseen, line_of, read_start, room_of, session_over};
+use nbd_tool::{Beginning, Line, line_of, read_start, room_of, transcript_over};
 use nbd_wire::{Entry, Profile};
 use std::alloc::{AllocError, Global};
 use std::io::{BufRead, Write};
@@ -97,8 +97,8 @@ pub fn run_order_of<C: BufRead + Drop, I: Measured + Drop, W: Write>(
     ensures cause { IfErr result (IsOrderingCause I.remaining (C.remaining capture) start) }
     ensures left { IfErr result (LeavesOrdered (W.contents out.old) (W.contents out.new)) }
 {
-    let session = session_over(alloc, profile, capture, &mut Unseen)?;
-    let told = told_over(alloc, profile, session.finish(), start, scope, progress)?;
+    let finished = transcript_over(alloc, profile, capture)?;
+    let told = told_over(alloc, profile, finished, start, scope, progress)?;
     write_told(told, out)
 }
 

@@ -8,7 +8,7 @@ ghost use Rattle.nbd_files.specs.Starts.{IsStartWellFormed, IsWithinLimit, OfSta
 ghost use Rattle.nbd_explain.specs.Contents.{HasEntries};
 ghost use Rattle.nbd_explain.specs.Explained.{IsExplainCause, IsOrderWithinLimit};
 ghost use Rattle.nbd_explain.specs.internal.Leaving.{IsGivenOrderCause, entries_of};
-ghost use Rattle.nbd_explain.specs.internal.Lines.{IsFinishOf};
+ghost use Rattle.nbd_tool.specs.Ends.{IsFinishOf};
 
 use nbd_files::{Measured, RunFault, StartFrom};
 use nbd_session::{SessionFault, Transcript};

@@ -1,5 +1,5 @@
 -- The text that is made of what looking for an order came to.
-use Rattle.std.specs.Prelude.{◌≡◌, ℕ, List, ◌++◌, Option, Some, None, Result, Ok, Err, IfOk, IfErr}
+use Rattle.std.specs.Prelude.{◌≡◌, ℕ, List, ◌++◌, Option, Some, None, Result, Ok, Err}
 use Rattle.std.specs.Io.KnownBytes.{Appends}
 use Rattle.nbd_wire.specs.declared.profile.Profile.{Profile}
 use Rattle.nbd_wire.specs.protocol.Explains.{Start}
@@ -8,8 +8,6 @@ use Rattle.nbd_wire.specs.protocol.Reports.{Report, report}
 use Rattle.nbd_wire.specs.protocol.Rules.{IsRunOf}
 use Rattle.nbd_session.specs.declared.fault.SessionFault.{SessionFault}
 use Rattle.nbd_session.specs.declared.fault.SessionFault.TheVariants.{Memory, Wire}
-use Rattle.nbd_session.specs.Refusals.{EndsIn}
-use Rattle.nbd_session.specs.Sessions.{IsReported, SessionView, fault_at_end, fault_of}
 use Rattle.nbd_judge.specs.Conclusions.{Answers, IsConclusion, IsReportOf}
 use Rattle.nbd_judge.specs.declared.verdict.Verdict.{Verdict}
 use Rattle.nbd_judge.specs.declared.verdict.Verdict.TheVariants as verdict
@@ -19,7 +17,6 @@ use Rattle.nbd_order.specs.declared.finding.Found.{Found}
 use Rattle.nbd_order.specs.declared.finding.Found.TheVariants.{GaveUp, Image, NoneWhole, Order, Unexplained}
 use Rattle.nbd_order.specs.declared.finding.Wanted.TheVariants.{Any}
 use Rattle.nbd_tool.specs.Beginnings.{IsReadAs, room_in}
-use Rattle.nbd_tool.specs.Ends.{IsOverText}
 use Rattle.nbd_tool.specs.Verdicts.{line}
 use Rattle.nbd_explain.specs.Ordering.{found_text}
 use Rattle.nbd_explain.specs.declared.answer.Answer.{Answer}
@@ -63,15 +60,6 @@ Begins first text = (explanation : List ℕ) × (text ≡ first ++ explanation)
 -- what holds of each writer to which this text was added
 abbrev pub OnWritten : List ℕ → (Option (List ℕ) → Option (List ℕ) → Type 0) → Type 0
 OnWritten text P = (old new : Option (List ℕ)) → Appends old new text → P old new
-
--- what a session of the profile over the chunks of a capture text came to at its end
-pub record IsFinishOf (profile : Profile) (known : Option (List ℕ))
-    (finished : Result Report SessionFault) : Type 0 where
-  pub session : SessionView
-  pub over : IsOverText profile known session
-  pub fault : fault_of finished ≡ fault_at_end session
-  pub report : IfOk finished (IsReported session)
-  pub wire : IfErr finished (EndsIn session)
 
 -- the verdict on the entries, from each start that was read so, is answered, and told with an explanation
 pub record IsToldOn (profile : Profile) (finished : Result Report SessionFault) (entries : List Entry)
