@@ -81,6 +81,16 @@ def check():
     return 1 if bad else 0
 
 
+@functools.cache
+def passed_on():
+    """Where the names are declared that a module passes on."""
+    found = {}
+    for path in files_of("specs/**/*.antt"):
+        for match in filter(None, map(USE.match, re.findall(r"^pub use .*$", open(path, encoding="utf8").read(), re.MULTILINE))):
+            found |= {(module_of(path), name): match.group(1) for name in match.group(2).split(", ")}
+    return found
+
+
 class Names:
     """What the names of a file mean, by its use lines."""
 
@@ -96,7 +106,8 @@ class Names:
             else:
                 for item in filter(None, (i.strip() for i in items.split(","))):
                     old, _, new = item.partition(" as ")
-                    self.names[(new or old).strip()] = (module, old.strip())
+                    source = passed_on().get((module, old.strip()), module)
+                    self.names[(new or old).strip()] = (source, old.strip())
 
     def refer(self, text):
         found = set()

@@ -23,7 +23,7 @@ def run(tally):
     tally.holds("the manual page has the rules", manual() in page, "tools/manual.py prints them")
     declared = re.findall(r"^    (\w+),$", (TOP / "crates/nbd_wire/src/fault.rt").read_text(), re.MULTILINE)
     tally.want("each fault has a rule", [rule[0] for rule in rules()], declared)
-    verdicts = (TOP / "crates/nbd_judge/src/verdict.rt").read_text()
+    verdicts = (TOP / "crates/nbd_wire/src/verdict.rt").read_text()
     of_orders = re.findall(r"^    (\w+),$", verdicts.split("pub enum OrderFault")[1].split("\n}\n")[0], re.MULTILINE)
     tally.want("each fault of an order has a rule", [rule[0] for rule in order_rules()], of_orders)
     profile = rows()

@@ -5,7 +5,7 @@ use Rattle.std.specs.Fmt.{decimal}
 use Rattle.std.specs.Str.Parse.{IsNumeral, digits_value}
 use Rattle.nbd_wire.specs.declared.entry.Entry.{Entry}
 use Rattle.nbd_wire.specs.declared.entry.Part.{Part}
-use Rattle.nbd_wire.specs.protocol.Entries.{whole}
+use Rattle.nbd_wire.specs.Prelude.{whole}
 use Rattle.nbd_capture.specs.Capture.{space}
 use Rattle.nbd_capture.specs.Lines.{IsText, IsFirstBadLine}
 

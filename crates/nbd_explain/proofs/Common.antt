@@ -7,8 +7,8 @@ pub use Rattle.nbd_explain.specs.Arrival.{Arrives, number_lines}
 pub use Rattle.nbd_explain.specs.Explained.{BeginsWithLine, Explains, IsExplained}
 pub use Rattle.nbd_explain.specs.Named.{AreNamed, IsEnding, KeepsUnread, NamesAll, is_numbered, message_of, plain}
 pub use Rattle.nbd_explain.specs.Named.AreNamed.{other, request}
-pub use Rattle.nbd_explain.specs.Ordering.{IsOrdered, IsOrderedFrom, IsOrderingCause, IsUnexplainedBy, LeavesOrdered, Orders, entry_lines, found_text, ordered_of, spaced_numbers, unexplained_line}
-pub use Rattle.nbd_explain.specs.Ordering.IsOrdered.{gave_up, image, none_whole, order, unexplained, wire}
+pub use Rattle.nbd_explain.specs.Ordering.{IsAnswered, IsOrderedFrom, IsOrderingCause, IsUnexplainedBy, LeavesOrdered, Orders, entry_lines, found_text, ordered_of, spaced_numbers, unexplained_line}
+pub use Rattle.nbd_explain.specs.Ordering.IsAnswered.{gave_up, image, none_whole, order, unexplained, wire}
 pub use Rattle.nbd_explain.specs.Orderless.{IsTold, Tells}
 pub use Rattle.nbd_explain.specs.Orderless.IsTold.{found}
 pub use Rattle.nbd_explain.specs.Outputs.{OneOutput}
@@ -34,8 +34,10 @@ pub use Rattle.nbd_judge.specs.Captures.{IsChecked, IsFaultOf}
 pub use Rattle.nbd_judge.specs.Images.{IsOtherSize}
 pub use Rattle.nbd_judge.specs.Servable.{size_of}
 pub use Rattle.nbd_judge.specs.Verdicts.{wrong_verdict}
-pub use Rattle.nbd_judge.specs.declared.verdict.Verdict.{Verdict}
+pub use Rattle.nbd_wire.specs.declared.verdict.Verdict.{Verdict}
 pub use Rattle.nbd_judge.specs.internal.Captures.{HasReport}
+pub use Rattle.nbd_laws.proofs.judge.WholeLemmas.{allowed}
+unfoldable pub use Rattle.nbd_laws.proofs.judge.WholeLemmas.{IsAllowed}
 pub use Rattle.nbd_laws.proofs.judge.PhaseLemmas.{in_force_stays, transmission_stays}
 pub use Rattle.nbd_laws.proofs.requests.OutstandingLemmas.{AreDistinct, Free, distinct_complete}
 pub use Rattle.nbd_laws.proofs.runs.ProfileLemmas.{at_base}

@@ -5,13 +5,13 @@ use Rattle.std.specs.declared.alloc.Global.{Global}
 use Rattle.std.specs.declared.vec.Vec.{Vec}
 use Rattle.nbd_tool.specs.Beginnings.{IsBeginningOf, IsReadAs, room_in}
 use Rattle.nbd_tool.specs.declared.beginning.Beginning.{Beginning}
-use Rattle.nbd_wire.specs.protocol.Operations.{Exporting}
+use Rattle.nbd_wire.specs.Prelude.{Exporting}
 use Rattle.nbd_export.specs.Held.{held, held_from}
 use Rattle.nbd_judge.specs.Captures.{SaysYes}
 use Rattle.nbd_judge.specs.Conclusions.{VerdictsAnswerRuns}
 use Rattle.nbd_judge.specs.Verdicts.{IsVerdict}
-use Rattle.nbd_judge.specs.declared.verdict.Verdict.{Verdict}
-use Rattle.nbd_judge.specs.declared.verdict.Verdict.TheVariants as verdict
+use Rattle.nbd_wire.specs.declared.verdict.Verdict.{Verdict}
+use Rattle.nbd_wire.specs.declared.verdict.Verdict.TheVariants as verdict
 use Rattle.nbd_session.specs.declared.fault.SessionFault.TheVariants as session
 use Rattle.nbd_order.specs.Leaving.{left}
 use Rattle.nbd_order.specs.Sure.{sure}

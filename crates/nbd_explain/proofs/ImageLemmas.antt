@@ -4,8 +4,7 @@ use Rattle.std.specs.Prelude.{◌+◌, length, nat_le, nat_lt, slice_get}
 use Rattle.std.proofs.lemmas.Bool.{and_from, and_parts, le-leb, lt-ltb, ltb-true}
 use Rattle.std.proofs.Common.{inl}
 use Rattle.std.proofs.lemmas.Option.{slice_get_within}
-use Rattle.nbd_wire.specs.protocol.Explains.{known}
-use Rattle.nbd_wire.specs.protocol.Pieces.{is_in}
+use Rattle.nbd_wire.specs.Prelude.{known, is_in}
 use Rattle.nbd_export.specs.Held.{Held, held_from}
 use Rattle.nbd_export.proofs.HeldLemmas.{length-held_from, slice_get-held_from}
 use Rattle.nbd_explain.specs.Compared.{ImagesCompareAsReads}

@@ -1,8 +1,8 @@
 -- What a run of `order` writes.
-use Rattle.nbd_explain.proofs.Common.{◌≡◌, ℕ, List, [], ◌∷◌, ◌++◌, ◌<◌, ◌≤◌, ap, refl, sym, ◌∙◌, subst, Option, Some, None, Result, Ok, Err, IfOk, IfErr, IfSome, length, slice_index, slice_get, inl, inr, arith, decimal, Appends, Entry, WireFault, Profile, Pair, FitsImage, IsExplainedOf, Start, start_byte, Item, pairs, Report, report, IsRunOf, Passes, request_count, IsSoundReport, no_export, SessionFault, Wire, EndsIn, IsReported, SessionView, fault_at_end, fault_of, no_run_of, IsFaultOf, HasReport, IsFound, IsWanted, Says, arrival, IsRefutedBy, IsUnexplained, Found, Wanted, IsOverText, IsOrdered, IsOrderedFrom, IsUnexplainedBy, Orders, found_text, ordered_of, spaced_numbers, unexplained_line, gave_up, image, none_whole, order, unexplained, wire, Refuted, Beginning, IsBeginningOf, room_in, IsToldFrom, IsToldOf, of_refusal, of_report, RunFault, Ordered, flat_of, line, words, fault_over, report_over, Exporting, size_and_flags, IsOtherSize, wrong_verdict, size_of, IsReadAs, Longer}
+use Rattle.nbd_explain.proofs.Common.{◌≡◌, ℕ, List, [], ◌∷◌, ◌++◌, ◌<◌, ◌≤◌, ap, refl, sym, ◌∙◌, subst, Option, Some, None, Result, Ok, Err, IfOk, IfErr, IfSome, length, slice_index, slice_get, inl, inr, arith, decimal, Appends, Entry, WireFault, Profile, Pair, FitsImage, IsExplainedOf, Start, start_byte, Item, pairs, Report, report, IsRunOf, Passes, request_count, IsSoundReport, no_export, SessionFault, Wire, EndsIn, IsReported, SessionView, fault_at_end, fault_of, no_run_of, IsFaultOf, HasReport, IsFound, IsWanted, Says, arrival, IsRefutedBy, IsUnexplained, Found, Wanted, IsOverText, IsAnswered, IsOrderedFrom, IsUnexplainedBy, Orders, found_text, ordered_of, spaced_numbers, unexplained_line, gave_up, image, none_whole, order, unexplained, wire, Refuted, Beginning, IsBeginningOf, room_in, IsToldFrom, IsToldOf, of_refusal, of_report, RunFault, Ordered, flat_of, line, words, fault_over, report_over, Exporting, size_and_flags, IsOtherSize, wrong_verdict, size_of, IsReadAs, Longer}
 use Rattle.std.specs.Prelude.{codes}
 use Rattle.std.proofs.lemmas.List.{length-map}
-use Rattle.nbd_judge.specs.declared.verdict.Verdict.TheVariants as verdict
+use Rattle.nbd_wire.specs.declared.verdict.Verdict.TheVariants as verdict
 use Rattle.nbd_order.specs.declared.finding.Found.TheVariants as found
 
 -- an image that was counted has another size than the export
@@ -36,30 +36,30 @@ nothing_passes profile r initial sound none =
     nothing_at : (i : ℕ) (e : Entry) → slice_get [] i ≡ Some e → ⊥
     nothing_at i e at = absurd (cc)
 
--- what was found of the report of a run, and written
-ordered : {profile : Profile} (capture : List Pair) (initial : Start) (wanted : Wanted) (told : Report) (items : List Item) (f : Found) (old new : Option (List ℕ)) → IsRunOf profile items → pairs items ≡ capture → report items ≡ told →
-    IsFound profile told initial f → IsWanted wanted f → Says profile items initial f → Appends old new (found_text told f) → IsOrdered profile capture initial wanted old new (ordered_of f)
-ordered {profile} capture initial wanted told items (found.Order entries) old new is_run has same is fits says appended =
-    order entries.items (subst (λ c. IsExplainedOf profile c entries.items initial) has says) fits appended
-ordered {profile} capture initial wanted told items (found.Unexplained refutation) old new is_run has same is fits says appended =
-    unexplained items refutation.reads.items refutation.offset is_run has
+-- what was found of the report of a run
+pub answered : {profile : Profile} (capture : List Pair) (initial : Start) (wanted : Wanted) (told : Report) (items : List Item) (f : Found) → IsRunOf profile items → pairs items ≡ capture → report items ≡ told →
+    IsFound profile told initial f → IsWanted wanted f → Says profile items initial f → IsAnswered profile capture initial wanted (ordered_of f) (found_text told f)
+answered {profile} capture initial wanted told items (found.Order entries) is_run has same is fits says =
+    order entries.items (subst (λ c. IsExplainedOf profile c entries.items initial) has says) fits
+answered {profile} capture initial wanted told items (found.Unexplained refutation) is_run has same is fits says =
+    subst (λ (r : Report). IsAnswered profile capture initial wanted Refuted (unexplained_line r refutation.reads.items refutation.offset)) same
+    (unexplained items refutation.reads.items refutation.offset is_run has
     (subst (λ r. IsRefutedBy profile r (start_byte initial) refutation.offset refutation.reads.items) (sym same) is)
-    (subst (λ c. IsUnexplained profile c initial) has says)
-    (subst (λ (r : Report). Appends old new (unexplained_line r refutation.reads.items refutation.offset)) (sym same) appended)
-ordered {profile} capture initial wanted told items (found.Image n size) old new is_run has same is fits says appended =
-    image items n size is_run has (subst (λ (r : Report). IsOtherSize r.export initial n size) (sym same) is) appended
-ordered {profile} capture initial wanted told items found.NoneWhole old new is_run has same is fits says appended =
-    none_whole items fits is_run has (subst (λ c. IsUnexplainedBy profile c initial (arrival (request_count (report items)))) has says) appended
-ordered {profile} capture initial wanted told items (found.GaveUp request offset reason) old new is_run has same is fits says appended =
-    gave_up items request offset reason is_run has (subst (λ c. IsUnexplainedBy profile c initial (arrival (request_count (report items)))) has says) appended
+    (subst (λ c. IsUnexplained profile c initial) has says))
+answered {profile} capture initial wanted told items (found.Image n size) is_run has same is fits says =
+    image items n size is_run has (subst (λ (r : Report). IsOtherSize r.export initial n size) (sym same) is)
+answered {profile} capture initial wanted told items found.NoneWhole is_run has same is fits says =
+    none_whole items fits is_run has (subst (λ c. IsUnexplainedBy profile c initial (arrival (request_count (report items)))) has says)
+answered {profile} capture initial wanted told items (found.GaveUp request offset reason) is_run has same is fits says =
+    gave_up items request offset reason is_run has (subst (λ c. IsUnexplainedBy profile c initial (arrival (request_count (report items)))) has says)
 
--- the same, where the start may be known
+-- that was written, where the start may be known
 ordered_from : {profile : Profile} (capture : List Pair) (known : Option Start) (initial : Start) (wanted : Wanted) (told : Report) (items : List Item) (f : Found) (old new : Option (List ℕ)) → IfSome known (λ s. initial ≡ s) →
     IsRunOf profile items → pairs items ≡ capture → report items ≡ told → IsFound profile told initial f → IsWanted wanted f → Says profile items initial f → Appends old new (found_text told f) →
     IsOrderedFrom profile capture known wanted old new (ordered_of f)
 ordered_from capture None initial wanted told items f old new is is_run has same found fits says appended = tt
 ordered_from {profile} capture (Some start) initial wanted told items f old new is is_run has same found fits says appended =
-    subst (λ s. IsOrdered profile capture s wanted old new (ordered_of f)) is (ordered capture initial wanted told items f old new is_run has same found fits says appended)
+    (found_text told f, subst (λ s. IsAnswered profile capture s wanted (ordered_of f) (found_text told f)) is (answered capture initial wanted told items f is_run has same found fits says), appended)
 
 pub orders : {profile : Profile} (known : Option (List ℕ)) (start : Option Start) (room : ℕ) (beginning : Beginning) (wanted : Wanted) (r : SessionView) (told : Report) (finished : Result Report SessionFault) (f : Found)
     (old new : Option (List ℕ)) →
@@ -81,7 +81,8 @@ orders {profile} known start room beginning wanted r told finished f old new ses
 wired : {profile : Profile} (capture : List Pair) (start : Option Start) (wanted : Wanted) (at : ℕ) (fault : WireFault) (old new : Option (List ℕ)) → IsFaultOf profile capture (Wire at fault) → Appends old new (line (verdict.Wire at fault)) →
     IsOrderedFrom profile capture start wanted old new Refuted
 wired capture None wanted at fault old new why appended = tt
-wired capture (Some initial) wanted at fault old new why appended = wire why.0 at fault why.1 (no_run_of capture why.0 at fault why.1) appended
+wired capture (Some initial) wanted at fault old new why appended =
+    (line (verdict.Wire at fault), wire why.0 at fault why.1 (no_run_of capture why.0 at fault why.1), appended)
 
 pub refuses : {profile : Profile} (known : Option (List ℕ)) (start : Option Start) (wanted : Wanted) (r : SessionView) (at : ℕ) (fault : WireFault) (finished : Result Report SessionFault) (old new : Option (List ℕ)) → IsOverText profile known r →
     finished ≡ Err (Wire at fault) → fault_of finished ≡ fault_at_end r → IfErr finished (EndsIn r) → Appends old new (line (verdict.Wire at fault)) → Orders profile known start wanted Refuted old new

@@ -1,9 +1,12 @@
 -- What is told of a session without an order.
-use Rattle.nbd_explain.proofs.Common.{◌≡◌, ℕ, List, ◌++◌, sym, subst, Option, Some, None, Result, Ok, Err, IfSome, Appends, Entry, WireFault, Profile, Pair, IsExplainedOf, Start, start_byte, Report, report, request_count, SessionFault, Wire, no_run_of, IsChecked, IsFaultOf, IsOtherSize, size_of, HasReport, Verdict, checked, IsFound, IsWanted, Says, arrival, IsRefutedBy, IsUnexplained, Found, GaveUp, Image, NoneWhole, Order, Unexplained, Any, IsBeginningOf, IsReadAs, room_in, IsUnexplainedBy, unexplained_line, flat_of, IsYes, line, Beginning, fault_over, report_over, Answer, No, Open, Yes, answer_to, BeginsWithLine, IsTold, Tells, found, Begins, IsFinishOf, IsLineOf, IsToldBySearch, IsToldOfFound, OnWritten}
+use Rattle.nbd_explain.proofs.Common.{IsAnswered, Refuted, found_text, ordered_of, wire, ◌≡◌, ℕ, List, ◌++◌, sym, subst, Option, Some, None, Result, Ok, Err, IfSome, Appends, Entry, WireFault, Profile, Pair, IsExplainedOf, Start, start_byte, Report, report, request_count, SessionFault, Wire, no_run_of, IsChecked, IsFaultOf, IsOtherSize, size_of, HasReport, Verdict, checked, IsFound, IsWanted, Says, arrival, IsRefutedBy, IsUnexplained, Found, GaveUp, Image, NoneWhole, Order, Unexplained, Any, IsBeginningOf, IsReadAs, room_in, IsUnexplainedBy, unexplained_line, flat_of, IsYes, line, Beginning, fault_over, report_over, Answer, No, Open, Yes, answer_to, BeginsWithLine, IsTold, Tells, found, Begins, IsFinishOf, IsLineOf, IsToldBySearch, IsToldOfFound, OnWritten}
 use Rattle.nbd_session.specs.declared.fault.SessionFault.TheVariants.{Memory}
-use Rattle.nbd_judge.specs.declared.verdict.Verdict.TheVariants as verdict
+use Rattle.nbd_wire.specs.declared.verdict.Verdict.TheVariants as verdict
 use Rattle.nbd_explain.specs.Orderless.{IsToldFrom}
-use Rattle.nbd_explain.specs.Orderless.IsTold.{gave_up, image, unexplained, wire}
+use Rattle.nbd_explain.specs.Orderless.IsTold.{refuted, undecided}
+use Rattle.nbd_explain.specs.Orderless.{BeginsWith}
+use Rattle.nbd_explain.specs.declared.ordering.Ordered.TheVariants as ordered
+use Rattle.nbd_explain.proofs.OrderingLemmas.{answered}
 
 -- the verdict on an order that explains a capture is a yes
 yes_of : {profile : Profile} (capture : List Pair) (entries : List Entry) (initial : Start) (v : Verdict) → IsExplainedOf profile capture entries initial → IsChecked profile capture entries initial v → IsYes v
@@ -15,37 +18,35 @@ yes_of capture entries initial (verdict.Order entry fault) explained judged = ab
 yes_of capture entries initial (verdict.Content request offset) explained judged = absurd (judged.answers explained)
 yes_of capture entries initial (verdict.Status request offset) explained judged = absurd (judged.answers explained)
 
+-- what `order` answers of what was found
+found_of : {profile : Profile} (capture : List Pair) (initial : Start) (told : Report) (f : Found) → (has : HasReport profile capture told) → IsFound profile told initial f → IsWanted Any f → Says profile has.items initial f →
+    IsAnswered profile capture initial Any (ordered_of f) (found_text told f)
+found_of capture initial told f has is fits says = answered capture initial Any told has.items f has.is_run has.has_pairs (has.same_report has.items has.is_run has.has_pairs) is fits says
+
 -- what was found of the report of a run, and written
 told_of : {profile : Profile} (capture : List Pair) (initial : Start) (told : Report) (beginning : Beginning) (f : Found) (first rest : List ℕ) (old new : Option (List ℕ)) → (has : HasReport profile capture told) →
-    IsReadAs (size_of told.export) initial beginning → IsFound profile told initial f → IsWanted Any f → Says profile has.items initial f → IsLineOf profile told f beginning first → Appends old new (first ++ rest) → IsTold profile capture initial old new (answer_to f)
+    IsReadAs (size_of told.export) initial beginning → IsFound profile told initial f → IsWanted Any f → Says profile has.items initial f → IsLineOf profile told f beginning first → Appends old new (first ++ rest) →
+    IsTold profile capture initial (answer_to f) first × BeginsWith first old new
 told_of {profile} capture initial told beginning (Order entries) first rest old new has is_read is fits says is_line appended =
     let judged : IsChecked profile capture entries.items initial is_line.verdict =
     checked profile capture entries.items initial (Ok told) is_line.verdict has tt (is_line.concludes initial is_read) (λ items is_run reported. is_line.answers initial items is_read is_run reported) in
     let explained : IsExplainedOf profile capture entries.items initial = subst (λ c. IsExplainedOf profile c entries.items initial) has.has_pairs says in
-    found entries.items is_line.verdict explained judged (yes_of capture entries.items initial is_line.verdict explained judged)
-    (rest, subst (λ text. Appends old new (text ++ rest)) is_line.is_line appended)
+    (subst (IsTold profile capture initial Yes) (sym is_line.is_line) (found entries.items is_line.verdict explained judged (yes_of capture entries.items initial is_line.verdict explained judged)), (rest, appended))
 told_of {profile} capture initial told beginning (Unexplained refutation) first rest old new has is_read is fits says is_line appended =
-    unexplained has.items refutation.reads.items refutation.offset has.is_run has.has_pairs
-    (subst (λ r. IsRefutedBy profile r (start_byte initial) refutation.offset refutation.reads.items) (sym (has.same_report has.items has.is_run has.has_pairs)) is)
-    (subst (λ c. IsUnexplained profile c initial) has.has_pairs says) (
-      rest,
-      subst (λ (r : Report). Appends old new (unexplained_line r refutation.reads.items refutation.offset ++ rest))
-          (sym (has.same_report has.items has.is_run has.has_pairs)) (subst (λ text. Appends old new (text ++ rest)) is_line appended),
-    )
-told_of capture initial told beginning (Image n size) first rest old new has is_read is fits says is_line appended =
-    image has.items n size has.is_run has.has_pairs (subst (λ (r : Report). IsOtherSize r.export initial n size) (sym (has.same_report has.items has.is_run has.has_pairs)) is)
-    (rest, subst (λ text. Appends old new (text ++ rest)) is_line appended)
+    (refuted first (subst (IsAnswered profile capture initial Any Refuted) (sym is_line) (found_of capture initial told (Unexplained refutation) has is fits says)), (rest, appended))
+told_of {profile} capture initial told beginning (Image n size) first rest old new has is_read is fits says is_line appended =
+    (refuted first (subst (IsAnswered profile capture initial Any Refuted) (sym is_line) (found_of capture initial told (Image n size) has is fits says)), (rest, appended))
 told_of capture initial told beginning NoneWhole first rest old new has is_read is fits says is_line appended = absurd (cc)
 told_of {profile} capture initial told beginning (GaveUp request offset reason) first rest old new has is_read is fits says is_line appended =
-    gave_up has.items request offset reason has.is_run has.has_pairs (subst (λ c. IsUnexplainedBy profile c initial (arrival (request_count (report has.items)))) has.has_pairs says)
-    (rest, subst (λ text. Appends old new (text ++ rest)) is_line appended)
+    (undecided first (subst (IsAnswered profile capture initial Any ordered.Open) (sym is_line) (found_of capture initial told (GaveUp request offset reason) has is fits says)), (rest, appended))
 
 -- the same, where the start may be known
 told_from : {profile : Profile} (capture : List Pair) (known : Option Start) (initial : Start) (told : Report) (beginning : Beginning) (f : Found) (first rest : List ℕ) (old new : Option (List ℕ)) → IfSome known (λ s. initial ≡ s) → (has : HasReport profile capture told) →
     IsReadAs (size_of told.export) initial beginning → IsFound profile told initial f → IsWanted Any f → Says profile has.items initial f → IsLineOf profile told f beginning first → Appends old new (first ++ rest) → IsToldFrom profile capture known old new (answer_to f)
 told_from capture None initial told beginning f first rest old new is_known has is_read is fits says is_line appended = tt
 told_from {profile} capture (Some start) initial told beginning f first rest old new is_known has is_read is fits says is_line appended =
-    subst (λ s. IsTold profile capture s old new (answer_to f)) is_known (told_of capture initial told beginning f first rest old new has is_read is fits says is_line appended)
+    let p = told_of capture initial told beginning f first rest old new has is_read is fits says is_line appended in
+    (first, subst (λ s. IsTold profile capture s (answer_to f) first) is_known p.0, p.1)
 
 -- what the search came to is told
 tells : {profile : Profile} (known : Option (List ℕ)) (start : Option Start) (told : Report) (finish : IsFinishOf profile known (Ok told)) (beginning : Beginning) (begun : IsBeginningOf start (size_of told.export) beginning) (answered : Answer) (text : List ℕ) →
@@ -65,7 +66,8 @@ tells {profile} known start told finish beginning begun answered text of = λ ol
 -- a session that was refused
 wired : {profile : Profile} (capture : List Pair) (start : Option Start) (at : ℕ) (fault : WireFault) (old new : Option (List ℕ)) → IsFaultOf profile capture (Wire at fault) → BeginsWithLine (verdict.Wire at fault) old new → IsToldFrom profile capture start old new No
 wired capture None at fault old new why begins = tt
-wired capture (Some initial) at fault old new why begins = wire why.0 at fault why.1 (no_run_of capture why.0 at fault why.1) begins
+wired capture (Some initial) at fault old new why begins =
+    (line (verdict.Wire at fault), refuted (line (verdict.Wire at fault)) (wire why.0 at fault why.1 (no_run_of capture why.0 at fault why.1)), begins)
 
 refuses : {profile : Profile} (known : Option (List ℕ)) (start : Option Start) (at : ℕ) (fault : WireFault) (finish : IsFinishOf profile known (Err (Wire at fault))) (text : List ℕ) →
     Begins (line (verdict.Wire at fault)) text → OnWritten text (Tells profile known start No)

@@ -1,5 +1,5 @@
 -- The report of a run states of each request what the messages behind it tell.
-use Rattle.nbd_explain.proofs.Common.{and_parts, not-true, ◌≡◌, ◌∙◌, ◌++◌, ◌∷◌, ◌+◌, ◌==◌, ◌&&◌, ◌||◌, not, ℕ, suc, List, [], Bool, true, false, Option, Some, None, is_some, codes, if◌then◌else◌, append_assoc, append-nil, length, map, refl, sym, ap, subst, arith, eqb-true, map-append, or-false, Message, Greeting, ClientFlags, Choice, Exported, Request, Simple, Chunk, ExtendedRequest, ExtendedChunk, Profile, Item, Byte, Starts, Completes, Serves, completed_messages, Exporting, Operation, any, ends_reply, is_failing, is_finished, outcome, Asked, asked_list, known_count, operations_of, report, IsRunBut, MayComplete, Obeys, after, complete, cookie_of, core_with_request, ends_at, reply_to, request_of_reply, target_of, Context, Core, Phase, State, Transmission, has_contexts, in_force, is_awaiting, start, start_of, target, target_from, with_reply, with_reply_at, outcome_of, Outcome, Failure, Pending, Success, AreDistinct, Free, distinct_complete, in_force_stays, transmission_stays, at_base, AreNamed, IsEnding, is_numbered, message_of, plain, other, request, AreLines, EndsWith, fate, fate_by, has_cookie, outcome_by, reply_in, named, none}
+use Rattle.nbd_explain.proofs.Common.{IsAllowed, allowed, and_parts, not-true, ◌≡◌, ◌∙◌, ◌++◌, ◌∷◌, ◌+◌, ◌==◌, ◌&&◌, ◌||◌, not, ℕ, suc, List, [], Bool, true, false, Option, Some, None, is_some, codes, if◌then◌else◌, append_assoc, append-nil, length, map, refl, sym, ap, subst, arith, eqb-true, map-append, or-false, Message, Greeting, ClientFlags, Choice, Exported, Request, Simple, Chunk, ExtendedRequest, ExtendedChunk, Profile, Item, Byte, Starts, Completes, Serves, completed_messages, Exporting, Operation, any, ends_reply, is_failing, is_finished, outcome, Asked, asked_list, known_count, operations_of, report, IsRunBut, MayComplete, Obeys, after, complete, cookie_of, core_with_request, ends_at, reply_to, request_of_reply, target_of, Context, Core, Phase, State, Transmission, has_contexts, in_force, is_awaiting, start, start_of, target, target_from, with_reply, with_reply_at, outcome_of, Outcome, Failure, Pending, Success, AreDistinct, Free, distinct_complete, in_force_stays, transmission_stays, at_base, AreNamed, IsEnding, is_numbered, message_of, plain, other, request, AreLines, EndsWith, fate, fate_by, has_cookie, outcome_by, reply_in, named, none}
 use Rattle.nbd_wire.specs.declared.commands.TheConstants as commands
 use Rattle.nbd_wire.specs.declared.message.Message.TheVariants.{Answer}
 use Rattle.nbd_wire.specs.protocol.Operations as definitions
@@ -127,9 +127,9 @@ requested x false core m e later same h =
     ap (λ l. l ++ all_told x later) (map-append (told later) core.entries (e ∷ [])) ∙ append_assoc (map (told later) core.entries) (told later e ∷ []) (all_told x later)
     ∙ (λ i. map (told later) core.entries ++ ((sym same i, outcome_is i) ∷ all_told x later))
 
-step : (x : Bool) (core : Core) (phase : Phase) (m : Message) (later : List Message) → ((export : Exporting) → phase ≡ Transmission export → x ≡ has_contexts core) → MayComplete core phase m → AreDistinct core.entries →
+step : (x : Bool) (core : Core) (phase : Phase) (m : Message) (later : List Message) → ((export : Exporting) → phase ≡ Transmission export → x ≡ has_contexts core) → IsAllowed core phase m → AreDistinct core.entries →
     map (told later) (complete core m).entries ++ all_told x later ≡ map (told (m ∷ later)) core.entries ++ all_told x (m ∷ later)
-unfolding MayComplete complete
+unfolding IsAllowed complete
 step x core phase (Greeting flags) later same ok d = ap (λ l. l ++ all_told x later) (sym (all_unheard (Greeting flags) later (λ cookie. refl) core.entries))
 step x core phase (ClientFlags flags) later same ok d = ap (λ l. l ++ all_told x later) (sym (all_unheard (ClientFlags flags) later (λ cookie. refl) core.entries))
 step x core phase (Choice id p) later same ok d = ap (λ l. l ++ all_told x later) (sym (all_unheard (Choice id p) later (λ cookie. refl) core.entries))
@@ -179,7 +179,7 @@ followed state (Starts s m ∷ items) ob d = followed state items ob.1 d
 followed state (Completes s m ∷ items) ob d =
     followed (after state (Completes s m)) items ob.1 (distinct_complete state.core state.core.phase m ob.0.0 d)
     ∙ step (has_contexts (ends_at (after state (Completes s m)) items).core) state.core state.core.phase m (completed_messages items)
-    (λ export p. ap (λ (cs : List Context). not (length cs == 0)) (contexts_stay state (Completes s m ∷ items) export ob p)) ob.0.0 d
+    (λ export p. ap (λ (cs : List Context). not (length cs == 0)) (contexts_stay state (Completes s m ∷ items) export ob p)) (allowed state.core state.core.phase m ob.0.0) d
 followed state (Serves e ∷ items) ob d = followed (after state (Serves e)) items ob.1 d
 
 -- the same of a report

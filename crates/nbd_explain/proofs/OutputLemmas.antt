@@ -1,6 +1,6 @@
 -- A capture has one output of `show`.
 use Rattle.nbd_explain.proofs.Common.{◌≡◌, List, [], ◌∷◌, length, refl, sym, ◌∙◌, ap, Profile, Message, Pair, Item, Byte, Starts, Completes, Serves, completed_messages, without_service, same_marks, HasRunOf, one_wire_fault, line, OneOutput, accepted, refused}
-use Rattle.nbd_judge.specs.declared.verdict.Verdict.TheVariants.{Wire}
+use Rattle.nbd_wire.specs.declared.verdict.Verdict.TheVariants.{Wire}
 
 -- the moments of service aside, the same messages complete
 completed_alike : (items : List Item) → completed_messages (without_service items) ≡ completed_messages items

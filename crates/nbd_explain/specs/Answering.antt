@@ -1,6 +1,6 @@
 -- The answers of `explain`.
 use Rattle.std.specs.Prelude.{ℕ, Result, Ok, Err}
-use Rattle.nbd_judge.specs.declared.verdict.Verdict.{Verdict}
+use Rattle.nbd_wire.specs.declared.verdict.Verdict.{Verdict}
 use Rattle.nbd_order.specs.declared.finding.Found.{Found}
 use Rattle.nbd_order.specs.declared.finding.Found.TheVariants as found
 use Rattle.nbd_files.specs.declared.fault.RunFault.{RunFault}

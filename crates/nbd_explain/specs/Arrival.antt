@@ -3,11 +3,7 @@ use Rattle.std.specs.Prelude.{◌≡◌, ℕ, zero, suc, List, [], ◌++◌, Boo
 use Rattle.std.specs.Fmt.{decimal}
 use Rattle.std.specs.Io.KnownBytes.{Appends, Keeps}
 use Rattle.nbd_wire.specs.declared.profile.Profile.{Profile}
-use Rattle.nbd_wire.specs.protocol.Captures.{Pair}
-use Rattle.nbd_wire.specs.protocol.Marks.{Item, pairs}
-use Rattle.nbd_wire.specs.protocol.Reports.{report}
-use Rattle.nbd_wire.specs.protocol.Rules.{IsRunOf}
-use Rattle.nbd_wire.specs.protocol.Within.{IsOfNoRunOf}
+use Rattle.nbd_wire.specs.Prelude.{Pair, Item, pairs, report, IsRunOf, IsOfNoRunOf}
 use Rattle.nbd_capture.specs.Capture.{Chunk, IsCaptureText}
 use Rattle.nbd_tool.specs.Runs.{flat_of}
 

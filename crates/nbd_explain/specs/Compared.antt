@@ -3,9 +3,7 @@ use Rattle.std.specs.Prelude.{◌≡◌, ◌++◌, ◌↔◌, ℕ, List, [], Boo
 use Rattle.std.specs.Fmt.{decimal}
 use Rattle.std.specs.Io.KnownBytes.{Appends}
 use Rattle.nbd_wire.specs.declared.commands.TheConstants as commands
-use Rattle.nbd_wire.specs.protocol.Explains.{known}
-use Rattle.nbd_wire.specs.protocol.ExportBytes.{Effect, IsWrongIn}
-use Rattle.nbd_wire.specs.protocol.Orders.{IsFirst}
+use Rattle.nbd_wire.specs.Prelude.{known, Effect, IsWrongIn, IsFirst}
 use Rattle.nbd_export.specs.Held.{Held, held_from}
 
 -- byte x is known, and the image has not this byte there

@@ -5,13 +5,7 @@ use Rattle.nbd_wire.specs.declared.entry.Entry.{Entry}
 use Rattle.nbd_wire.specs.declared.fault.WireFault.{WireFault}
 use Rattle.nbd_wire.specs.declared.message.Message.{Message}
 use Rattle.nbd_wire.specs.declared.profile.Profile.{Profile}
-use Rattle.nbd_wire.specs.protocol.Captures.{Pair}
-use Rattle.nbd_wire.specs.protocol.Explains.{FitsImage, IsExplainedOf, Start, start_byte}
-use Rattle.nbd_wire.specs.protocol.Marks.{Item, pairs}
-use Rattle.nbd_wire.specs.protocol.Operations.{Exporting}
-use Rattle.nbd_wire.specs.protocol.Reports.{report}
-use Rattle.nbd_wire.specs.protocol.Rules.{IsRunOf}
-use Rattle.nbd_wire.specs.protocol.Within.{IsOfNoRunOf}
+use Rattle.nbd_wire.specs.Prelude.{Pair, FitsImage, IsExplainedOf, Start, start_byte, Item, pairs, Exporting, report, IsRunOf, IsOfNoRunOf}
 use Rattle.nbd_capture.specs.Capture.{Chunk, IsCaptureText}
 use Rattle.nbd_capture.specs.Contents.{printed}
 use Rattle.nbd_capture.specs.Order.{IsOrderText}
@@ -19,8 +13,8 @@ use Rattle.nbd_export.specs.Held.{Held, held_from}
 use Rattle.nbd_session.specs.Refusals.{IsWireFaultOf}
 use Rattle.nbd_judge.specs.Captures.{IsChecked, SaysYes}
 use Rattle.nbd_judge.specs.Images.{IsOtherSize}
-use Rattle.nbd_judge.specs.declared.verdict.Verdict.{Verdict}
-use Rattle.nbd_judge.specs.declared.verdict.Verdict.TheVariants.{Image, Wire}
+use Rattle.nbd_wire.specs.declared.verdict.Verdict.{Verdict}
+use Rattle.nbd_wire.specs.declared.verdict.Verdict.TheVariants.{Image, Wire}
 use Rattle.nbd_order.specs.Leaving.{left}
 use Rattle.nbd_order.specs.Sure.{sure}
 use Rattle.nbd_files.specs.declared.fault.RunFault.{RunFault}

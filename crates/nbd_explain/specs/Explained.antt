@@ -1,8 +1,8 @@
 -- What a run of `explain` writes, where the readers and the writer state their bytes.
 use Rattle.std.specs.Prelude.{ℕ, List, Option, Some, None}
 use Rattle.nbd_wire.specs.declared.profile.Profile.{Profile}
-use Rattle.nbd_wire.specs.protocol.Explains.{Start}
-use Rattle.nbd_judge.specs.declared.verdict.Verdict.{Verdict}
+use Rattle.nbd_wire.specs.Prelude.{Start}
+use Rattle.nbd_wire.specs.declared.verdict.Verdict.{Verdict}
 use Rattle.nbd_files.specs.declared.fault.RunFault.{RunFault}
 use Rattle.nbd_files.specs.declared.start.StartFrom.{StartFrom}
 use Rattle.nbd_explain.specs.Ordering.{IsOrderingCause}

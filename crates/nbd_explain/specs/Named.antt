@@ -6,12 +6,8 @@ use Rattle.nbd_wire.specs.declared.commands.TheConstants as commands
 use Rattle.nbd_wire.specs.declared.message.Message.{Message}
 use Rattle.nbd_wire.specs.declared.message.Message.TheVariants.{Request, ExtendedRequest}
 use Rattle.nbd_wire.specs.declared.profile.Profile.{Profile}
-use Rattle.nbd_wire.specs.protocol.Contexts.{length_by}
-use Rattle.nbd_wire.specs.protocol.Marks.{Item, completed_messages}
-use Rattle.nbd_wire.specs.protocol.Operations.{Outcome, Success, Failure, Pending}
-use Rattle.nbd_wire.specs.protocol.Reports.{Asked, report}
-use Rattle.nbd_wire.specs.protocol.Rules.{IsRunBut, ends_at, filter_in, written}
-use Rattle.nbd_wire.specs.protocol.States.{has_contexts, start_of}
+use Rattle.nbd_wire.specs.Prelude.{length_by, Item, completed_messages, Outcome, Success, Pending, Asked, report, IsRunBut, ends_at, filter_in, written, has_contexts, start_of}
+use Rattle.nbd_wire.specs.protocol.Operations.{Failure}
 use Rattle.nbd_capture.specs.Capture.{Chunk, IsCaptureText}
 use Rattle.nbd_capture.specs.Lines.{line_feed}
 use Rattle.nbd_files.specs.declared.fault.RunFault.{RunFault}

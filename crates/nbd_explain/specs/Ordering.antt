@@ -6,21 +6,15 @@ use Rattle.nbd_wire.specs.declared.entry.Entry.{Entry}
 use Rattle.nbd_wire.specs.declared.fault.WireFault.{WireFault}
 use Rattle.nbd_wire.specs.declared.message.Message.{Message}
 use Rattle.nbd_wire.specs.declared.profile.Profile.{Profile}
-use Rattle.nbd_wire.specs.protocol.Captures.{Pair}
-use Rattle.nbd_wire.specs.protocol.Explains.{IsExplainedOf, Start, start_byte}
-use Rattle.nbd_wire.specs.protocol.Marks.{Item, pairs}
-use Rattle.nbd_wire.specs.protocol.Reports.{Report, report}
-use Rattle.nbd_wire.specs.protocol.Rules.{IsRunOf}
-use Rattle.nbd_wire.specs.protocol.Verdicts.{request_count}
-use Rattle.nbd_wire.specs.protocol.Within.{IsOfNoRunOf}
+use Rattle.nbd_wire.specs.Prelude.{Pair, IsExplainedOf, Start, start_byte, Item, pairs, Report, report, IsRunOf, request_count, IsOfNoRunOf}
 use Rattle.nbd_capture.specs.Capture.{Chunk, IsCaptureText}
 use Rattle.nbd_capture.specs.Lines.{line_feed}
 use Rattle.nbd_capture.specs.Order.{entry_text}
 use Rattle.nbd_session.specs.Refusals.{IsWireFaultOf}
 use Rattle.nbd_judge.specs.Images.{IsOtherSize}
 use Rattle.nbd_judge.specs.Verdicts.{wrong_verdict}
-use Rattle.nbd_judge.specs.declared.verdict.Verdict.TheVariants.{Wire}
-use Rattle.nbd_judge.specs.declared.verdict.Verdict.TheVariants as verdict
+use Rattle.nbd_wire.specs.declared.verdict.Verdict.TheVariants.{Wire}
+use Rattle.nbd_wire.specs.declared.verdict.Verdict.TheVariants as verdict
 use Rattle.nbd_search.specs.declared.proposal.Reason.{Reason}
 use Rattle.nbd_search.specs.declared.proposal.Reason.TheVariants.{Mistake, States, Steps}
 use Rattle.nbd_order.specs.Finding.{IsWantedOrder, arrival}
@@ -96,39 +90,36 @@ status_of (Err fault) = status fault
 abbrev pub IsUnexplainedBy : Profile → List Pair → Start → List Entry → Type 0
 IsUnexplainedBy profile capture initial order = IsExplainedOf profile capture order initial → ⊥
 
--- what was written of a capture's bytes from a start, and the answer, of the profile
-pub data IsOrdered (profile : Profile) (capture : List Pair) (initial : Start) (wanted : Wanted)
-    (old new : Option (List ℕ)) : Ordered → Type 0 where
+-- what is answered of a capture's bytes from a start, in the profile, and the text of it
+pub data IsAnswered (profile : Profile) (capture : List Pair) (initial : Start) (wanted : Wanted)
+    : Ordered → List ℕ → Type 0 where
   -- an order that explains it, and is one of those that are wanted
   order : (entries : List Entry) → IsExplainedOf profile capture entries initial → IsWantedOrder wanted entries
-      → Appends old new (entry_lines entries)
-      → IsOrdered profile capture initial wanted old new IsFound
+      → IsAnswered profile capture initial wanted IsFound (entry_lines entries)
   -- no run of the profile has these bytes: where and why
   wire : (messages : List Message) (at : ℕ) (fault : WireFault) → IsWireFaultOf profile capture messages at fault
-      → IsOfNoRunOf profile capture
-      → Appends old new (line (Wire at fault)) → IsOrdered profile capture initial wanted old new Refuted
+      → IsOfNoRunOf profile capture → IsAnswered profile capture initial wanted Refuted (line (Wire at fault))
   -- the image has another size than the export
   image : (items : List Item) (image size : ℕ) → IsRunOf profile items → pairs items ≡ capture
       → IsOtherSize (report items).export initial image size
-      → Appends old new (line (verdict.Image image size)) → IsOrdered profile capture initial wanted old new Refuted
+      → IsAnswered profile capture initial wanted Refuted (line (verdict.Image image size))
   -- no order explains it: in each one of these requests has a wrong byte at this offset
   unexplained : (items : List Item) (reads : List ℕ) (offset : ℕ) → IsRunOf profile items → pairs items ≡ capture
       → IsRefutedBy profile (report items) (start_byte initial) offset reads → IsUnexplained profile capture initial
-      → Appends old new (unexplained_line (report items) reads offset)
-      → IsOrdered profile capture initial wanted old new Refuted
+      → IsAnswered profile capture initial wanted Refuted (unexplained_line (report items) reads offset)
   -- an order of whole requests was wanted and none was found, which is not proved. That of arrival does not explain it
   none_whole : (items : List Item) → wanted ≡ Whole → IsRunOf profile items → pairs items ≡ capture
       → IsUnexplainedBy profile capture initial (arrival (request_count (report items)))
-      → Appends old new none_whole_line → IsOrdered profile capture initial wanted old new Open
+      → IsAnswered profile capture initial wanted Open none_whole_line
   -- the search was broken off
   gave_up : (items : List Item) (request offset : ℕ) (reason : Reason) → IsRunOf profile items → pairs items ≡ capture
       → IsUnexplainedBy profile capture initial (arrival (request_count (report items)))
-      → Appends old new (gave_up_line request offset reason) → IsOrdered profile capture initial wanted old new Open
+      → IsAnswered profile capture initial wanted Open (gave_up_line request offset reason)
 
--- the same, where the start is known
+-- that was written, where the start is known
 abbrev pub IsOrderedFrom : Profile → List Pair → Option Start → Wanted → (old new : Option (List ℕ)) → Ordered → Type 0
 IsOrderedFrom profile capture (Some initial) wanted old new ordered =
-    IsOrdered profile capture initial wanted old new ordered
+    (text : List ℕ) × IsAnswered profile capture initial wanted ordered text × Appends old new text
 IsOrderedFrom profile capture None wanted old new ordered = Unit {0}
 
 -- the same of a capture text

@@ -2,7 +2,7 @@
 use Rattle.std.specs.Prelude.{◌≡◌, ℕ, List, Bool}
 use Rattle.nbd_wire.specs.declared.message.Message.{Message}
 use Rattle.nbd_wire.specs.declared.profile.Profile.{Profile}
-use Rattle.nbd_wire.specs.protocol.Captures.{Pair}
+use Rattle.nbd_wire.specs.Prelude.{Pair}
 use Rattle.nbd_explain.specs.Shown.{IsShown}
 
 -- in a profile a capture has one output at most: one answer, the same messages and the same last line

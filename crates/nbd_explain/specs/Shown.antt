@@ -3,14 +3,13 @@ use Rattle.std.specs.Prelude.{◌≡◌, ◌⊎◌, ℕ, List, [], ◌++◌, Boo
 use Rattle.std.specs.Io.KnownBytes.{Appends, Keeps}
 use Rattle.nbd_wire.specs.declared.message.Message.{Message}
 use Rattle.nbd_wire.specs.declared.profile.Profile.{Profile}
-use Rattle.nbd_wire.specs.protocol.Captures.{Pair}
-use Rattle.nbd_wire.specs.protocol.Within.{IsOfNoRunOf}
+use Rattle.nbd_wire.specs.Prelude.{Pair, IsOfNoRunOf}
 use Rattle.nbd_capture.specs.Capture.{Chunk, IsCaptureText}
 use Rattle.nbd_capture.specs.Writing.{AppendsPrefix}
 use Rattle.nbd_wire.specs.declared.fault.WireFault.{WireFault}
 use Rattle.nbd_session.specs.Refusals.{IsWireFaultOf}
 use Rattle.nbd_session.specs.Sessions.{HasRunOf}
-use Rattle.nbd_judge.specs.declared.verdict.Verdict.TheVariants.{Wire}
+use Rattle.nbd_wire.specs.declared.verdict.Verdict.TheVariants.{Wire}
 use Rattle.nbd_lines.specs.Script.{message_lines}
 use Rattle.nbd_files.specs.declared.fault.RunFault.{RunFault}
 use Rattle.nbd_files.specs.declared.fault.RunFault.TheVariants.{Write, Memory}

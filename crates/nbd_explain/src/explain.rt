@@ -65,7 +65,7 @@ pub fn run_explain<C: BufRead + Drop, O: Read + Drop, I: Measured + Drop, W: Wri
 
 /// Reads a capture text to its end, then an order text and an image, if there are such; writes the line that
 /// `check` writes in this profile, and behind it why the answer is no, or of a yes which requests the client should not have sent;
-/// there each number has its name where the text is marked, as `Objects` reads it.
+/// there each number has its name where the text is marked, as nbd_json reads it.
 /// Without an order it looks for one within these limits: it writes the line that `check` writes of the order that was found, or that
 /// with which `order` says that there is none or that it found none, and behind it what that says.
 ///

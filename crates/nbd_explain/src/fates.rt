@@ -2,8 +2,7 @@
 
 ghost use Rattle.std.specs.Prelude.{◌≡◌, ◌∷◌, ◌||◌, List, [], IfOk, OnOk};
 ghost use Rattle.nbd_wire.specs.declared.message.Message.{Message};
-ghost use Rattle.nbd_wire.specs.protocol.Operations.{ends_reply, is_failing};
-ghost use Rattle.nbd_wire.specs.protocol.Rules.{cookie_of};
+ghost use Rattle.nbd_wire.specs.Prelude.{ends_reply, is_failing, cookie_of};
 ghost use Rattle.nbd_explain.specs.internal.Fates.{AreReplies, fate, fates_behind, outcome_told, told_in};
 
 use nbd_session::Outcome;

@@ -48,7 +48,7 @@ pub fn run_names<C: BufRead + Drop, W: Write>(
 
 /// Reads a capture text to its end, and writes each message that its session of this profile accepts in words, a line each,
 /// in the order of their completion, and then `ok`, or where and why the session was refused; each number has its name where the
-/// text is marked, as `Objects` reads it. Answers true where it was accepted.
+/// text is marked, as nbd_json reads it. Answers true where it was accepted.
 ///
 /// An `Err` is a fault of the text, of its reader or of the writer, or out of memory. Nothing is written unless the capture
 /// was read whole and is well formed. After `Write` or `Memory` a prefix of the lines stands written, possibly nothing.

@@ -4,9 +4,7 @@ ghost use Rattle.std.specs.Prelude.{◌≡◌, ◌⊎◌, ◌++◌, ◌∷◌, L
 ghost use Rattle.nbd_wire.specs.declared.profile.Profile.{Profile};
 ghost use Rattle.nbd_wire.specs.declared.profile.Profile.TheVariants.{Base};
 ghost use Rattle.nbd_wire.specs.protocol.Explains as definitions;
-ghost use Rattle.nbd_wire.specs.protocol.Marks.{Item};
-ghost use Rattle.nbd_wire.specs.protocol.Reports.{report};
-ghost use Rattle.nbd_wire.specs.protocol.Rules.{IsRunOf};
+ghost use Rattle.nbd_wire.specs.Prelude.{Item, report, IsRunOf};
 ghost use Rattle.nbd_judge.specs.Beginnings.{initial_of};
 ghost use Rattle.nbd_judge.specs.Servable.{size_of};
 ghost use Rattle.nbd_capture.specs.Lines.{line_feed};

@@ -1,7 +1,7 @@
 -- What is known of the start of a run.
 use Rattle.std.specs.Prelude.{◌≡◌, ◌≤◌, ◌^◌, ℕ, List, Option, Some, None, IfSome, length}
 use Rattle.nbd_wire.specs.protocol.Explains as definitions
-use Rattle.nbd_wire.specs.protocol.Explains.{Start}
+use Rattle.nbd_wire.specs.Prelude.{Start}
 use Rattle.nbd_export.specs.Held.{Held}
 use Rattle.nbd_capture.specs.Contents.{IsContentsText, IsFirstBadContentsLine}
 use Rattle.nbd_files.specs.declared.fault.RunFault.{RunFault}

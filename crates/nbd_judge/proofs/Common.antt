@@ -11,12 +11,13 @@ pub use Rattle.nbd_judge.specs.Profiles.{AnswersAtOnceIn, NothingPartsIn, Verdic
 pub use Rattle.nbd_judge.specs.Servable.{size_of}
 pub use Rattle.nbd_judge.specs.Uniqueness.{OneAnswer, OneJudgement, OneVerdict, OneWireFault}
 pub use Rattle.nbd_judge.specs.Verdicts.{FirstWrongFrom, FirstWrongOf, HasNoneWrongFrom, HasWrongFrom, IsJudged, IsVerdict}
+pub use Rattle.nbd_judge.specs.declared.service.Parts.{Parts}
 pub use Rattle.nbd_judge.specs.declared.service.Service.{Service}
 pub use Rattle.nbd_judge.specs.declared.service.Service.TheVariants.{InParts, Unnamed, Whole}
-pub use Rattle.nbd_judge.specs.declared.verdict.OrderFault.{OrderFault}
-pub use Rattle.nbd_judge.specs.declared.verdict.OrderFault.TheVariants.{BadPart, Late, Missing, NoSuchRequest, NotCovered, Twice}
-pub use Rattle.nbd_judge.specs.declared.verdict.Verdict.{Verdict}
-pub use Rattle.nbd_judge.specs.declared.verdict.Verdict.TheVariants.{Content, Image, Order, Status, Wire, Yes}
+pub use Rattle.nbd_wire.specs.declared.verdict.OrderFault.{OrderFault}
+pub use Rattle.nbd_wire.specs.declared.verdict.OrderFault.TheVariants.{BadPart, Late, Missing, NoSuchRequest, NotCovered, Twice}
+pub use Rattle.nbd_wire.specs.declared.verdict.Verdict.{Verdict}
+pub use Rattle.nbd_wire.specs.declared.verdict.Verdict.TheVariants.{Content, Image, Order, Status, Wire, Yes}
 pub use Rattle.nbd_judge.specs.internal.Beginnings.{given_length}
 pub use Rattle.nbd_judge.specs.internal.Captures.{HasReport}
 pub use Rattle.nbd_judge.specs.internal.Dues.{IsFair, IsLeastDue, ServesDue, ShowsIn}
@@ -75,7 +76,8 @@ pub use Rattle.nbd_wire.specs.protocol.Operations.{Exporting, Failure, Outcome, 
 pub use Rattle.nbd_wire.specs.protocol.Orders.{FirstLate, HasNoOrderFault, IsBad, IsBadPart, IsDue, IsFirst, IsLate, IsUnserved, LeastMissing, LeastNotCovered, NamesAgain, NamesNone}
 pub use Rattle.nbd_wire.specs.protocol.Pieces.{SharesNone, byte_at, holds, is_in, piece_byte, piece_offset, piece_size}
 pub use Rattle.nbd_wire.specs.protocol.Places.{IsPlaceOf, IsUnderWayOf}
-pub use Rattle.nbd_wire.specs.protocol.Reading.{Both, by_tests, fresh_of, reads}
+pub use Rattle.nbd_wire.specs.protocol.Reading.{Both, fresh_of, reads}
+pub use Rattle.nbd_wire.specs.protocol.Decisions.{judge}
 pub use Rattle.nbd_wire.specs.protocol.Reports.{Asked, Report, asked_at, due_by_chunk, due_in, due_of, first_shown, inside_asked, inside_in, lesser_of, report}
 pub use Rattle.nbd_wire.specs.protocol.Rules.{IsRunOf, Obeys}
 unfoldable pub use Rattle.nbd_wire.specs.protocol.Sendable.{IsSendable}

@@ -6,26 +6,18 @@ use Rattle.nbd_wire.specs.declared.entry.Entry.{Entry}
 use Rattle.nbd_wire.specs.declared.message.Message.{Message}
 use Rattle.nbd_wire.specs.declared.message.Side.{Side}
 use Rattle.nbd_wire.specs.declared.profile.Profile.{Profile}
-use Rattle.nbd_wire.specs.protocol.Explains.{IsExplainedOf, Start}
-use Rattle.nbd_wire.specs.protocol.Marks.{Item, pairs}
-use Rattle.nbd_wire.specs.protocol.Captures.{Pair}
-use Rattle.nbd_wire.specs.protocol.Reports.{report}
-use Rattle.nbd_wire.specs.protocol.Rules.{IsRunOf}
+use Rattle.nbd_wire.specs.Prelude.{IsExplainedOf, Start, Item, pairs, Pair, report, IsRunOf}
 use Rattle.nbd_session.specs.declared.fault.SessionFault.{SessionFault}
 use Rattle.nbd_session.specs.declared.fault.SessionFault.TheVariants as session
 use Rattle.nbd_session.specs.Refusals.{IsWireFaultOf}
-use Rattle.nbd_judge.specs.declared.verdict.Verdict.{Verdict}
-use Rattle.nbd_judge.specs.declared.verdict.Verdict.TheVariants.{Yes, Wire, Image, Order, Content, Status}
+use Rattle.nbd_wire.specs.declared.verdict.Verdict.{Verdict}
+use Rattle.nbd_wire.specs.declared.verdict.Verdict.TheVariants.{Yes, Wire}
 use Rattle.nbd_judge.specs.Conclusions.{Answers}
 use Rattle.nbd_judge.specs.Verdicts.{IsVerdict}
 
--- a chunk's side and its bytes
-abbrev pub record_of : Side × Vec ℕ Global → Side × List ℕ
-record_of chunk = (chunk.0, chunk.1.items)
-
 -- each chunk's side and its bytes
 abbrev pub records_of : List (Side × Vec ℕ Global) → List (Side × List ℕ)
-records_of chunks = map record_of chunks
+records_of chunks = map (λ (chunk : Side × Vec ℕ Global). (chunk.0, chunk.1.items)) chunks
 
 -- a session of the profile over the capture ends in this fault; of out of memory nothing is said
 abbrev pub IsFaultOf : Profile → List Pair → SessionFault → Type 0
@@ -46,15 +38,7 @@ pub record HasVerdict (profile : Profile) (capture : List Pair) (order : List En
 -- the verdict on a capture: that on its run of the profile, or where no such run has its bytes its wire fault
 abbrev pub IsChecked : Profile → List Pair → List Entry → Start → Verdict → Type 0
 IsChecked profile capture order initial (Wire at fault) = IsFaultOf profile capture (session.Wire at fault)
-IsChecked profile capture order initial (Yes of_requests of_answered of_improper) =
-    HasVerdict profile capture order initial (Yes of_requests of_answered of_improper)
-IsChecked profile capture order initial (Image image size) = HasVerdict profile capture order initial (Image image size)
-IsChecked profile capture order initial (Order entry fault) =
-    HasVerdict profile capture order initial (Order entry fault)
-IsChecked profile capture order initial (Content request offset) =
-    HasVerdict profile capture order initial (Content request offset)
-IsChecked profile capture order initial (Status request offset) =
-    HasVerdict profile capture order initial (Status request offset)
+IsChecked profile capture order initial v = HasVerdict profile capture order initial v
 
 -- the verdict is a yes
 abbrev pub SaysYes : Verdict → Type 0

@@ -2,16 +2,12 @@
 use Rattle.std.specs.Prelude.{List, ◌≡◌, Result, Ok, Err}
 use Rattle.nbd_wire.specs.declared.entry.Entry.{Entry}
 use Rattle.nbd_wire.specs.declared.profile.Profile.{Profile}
-use Rattle.nbd_wire.specs.protocol.Explains.{Start}
-use Rattle.nbd_wire.specs.protocol.Marks.{Item, pairs, service_order}
-use Rattle.nbd_wire.specs.protocol.Captures.{Pair}
-use Rattle.nbd_wire.specs.protocol.Reports.{Report, report}
-use Rattle.nbd_wire.specs.protocol.Rules.{IsRunOf}
+use Rattle.nbd_wire.specs.Prelude.{Start, Item, pairs, service_order, Pair, Report, report, IsRunOf}
 use Rattle.nbd_laws.specs.Explaining.{IsNoOf, IsYesOf}
 use Rattle.nbd_session.specs.declared.fault.SessionFault.{SessionFault}
 use Rattle.nbd_session.specs.declared.fault.SessionFault.TheVariants as session
-use Rattle.nbd_judge.specs.declared.verdict.Verdict.{Verdict}
-use Rattle.nbd_judge.specs.declared.verdict.Verdict.TheVariants.{Yes, Wire, Image, Order, Content, Status}
+use Rattle.nbd_wire.specs.declared.verdict.Verdict.{Verdict}
+use Rattle.nbd_wire.specs.declared.verdict.Verdict.TheVariants.{Yes, Wire, Order}
 use Rattle.nbd_judge.specs.Verdicts.{IsVerdict}
 
 -- the verdict on a finished session of the profile: that on its report, or its wire fault; none where it met out of
@@ -43,10 +39,8 @@ Answers profile capture order initial (Yes of_requests of_answered of_improper) 
     IsYesOf profile capture order initial of_requests of_answered of_improper
 Answers profile capture order initial (Order entry fault) =
     IsNoOf profile capture order initial × IsUnserved profile capture order
-Answers profile capture order initial (Content request offset) = IsNoOf profile capture order initial
-Answers profile capture order initial (Status request offset) = IsNoOf profile capture order initial
-Answers profile capture order initial (Image image size) = IsNoOf profile capture order initial
 Answers profile capture order initial (Wire at fault) = ⊥
+Answers profile capture order initial v = IsNoOf profile capture order initial
 
 -- the verdict on the report of a run of any profile says what holds of its bytes
 abbrev pub VerdictsAnswerRuns : Type 0

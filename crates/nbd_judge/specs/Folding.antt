@@ -2,7 +2,7 @@
 use Rattle.std.specs.Prelude.{ℕ, List, [], ◌∷◌, ◌≡◌, Option, Some, None, if◌then◌else◌, take}
 use Rattle.nbd_wire.specs.declared.entry.Entry.{Entry}
 use Rattle.nbd_wire.specs.declared.entry.Part.{Part}
-use Rattle.nbd_wire.specs.protocol.ExportBytes.{Effect, byte_before, effect_byte, touches}
+use Rattle.nbd_wire.specs.Prelude.{Effect, byte_before, effect_byte, touches}
 
 -- the contents after an entry with this part serves a request, if there is one
 abbrev pub contents_with_effect : Option Part → Option Effect → (ℕ → Option ℕ) → ℕ → Option ℕ

@@ -1,12 +1,11 @@
 -- A start of given bytes that is none of the export.
 use Rattle.std.specs.Prelude.{ℕ, ◌≡◌, Option, Some, Result, Ok, Err, length}
-use Rattle.nbd_wire.specs.protocol.Explains.{FitsImage, Start, Held, start_byte}
-use Rattle.nbd_wire.specs.protocol.Operations.{Exporting}
+use Rattle.nbd_wire.specs.Prelude.{FitsImage, Start, Held, start_byte, Exporting}
 use Rattle.nbd_export.specs.declared.extents.Extents.{Extents}
 use Rattle.nbd_export.specs.Extents.{byte_of, size_of}
 use Rattle.nbd_export.specs.Ranges.{AreSameBelow}
-use Rattle.nbd_judge.specs.declared.verdict.Verdict.{Verdict}
-use Rattle.nbd_judge.specs.declared.verdict.Verdict.TheVariants as verdict
+use Rattle.nbd_wire.specs.declared.verdict.Verdict.{Verdict}
+use Rattle.nbd_wire.specs.declared.verdict.Verdict.TheVariants as verdict
 
 -- the start has this many bytes, as an image or a contents text, and the export has this other size
 abbrev pub IsOtherSize : Option Exporting → Start → (image size : ℕ) → Type 0

@@ -2,8 +2,7 @@
 use Rattle.std.specs.Prelude.{ℕ, List, ◌≡◌, Option, length}
 use Rattle.nbd_export.specs.Ranges.{AreSameBelow}
 use Rattle.nbd_wire.specs.declared.entry.Entry.{Entry}
-use Rattle.nbd_wire.specs.protocol.ExportBytes.{byte_before, effects}
-use Rattle.nbd_wire.specs.protocol.Reports.{Report}
+use Rattle.nbd_wire.specs.Prelude.{byte_before, effects, Report}
 
 -- the byte at x behind the last entry: what the last change left, or else the byte at first
 abbrev pub byte_behind : Report → List Entry → (ℕ → Option ℕ) → ℕ → Option ℕ

@@ -2,10 +2,10 @@
 use Rattle.std.specs.Prelude.{ℕ, List, length}
 use Rattle.nbd_wire.specs.declared.entry.Entry.{Entry}
 use Rattle.nbd_wire.specs.protocol.Orders.{FirstBadPart, FirstLate, FirstNoSuchRequest, FirstTwice, LeastMissing, LeastNotCovered}
-use Rattle.nbd_wire.specs.protocol.Reports.{Report, due_in, inside_in}
+use Rattle.nbd_wire.specs.Prelude.{Report, due_in, inside_in}
 use Rattle.nbd_wire.specs.declared.profile.Profile.{Profile}
-use Rattle.nbd_judge.specs.declared.verdict.OrderFault.{OrderFault}
-use Rattle.nbd_judge.specs.declared.verdict.OrderFault.TheVariants.{NoSuchRequest, Twice, Late, Missing, BadPart, NotCovered}
+use Rattle.nbd_wire.specs.declared.verdict.OrderFault.{OrderFault}
+use Rattle.nbd_wire.specs.declared.verdict.OrderFault.TheVariants.{NoSuchRequest, Twice, Late, Missing, BadPart, NotCovered}
 
 -- the order's answer is this fault at this entry, counted from 1; for Missing and NotCovered of this request
 abbrev pub IsOrderFault : Profile → Report → List Entry → ℕ → OrderFault → Type 0

@@ -1,17 +1,13 @@
 -- The verdict on a report, an order of service and what the export held at first.
 use Rattle.std.specs.Prelude.{ℕ, List, ◌≡◌, ◌==◌, Option, None, Some, if◌then◌else◌, slice_get}
 use Rattle.nbd_wire.specs.declared.entry.Entry.{Entry}
-use Rattle.nbd_wire.specs.protocol.ExportBytes.{IsWrong, effects}
-use Rattle.nbd_wire.specs.protocol.Explains.{FitsImage, Start, start_byte}
-use Rattle.nbd_wire.specs.protocol.Orders.{IsFirst}
+use Rattle.nbd_wire.specs.Prelude.{IsWrong, effects, FitsImage, Start, start_byte, IsFirst, Asked, Report, asked_at, IsFaultless, answered_count, improper_count, request_count}
 use Rattle.nbd_wire.specs.declared.commands.TheConstants as commands
-use Rattle.nbd_wire.specs.protocol.Reports.{Asked, Report, asked_at}
 use Rattle.nbd_wire.specs.declared.profile.Profile.{Profile}
-use Rattle.nbd_wire.specs.protocol.Verdicts.{IsFaultless, answered_count, improper_count, request_count}
 use Rattle.nbd_judge.specs.Images.{IsOtherSize}
 use Rattle.nbd_judge.specs.Orders.{IsOrderFault}
-use Rattle.nbd_judge.specs.declared.verdict.Verdict.{Verdict}
-use Rattle.nbd_judge.specs.declared.verdict.Verdict.TheVariants.{Yes, Wire, Image, Order, Content, Status}
+use Rattle.nbd_wire.specs.declared.verdict.Verdict.{Verdict}
+use Rattle.nbd_wire.specs.declared.verdict.Verdict.TheVariants.{Yes, Wire, Image, Order, Content, Status}
 
 -- no entry of the order serves a wrong byte, where the export's bytes were these at first
 abbrev pub HasNoneWrongFrom : Report → List Entry → (ℕ → Option ℕ) → Type 0
@@ -53,18 +49,10 @@ IsJudged profile r order initial (Content request offset) =
     IsFaultless profile r order × FirstWrongOf commands.READ r order initial request offset
 IsJudged profile r order initial (Status request offset) =
     IsFaultless profile r order × FirstWrongOf commands.BLOCK_STATUS r order initial request offset
-IsJudged profile r order initial (Wire at fault) = ⊥
-IsJudged profile r order initial (Image image size) = ⊥
+IsJudged profile r order initial _ = ⊥
 
 -- the verdict from a start: Image where its bytes are given, and the export has another size
 abbrev pub IsVerdict : Profile → Report → List Entry → Start → Verdict → Type 0
 IsVerdict profile r order initial (Image image size) = IsOtherSize r.export initial image size
-IsVerdict profile r order initial (Yes of_requests of_answered of_improper) =
-    FitsImage r.export initial × IsJudged profile r order (start_byte initial) (Yes of_requests of_answered of_improper)
-IsVerdict profile r order initial (Order entry fault) =
-    FitsImage r.export initial × IsJudged profile r order (start_byte initial) (Order entry fault)
-IsVerdict profile r order initial (Content request offset) =
-    FitsImage r.export initial × IsJudged profile r order (start_byte initial) (Content request offset)
-IsVerdict profile r order initial (Status request offset) =
-    FitsImage r.export initial × IsJudged profile r order (start_byte initial) (Status request offset)
 IsVerdict profile r order initial (Wire at fault) = ⊥
+IsVerdict profile r order initial v = FitsImage r.export initial × IsJudged profile r order (start_byte initial) v

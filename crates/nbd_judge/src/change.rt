@@ -2,7 +2,7 @@
 
 ghost use Rattle.std.specs.Prelude.{◌≡◌, ◌+◌, ◌-◌, ◌≤◌, OnOk, Some, length, slice_range};
 ghost use Rattle.nbd_export.specs.Ranges.{AreSameBelow, overlay, unknown};
-ghost use Rattle.nbd_wire.specs.protocol.ExportBytes.{effect};
+ghost use Rattle.nbd_wire.specs.Prelude.{effect};
 ghost use Rattle.nbd_state.specs.Transcripts.{report_of_request};
 ghost use Rattle.nbd_judge.specs.Folding.{contents_with_effect};
 ghost use Rattle.nbd_judge.specs.internal.Servable.{IsPartIn, IsServable, served_span};

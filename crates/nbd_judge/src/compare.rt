@@ -3,8 +3,7 @@
 ghost use Rattle.std.specs.Prelude.{◌≡◌, ◌==◌, ◌||◌, ◌+◌, ◌-◌, ◌≤◌, IfOk, OnOk, length, map, max, min};
 ghost use Rattle.nbd_export.specs.Ranges.{IsLeast};
 ghost use Rattle.nbd_wire.specs.declared.commands.TheConstants as commands;
-ghost use Rattle.nbd_wire.specs.protocol.ExportBytes.{IsWrongIn, effect, is_success};
-ghost use Rattle.nbd_wire.specs.protocol.Pieces.{piece_offset, piece_size};
+ghost use Rattle.nbd_wire.specs.Prelude.{IsWrongIn, effect, is_success, piece_offset, piece_size};
 ghost use Rattle.nbd_state.specs.Transcripts.{report_of_request};
 ghost use Rattle.nbd_judge.specs.internal.Pieces.{AddsSorted, AreApart, AreInOrder, AreInside, DiffersInOneOf, DiffersInOneWithin, DiffersInPiece, DiffersWithin, IsSortedAt};
 ghost use Rattle.nbd_judge.specs.internal.Servable.{IsServable};

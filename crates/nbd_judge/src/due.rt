@@ -5,8 +5,7 @@ ghost use Rattle.nbd_export.specs.Ranges.{IsLeast};
 ghost use Rattle.nbd_laws.specs.Soundness.{IsSoundReport};
 ghost use Rattle.nbd_state.specs.Transcripts.{report_of_request};
 ghost use Rattle.nbd_wire.specs.declared.commands.TheConstants as commands;
-ghost use Rattle.nbd_wire.specs.protocol.Pieces.{is_in};
-ghost use Rattle.nbd_wire.specs.protocol.Reports.{due_in};
+ghost use Rattle.nbd_wire.specs.Prelude.{is_in, due_in};
 ghost use Rattle.nbd_judge.specs.internal.Dues.{IsFair, IsLeastDue, ShowsIn};
 ghost use Rattle.nbd_judge.specs.internal.Pieces.{AreApart};
 ghost use Rattle.nbd_judge.specs.internal.Services.{span_of_asked};
@@ -65,11 +64,12 @@ fn least_shown(one: &Asked, span: Span) -> Option<u64>
     requires apart { AreApart one.now.pieces.items }
     ensures { IsLeast (ShowsIn (report_of_request one.now) span) result }
 {
+    let counts = one.pieces.counts();
     let mut least = None;
-    for i in 0..one.shown.len() {
+    for i in 0..counts.len() {
         if let Some(piece) = one.pieces.get(i) {
             if meet(Span::of(piece), span).size > 0 {
-                least = lesser(least, Some(one.shown[i]));
+                least = lesser(least, Some(counts[i]));
             }
         }
     }

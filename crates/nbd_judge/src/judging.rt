@@ -2,16 +2,12 @@
 
 ghost use Rattle.std.specs.Prelude.{◌≡◌, ℕ, List, Option, IfOk};
 ghost use Rattle.nbd_wire.specs.declared.profile.Profile.{Profile};
-ghost use Rattle.nbd_wire.specs.protocol.Captures.{Pair};
-ghost use Rattle.nbd_wire.specs.protocol.Marks.{Item, pairs};
-ghost use Rattle.nbd_wire.specs.protocol.Reports.{report};
-ghost use Rattle.nbd_wire.specs.protocol.Rules.{IsRunOf};
+ghost use Rattle.nbd_wire.specs.Prelude.{Pair, Item, pairs, report, IsRunOf, IsFaultless};
 ghost use Rattle.nbd_judge.specs.Conclusions.{LeavesUnserved};
 ghost use Rattle.nbd_judge.specs.Captures.{SaysYes};
 ghost use Rattle.nbd_judge.specs.Left.{HoldsLeft};
 ghost use Rattle.nbd_judge.specs.Servable.{size_of};
 ghost use Rattle.nbd_wire.specs.declared.entry.Entry.{Entry};
-ghost use Rattle.nbd_wire.specs.protocol.Verdicts.{IsFaultless};
 ghost use Rattle.nbd_judge.specs.Verdicts.{FirstWrongFrom, IsJudged, wrong_verdict};
 
 use crate::Verdict;

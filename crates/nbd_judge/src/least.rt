@@ -2,7 +2,7 @@
 
 ghost use Rattle.std.specs.Prelude.{◌≡◌};
 ghost use Rattle.nbd_judge.specs.internal.Lesser.{is_above};
-ghost use Rattle.nbd_wire.specs.protocol.Reports.{lesser_of};
+ghost use Rattle.nbd_wire.specs.Prelude.{lesser_of};
 
 /// The lesser of two numbers; if only one is there, that one.
 pub fn lesser(a: Option<u64>, b: Option<u64>) -> Option<u64>

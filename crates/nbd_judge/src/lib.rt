@@ -15,11 +15,10 @@ mod replay;
 mod service;
 mod sorting;
 mod tally;
-pub mod verdict;
 
 pub use change::erase;
 pub use checking::{check, check_of};
 pub use concluding::{begin, conclude, verdict_on};
 pub use judging::{judge, wrong_of};
 pub use least::lesser;
-pub use verdict::{OrderFault, Verdict};
+pub use nbd_wire::{OrderFault, Verdict};

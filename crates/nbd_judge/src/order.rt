@@ -1,9 +1,7 @@
 //! The faults of an order of service: each test is one pass over the order or over the requests.
 
 ghost use Rattle.std.specs.Prelude.{◌≡◌, ◌+◌, ◌<◌, ◌^◌, ℕ, IfOk, MatchOption, Some, replicate, slice_get};
-ghost use Rattle.nbd_wire.specs.protocol.Orders.{IsFirst, IsLate};
-ghost use Rattle.nbd_wire.specs.protocol.Reports.{due_in};
-ghost use Rattle.nbd_wire.specs.protocol.Verdicts.{IsFaultless};
+ghost use Rattle.nbd_wire.specs.Prelude.{IsFirst, IsLate, due_in, IsFaultless};
 ghost use Rattle.nbd_state.specs.Transcripts.{report_of_request};
 ghost use Rattle.nbd_judge.specs.Orders.{IsOrderFault};
 ghost use Rattle.nbd_judge.specs.internal.Dues.{IsFair};
@@ -140,7 +138,7 @@ fn fault_shown(one: &Asked, inside: Span, service: &Service) -> Option<OrderFaul
     requires fits { inside.offset + inside.size < 2 ^ 64 }
     ensures { TellsFaultShown service.now inside (report_of_request one.now).shown result }
 {
-    for i in 0..one.shown.len() {
+    for i in 0..one.pieces.counts().len() {
         if let Some(piece) = one.pieces.get(i) {
             let here = meet(Span::of(piece), inside);
             if here.size > 0 {

@@ -2,8 +2,7 @@
 
 ghost use Rattle.std.specs.Prelude.{◌≡◌, ℕ, IfOk, MatchOption, None, Some};
 ghost use Rattle.nbd_laws.specs.Soundness.{IsSoundReport};
-ghost use Rattle.nbd_wire.specs.protocol.Orders.{IsBadPart};
-ghost use Rattle.nbd_wire.specs.protocol.Reports.{Asked, asked_at, inside_in};
+ghost use Rattle.nbd_wire.specs.Prelude.{IsBadPart, Asked, asked_at, inside_in};
 ghost use Rattle.nbd_judge.specs.internal.Pieces.{IsSortedAt};
 ghost use Rattle.nbd_judge.specs.Left.{HoldsLeft};
 ghost use Rattle.nbd_judge.specs.Servable.{size_of};

@@ -1,6 +1,6 @@
 //! What an order serves of a request, entry by entry.
 
-ghost use Rattle.std.specs.Prelude.{◌≡◌, ◌+◌, ◌<◌, ◌^◌, ◌&&◌, None, Some, IfOk, nat_le};
+ghost use Rattle.std.specs.Prelude.{◌≡◌, ◌+◌, ◌<◌, ◌^◌, ◌&&◌, ℕ, None, Some, IfOk, nat_le};
 ghost use Rattle.nbd_judge.specs.internal.Services.{IsPartsAfter, IsServiceAfter, TellsFault, TellsFaultIn};
 ghost use Rattle.nbd_state.specs.Sizes.{sizes_of};
 ghost use Rattle.nbd_state.specs.declared.span.Span.{Span};
@@ -17,8 +17,15 @@ pub enum Service {
     Unnamed,
     /// An entry serves it atomically.
     Whole,
-    /// Entries serve parts of it: where the parts lie, and how many bytes inside the request are not served yet.
-    InParts { spans: SpanIndex, left: u64 },
+    /// Entries serve parts of it.
+    InParts(Box<Parts>),
+}
+
+/// Where the parts lie that are served of a request, and how many bytes inside it are not served yet.
+#[derive(Drop)]
+pub struct Parts {
+    spans: SpanIndex,
+    left: u64,
 }
 
 impl Service {
@@ -45,7 +52,7 @@ impl Service {
         match self {
             Service::Unnamed => Ok(Service::Whole),
             Service::Whole => Err(OrderFault::Twice),
-            Service::InParts { .. } => Err(OrderFault::Twice),
+            Service::InParts(_) => Err(OrderFault::Twice),
         }
     }
 
@@ -59,9 +66,9 @@ impl Service {
         ensures { IfOk result (IsServiceAfter self inside (Some part)) }
     {
         match self {
-            Service::Unnamed => with_span(SpanIndex::new(alloc), inside.size, part, inside),
+            Service::Unnamed => with_span(Parts::none(alloc, inside.size)?, part, inside),
             Service::Whole => Ok(Err(OrderFault::Twice)),
-            Service::InParts { spans, left } => with_span(spans, left, part, inside),
+            Service::InParts(parts) => with_span(parts, part, inside),
         }
     }
 
@@ -73,8 +80,8 @@ impl Service {
         match self {
             Service::Unnamed => Some(OrderFault::Missing),
             Service::Whole => None,
-            Service::InParts { spans, .. } => {
-                if spans.covers(here) {
+            Service::InParts(parts) => {
+                if parts.spans.covers(here) {
                     None
                 } else {
                     Some(OrderFault::NotCovered)
@@ -90,8 +97,9 @@ impl Service {
         match self {
             Service::Unnamed => Some(OrderFault::Missing),
             Service::Whole => None,
-            Service::InParts { left, .. } => {
-                if *left == 0 {
+            Service::InParts(parts) => {
+                let left = parts.left;
+                if left == 0 {
                     None
                 } else {
                     Some(OrderFault::NotCovered)
@@ -101,27 +109,35 @@ impl Service {
     }
 }
 
-// The service after one more part, for a request of which these spans are served and `left` bytes are not served yet;
-// BadPart if the part may not be served.
+impl Parts {
+    // None, of a request with so many bytes inside.
+    fn none(alloc: Global, left: u64) -> Result<Box<Parts>, AllocError>
+        ensures { IfOk result (λ parts. ((k : ℕ) → sizes_of parts.value.spans k ≡ None) × (parts.value.left ≡ left)) }
+    {
+        let spans = SpanIndex::new(alloc);
+        Ok(Box::new(alloc, Parts { spans, left })?)
+    }
+}
+
+// The service after one more part of a request that is served in parts, or not yet; BadPart if the part may not be
+// served.
 fn with_span(
-    mut spans: SpanIndex,
-    left: u64,
+    mut parts: Box<Parts>,
     part: Part,
     inside: Span,
 ) -> Result<Result<Service, OrderFault>, AllocError>
-    ensures { IfOk result (IsPartsAfter (sizes_of spans) left inside part) }
+    ensures { IfOk result (IsPartsAfter (sizes_of parts.value.spans) parts.value.left inside part) }
 {
     let span = Span {
         offset: part.offset,
         size: part.length,
     };
-    if !lies_in(span, inside) || !spans.insert(span)? {
+    let left = parts.left.saturating_sub(part.length);
+    if !lies_in(span, inside) || !parts.spans.insert(span)? {
         return Ok(Err(OrderFault::BadPart));
     }
-    Ok(Ok(Service::InParts {
-        spans,
-        left: left.saturating_sub(part.length),
-    }))
+    parts.left = left;
+    Ok(Ok(Service::InParts(parts)))
 }
 
 // Whether a span lies in another.

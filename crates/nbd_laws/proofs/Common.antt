@@ -45,7 +45,7 @@ pub use Rattle.nbd_wire.specs.declared.sizes.Sizes.{Sizes}
 pub use Rattle.nbd_wire.specs.declared.sizes.Sizing.{Sizing}
 pub use Rattle.nbd_wire.specs.protocol.Captures.{ArePairs, Pair, flat, side_pairs}
 pub use Rattle.nbd_wire.specs.protocol.Contexts.{Context, Extent, Selection, Status, length_by}
-pub use Rattle.nbd_wire.specs.protocol.Decisions.{operation_if, Decision, abort_answer, answer, answer_of, begins, choice, chunk_last_fault, chunk_of, chunk_to, client_flags, export_answer, extended_chunk_of, extended_chunk_to, extended_last_fault, extended_reply_by, extended_request, extended_request_of, greeting, no_reply, operation_of, reply, reply_by, reply_in, request, request_by, request_of, short_request, simple_of, simple_to}
+pub use Rattle.nbd_wire.specs.protocol.Decisions.{magic_fault, unless, operation_if, Decision, abort_answer, answer, answer_of, begins, choice, chunk_last_fault, chunk_of, chunk_to, client_flags, export_answer, extended_chunk_of, extended_chunk_to, extended_last_fault, greeting, no_reply, operation_of, reply_in, reply_with, request, request_by, simple_of, simple_to, Bad, More, Reading, Whole, judge, decision, judge_in, read_by, reading_by_decision}
 pub use Rattle.nbd_wire.specs.protocol.Encoding.{AreBytes}
 unfoldable pub use Rattle.nbd_wire.specs.protocol.Encoding.{enc, head, tail}
 pub use Rattle.nbd_wire.specs.protocol.Entries.{IsServedAt, MayServe, Names, NamesWhole, in_part, inside, inside_of, is_served, part, whole}
@@ -66,11 +66,11 @@ unfoldable pub use Rattle.nbd_wire.specs.protocol.Payloads.{content_of, context_
 pub use Rattle.nbd_wire.specs.protocol.Pieces.{SharesNone, byte_at, chunk_piece, holds, is_in, piece_byte, piece_offset, piece_size, simple_piece}
 unfoldable pub use Rattle.nbd_wire.specs.protocol.Pieces.{piece_of}
 pub use Rattle.nbd_wire.specs.protocol.Places.{IsPlace, IsPlaceOf, IsUnderWayOf}
-pub use Rattle.nbd_wire.specs.protocol.Reading.{Bad, Both, IsFilled, Judge, More, Reader, Reading, Rest, Whole, by_tests, decision, fresh_of, get, judge_in, last_reading, old_by, old_of, on_ok, put, read_by, reading_by_decision, reads, request_unless, rest_with, settle, staged_reading_by, step, with_message}
+pub use Rattle.nbd_wire.specs.protocol.Reading.{Both, IsFilled, Reader, Rest, fresh_of, get, old_by, old_of, on_ok, put, reads, rest_with, settle, step, with_message}
 pub use Rattle.nbd_wire.specs.protocol.Reports.{Asked, Report, asked_at, asked_list, asked_of, due_by_chunk, due_in, due_of, export_of, first_shown, inside_in, known_count, known_from, lesser_of, operations_of}
 unfoldable pub use Rattle.nbd_wire.specs.protocol.Reports.{report}
-pub use Rattle.nbd_wire.specs.protocol.Rules.{shown_with, Allows, AnswersOne, IsRunBut, IsRunOf, IsServedFor, MayStart, Obeys, after, cookie_of, core_with_request, ends_at, filter_in, gives, grants_structured, inside_at, inside_operation, is_by_chunk, is_extended, is_reply_to, is_request, is_this, makes_due, operation_asked, noted, reply_to, request_of_reply, target_of, written}
-unfoldable pub use Rattle.nbd_wire.specs.protocol.Rules.{MayComplete, MayReply, MayStartIn, complete}
+pub use Rattle.nbd_wire.specs.protocol.Rules.{shown_with, Allows, IsRunBut, IsRunOf, IsServedFor, MayStart, Obeys, after, cookie_of, core_with_request, ends_at, filter_in, gives, grants_structured, inside_at, inside_operation, is_by_chunk, is_extended, is_reply_to, is_this, makes_due, operation_asked, noted, reply_to, request_of_reply, target_of, written}
+unfoldable pub use Rattle.nbd_wire.specs.protocol.Rules.{MayComplete, MayStartIn, complete}
 pub use Rattle.nbd_wire.specs.protocol.Sendable.{carries_payload}
 unfoldable pub use Rattle.nbd_wire.specs.protocol.Sendable.{IsSendable}
 pub use Rattle.nbd_wire.specs.protocol.Sides.{same_side, side}

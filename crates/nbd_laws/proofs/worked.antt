@@ -1,7 +1,6 @@
 pub mod AnswerLemmas
 pub mod DecidingLemmas
 pub mod DecidingReadLemmas
-pub mod DecidingReplyLemmas
 pub mod DecidingRunLemmas
 pub mod SessionLemmas
 pub mod WorkedPlaceLemmas

@@ -6,11 +6,8 @@ use Rattle.nbd_wire.specs.declared.message.Message.TheVariants.{Answer, Choice}
 use Rattle.nbd_wire.specs.declared.options.TheConstants as options
 use Rattle.nbd_wire.specs.declared.profile.Profile.{Profile}
 use Rattle.nbd_wire.specs.declared.sizes.Sizes.{Sizes}
-use Rattle.nbd_wire.specs.protocol.Marks.{Item, completed_messages}
-use Rattle.nbd_wire.specs.protocol.Payloads.{info_of}
-use Rattle.nbd_wire.specs.protocol.Rules.{ends_at}
-use Rattle.nbd_wire.specs.protocol.Sizes.{asks_sizes, last_sizes, sizes_kept, sizes_of}
-use Rattle.nbd_wire.specs.protocol.States.{start_of}
+use Rattle.nbd_wire.specs.Prelude.{Item, completed_messages, info_of, ends_at, sizes_kept, sizes_of, start_of}
+use Rattle.nbd_wire.specs.protocol.Sizes.{asks_sizes, last_sizes}
 use Rattle.nbd_laws.specs.Selecting.{ChooseNone}
 
 -- the block sizes that a message announces, if it does

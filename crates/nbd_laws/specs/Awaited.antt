@@ -1,9 +1,7 @@
 -- The next length at which something is decided of a side's bytes.
 use Rattle.std.specs.Prelude.{ℕ, List, ◌+◌, nat_lt, if◌then◌else◌, Option, Some, None, length}
 use Rattle.nbd_wire.specs.declared.message.Side.{Side}
-use Rattle.nbd_wire.specs.protocol.Decisions.{Decision}
-use Rattle.nbd_wire.specs.protocol.Reading.{decision}
-use Rattle.nbd_wire.specs.protocol.States.{Core}
+use Rattle.nbd_wire.specs.Prelude.{Decision, decision, Core}
 
 -- the end of the head, and behind it that of the message; a side that may not send is refused at its first byte
 abbrev pub awaited_length_by : Option Decision → List ℕ → ℕ

@@ -3,12 +3,8 @@ use Rattle.std.specs.Prelude.{◌≡◌, ◌++◌, ◌∷◌, ◌-◌, ℕ, List
 use Rattle.nbd_wire.specs.declared.message.Side.{Side}
 use Rattle.nbd_wire.specs.declared.message.Side.TheVariants.{Client, Server}
 use Rattle.nbd_wire.specs.declared.profile.Profile.{Profile}
-use Rattle.nbd_wire.specs.protocol.Marks.{Item, completed_messages, pairs}
-use Rattle.nbd_wire.specs.protocol.Captures.{Pair}
+use Rattle.nbd_wire.specs.Prelude.{Item, completed_messages, pairs, Pair, enc, IsRunOf, IsRunBut, same_side, side}
 use Rattle.nbd_wire.specs.declared.message.Message.{Message}
-use Rattle.nbd_wire.specs.protocol.Encoding.{enc}
-use Rattle.nbd_wire.specs.protocol.Rules.{IsRunOf, IsRunBut}
-use Rattle.nbd_wire.specs.protocol.Sides.{same_side, side}
 
 -- the bytes of one side, in order
 abbrev pub bytes_from : Side → List Pair → List ℕ

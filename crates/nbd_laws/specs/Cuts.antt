@@ -1,7 +1,7 @@
 -- Where captures were cut into records does not count.
 use Rattle.std.specs.Prelude.{◌≡◌, ◌∷◌, ◌++◌, ℕ, List}
 use Rattle.nbd_wire.specs.declared.message.Side.{Side}
-use Rattle.nbd_wire.specs.protocol.Captures.{flat}
+use Rattle.nbd_wire.specs.Prelude.{flat}
 
 -- a record cut in two leaves the flat capture as it is
 abbrev pub CutsDoNotCount : Type 0

@@ -3,12 +3,7 @@ use Rattle.std.specs.Prelude.{◌≡◌, ℕ, List}
 use Rattle.nbd_wire.specs.declared.entry.Entry.{Entry}
 use Rattle.nbd_wire.specs.declared.profile.Profile.{Profile}
 use Rattle.nbd_wire.specs.declared.profile.Profile.TheVariants.{Base}
-use Rattle.nbd_wire.specs.protocol.Explains.{IsExplainedOf, Start}
-use Rattle.nbd_wire.specs.protocol.Marks.{Item, pairs}
-use Rattle.nbd_wire.specs.protocol.Captures.{Pair}
-use Rattle.nbd_wire.specs.protocol.Reports.{report}
-use Rattle.nbd_wire.specs.protocol.Rules.{IsRunOf}
-use Rattle.nbd_wire.specs.protocol.Verdicts.{Passes, answered_count, improper_count, request_count}
+use Rattle.nbd_wire.specs.Prelude.{IsExplainedOf, Start, Item, pairs, Pair, report, IsRunOf, Passes, answered_count, improper_count, request_count}
 
 -- where a run passes the tests, its bytes are explained
 abbrev pub PassingIsExplained : Type 0
@@ -23,14 +18,10 @@ ExplainedPasses = (profile : Profile) (items : List Item) (order : List Entry) (
     → Passes profile (report items) order initial
 
 -- the counts of a yes, the same for each run of the profile with these bytes
-pub record HasCountsOf (profile : Profile) (capture : List Pair)
-    (of_requests of_answered of_improper : ℕ) : Type 0 where
-  pub requests_are : (items : List Item) → IsRunOf profile items → pairs items ≡ capture
-      → request_count (report items) ≡ of_requests
-  pub answered_are : (items : List Item) → IsRunOf profile items → pairs items ≡ capture
-      → answered_count (report items) ≡ of_answered
-  pub improper_are : (items : List Item) → IsRunOf profile items → pairs items ≡ capture
-      → improper_count profile (report items) ≡ of_improper
+abbrev pub HasCountsOf : Profile → List Pair → (of_requests of_answered of_improper : ℕ) → Type 0
+HasCountsOf profile capture of_requests of_answered of_improper =
+    (items : List Item) → IsRunOf profile items → pairs items ≡ capture → (request_count (report items) ≡ of_requests)
+    × (answered_count (report items) ≡ of_answered) × (improper_count profile (report items) ≡ of_improper)
 
 -- the answer to a capture is yes with these counts
 pub record IsYesOf (profile : Profile) (capture : List Pair) (order : List Entry) (initial : Start)

@@ -7,10 +7,8 @@ use Rattle.nbd_wire.specs.declared.message.Message.TheVariants.{Answer}
 use Rattle.nbd_wire.specs.declared.message.Side.{Side}
 use Rattle.nbd_wire.specs.declared.options.TheConstants as options
 use Rattle.nbd_wire.specs.declared.profile.Profile.{Profile}
-use Rattle.nbd_wire.specs.protocol.Marks.{Item, Starts, completed_messages}
-use Rattle.nbd_wire.specs.protocol.Operations.{Exporting}
-use Rattle.nbd_wire.specs.protocol.Rules.{IsRunOf, ends_at, is_extended}
-use Rattle.nbd_wire.specs.protocol.States.{Transmission, start_of}
+use Rattle.nbd_wire.specs.Prelude.{Item, Starts, completed_messages, Exporting, IsRunOf, ends_at, Transmission, start_of}
+use Rattle.nbd_wire.specs.protocol.Rules.{is_extended}
 
 -- an ACK to EXTENDED_HEADERS
 abbrev pub is_grant : Message → Bool

@@ -3,11 +3,8 @@ use Rattle.std.specs.Prelude.{◌≡◌, ◌++◌, List, [], length}
 use Rattle.nbd_wire.specs.declared.fault.WireFault.{WireFault}
 use Rattle.nbd_wire.specs.declared.message.Message.{Message}
 use Rattle.nbd_wire.specs.declared.profile.Profile.{Profile}
-use Rattle.nbd_wire.specs.protocol.Captures.{ArePairs, Pair}
-use Rattle.nbd_wire.specs.protocol.Marks.{Item}
-use Rattle.nbd_wire.specs.protocol.Places.{IsPlaceOf, IsUnderWayOf}
-use Rattle.nbd_wire.specs.protocol.Rules.{IsRunOf}
-use Rattle.nbd_wire.specs.protocol.Within.{Begins, BeginsNoRunOf, within}
+use Rattle.nbd_wire.specs.Prelude.{ArePairs, Pair, Item, IsPlaceOf, IsUnderWayOf, IsRunOf, within}
+use Rattle.nbd_wire.specs.protocol.Within.{Begins, BeginsNoRunOf}
 
 -- where a run begins with these bytes, they are those of a session under way, with what completes within them
 abbrev pub BeginningsAreUnderWay : Type 0

@@ -2,10 +2,7 @@
 use Rattle.std.specs.Prelude.{◌≡◌, List}
 use Rattle.nbd_wire.specs.declared.entry.Entry.{Entry}
 use Rattle.nbd_wire.specs.declared.profile.Profile.{Profile}
-use Rattle.nbd_wire.specs.protocol.Marks.{Item, pairs, service_order}
-use Rattle.nbd_wire.specs.protocol.Reports.{report}
-use Rattle.nbd_wire.specs.protocol.Rules.{IsRunOf}
-use Rattle.nbd_wire.specs.protocol.Verdicts.{IsFaultless}
+use Rattle.nbd_wire.specs.Prelude.{Item, pairs, service_order, report, IsRunOf, IsFaultless}
 
 -- where the order has no fault, a run with the same bytes is served in it
 abbrev pub LatestMoments : Type 0

@@ -8,13 +8,8 @@ use Rattle.nbd_wire.specs.declared.message.Message.TheVariants.{Greeting, Client
 use Rattle.nbd_wire.specs.declared.message.Side.TheVariants.{Server}
 use Rattle.nbd_wire.specs.declared.profile.Profile.{Profile}
 use Rattle.nbd_wire.specs.declared.profile.Profile.TheVariants.{Wide}
-use Rattle.nbd_wire.specs.protocol.Contexts.{Context, has_id}
-use Rattle.nbd_wire.specs.protocol.Marks.{Item, Completes, completed_messages}
-use Rattle.nbd_wire.specs.protocol.Options.{is_error, is_proper_option, last_info}
-use Rattle.nbd_wire.specs.protocol.Payloads.{context_of, info_of, queries_of}
-use Rattle.nbd_wire.specs.protocol.Operations.{Exporting}
-use Rattle.nbd_wire.specs.protocol.Flags.{has}
-use Rattle.nbd_wire.specs.protocol.Rules.{IsRunOf}
+use Rattle.nbd_wire.specs.Prelude.{Context, has_id, Item, Completes, completed_messages, is_error, is_proper_option, last_info, context_of, info_of, Exporting, has, IsRunOf}
+use Rattle.nbd_wire.specs.protocol.Payloads.{queries_of}
 
 -- the client speaks fixed newstyle, and takes NO_ZEROES at most, where it was offered
 abbrev pub AreFairFlags : (offered flags : ℕ) → Type 0

@@ -3,12 +3,7 @@ use Rattle.std.specs.Prelude.{◌≡◌, ℕ, List, [], ◌∷◌, ◌++◌, if�
 use Rattle.nbd_wire.specs.declared.message.Side.{Side}
 use Rattle.nbd_wire.specs.declared.message.Message.{Message}
 use Rattle.nbd_wire.specs.declared.profile.Profile.{Profile}
-use Rattle.nbd_wire.specs.protocol.Encoding.{enc}
-use Rattle.nbd_wire.specs.protocol.Marks.{Item, Byte, Starts, Completes, Serves}
-use Rattle.nbd_wire.specs.protocol.Rules.{IsRunOf, MayComplete}
-use Rattle.nbd_wire.specs.protocol.Sendable.{IsSendable}
-use Rattle.nbd_wire.specs.protocol.Sides.{side, same_side}
-use Rattle.nbd_wire.specs.protocol.States.{Core}
+use Rattle.nbd_wire.specs.Prelude.{enc, Item, Byte, Starts, Completes, Serves, IsRunOf, MayComplete, IsSendable, side, same_side, Core}
 
 -- of two messages of one side that may complete in one state, neither's bytes are a proper prefix of the other's, and
 -- equal bytes are of one message

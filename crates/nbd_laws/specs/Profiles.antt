@@ -6,21 +6,11 @@ use Rattle.std.specs.Prelude.{◌⊎◌, ◌++◌, ◌+◌, List, length, false,
 use Rattle.nbd_wire.specs.declared.message.Side.TheVariants.{Server}
 use Rattle.nbd_wire.specs.declared.head_lengths.TheConstants as head_lengths
 use Rattle.nbd_wire.specs.declared.fault.WireFault.{WireFault}
-use Rattle.nbd_wire.specs.protocol.Rules.{IsRunOf}
-use Rattle.nbd_wire.specs.protocol.States.{Answering, Phase, Transmission}
-use Rattle.nbd_wire.specs.protocol.Decisions.{begins}
-use Rattle.nbd_wire.specs.protocol.Operations.{is_error_chunk}
+use Rattle.nbd_wire.specs.Prelude.{IsRunOf, Answering, Phase, Transmission, begins, is_error_chunk, ArePairs, Reader, fresh_of, reads, pairs, without_service, Asked, Report, asked_at, due_in, report, is_error, number_at, IsPlaceOf, IsUnderWayOf, Pair, IsExplainedOf, Start, Item, completed_messages, info_of, ends_at, sizes_of, Core, start_of}
 use Rattle.nbd_wire.specs.declared.chunks.TheConstants as chunks
 use Rattle.nbd_wire.specs.declared.magics.TheConstants as magics
-use Rattle.nbd_wire.specs.protocol.Captures.{ArePairs}
 use Rattle.nbd_wire.specs.protocol.Negotiation.{extends}
-use Rattle.nbd_wire.specs.protocol.Reading.{by_tests, Reader, fresh_of, reads}
-use Rattle.nbd_wire.specs.protocol.Marks.{pairs, without_service}
-use Rattle.nbd_wire.specs.protocol.Reports.{Asked, Report, asked_at, due_in, report}
 use Rattle.nbd_wire.specs.declared.commands.TheConstants as commands
-use Rattle.nbd_wire.specs.protocol.Options.{is_error}
-use Rattle.nbd_wire.specs.protocol.Payloads.{number_at}
-use Rattle.nbd_wire.specs.protocol.Places.{IsPlaceOf, IsUnderWayOf}
 use Rattle.nbd_wire.specs.declared.entry.Entry.{Entry}
 use Rattle.nbd_wire.specs.declared.answers.TheConstants as answers
 use Rattle.nbd_wire.specs.declared.message.Message.{Message}
@@ -28,13 +18,7 @@ use Rattle.nbd_wire.specs.declared.message.Message.TheVariants.{Answer}
 use Rattle.nbd_wire.specs.declared.sizes.Sizes.{Sizes}
 use Rattle.nbd_wire.specs.declared.profile.Profile.{Profile}
 use Rattle.nbd_wire.specs.declared.profile.Profile.TheVariants.{Base, Wide}
-use Rattle.nbd_wire.specs.protocol.Captures.{Pair}
-use Rattle.nbd_wire.specs.protocol.Explains.{IsExplainedOf, Start}
-use Rattle.nbd_wire.specs.protocol.Marks.{Item, completed_messages}
-use Rattle.nbd_wire.specs.protocol.Payloads.{info_of}
-use Rattle.nbd_wire.specs.protocol.Rules.{ends_at}
-use Rattle.nbd_wire.specs.protocol.Sizes.{are_allowed, sizes_of}
-use Rattle.nbd_wire.specs.protocol.States.{Core, start_of}
+use Rattle.nbd_wire.specs.protocol.Sizes.{are_allowed}
 
 -- the same, held to this profile
 abbrev pub with_profile : Profile → Core → Core
@@ -92,7 +76,7 @@ IsParting phase bytes = IsExtendingHead phase bytes ⊎ IsFalseAnnouncement phas
 -- from this reader on, no byte of the server makes its bytes such
 abbrev pub NothingFrom : Reader → List Pair → Type 0
 NothingFrom reader ps = (before more : List Pair) (b : ℕ) (mid : Reader)
-    → ps ≡ before ++ record { from = Server; byte = b } ∷ more → reads by_tests reader before ≡ Ok mid
+    → ps ≡ before ++ record { from = Server; byte = b } ∷ more → reads reader before ≡ Ok mid
     → IsParting mid.core.phase (mid.rests.server.bytes ++ b ∷ []) → ⊥
 
 -- in these bytes, read in the profile, no such bytes come

@@ -1,9 +1,7 @@
 -- The states that a session can be in.
 use Rattle.nbd_wire.specs.declared.message.Message.{Message}
 use Rattle.nbd_wire.specs.declared.profile.Profile.{Profile}
-use Rattle.nbd_wire.specs.protocol.Rules.{MayComplete, complete}
-use Rattle.nbd_wire.specs.protocol.Sendable.{IsSendable}
-use Rattle.nbd_wire.specs.protocol.States.{Core, start_of}
+use Rattle.nbd_wire.specs.Prelude.{MayComplete, complete, IsSendable, Core, start_of}
 
 -- what completed messages lead to, of each profile
 pub data IsReached : Core → Type 0 where

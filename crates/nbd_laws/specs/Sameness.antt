@@ -1,9 +1,7 @@
 -- The bytes of a run determine all of it but the moments of service.
 use Rattle.std.specs.Prelude.{◌≡◌, List}
 use Rattle.nbd_wire.specs.declared.profile.Profile.{Profile}
-use Rattle.nbd_wire.specs.protocol.Marks.{Item, pairs, without_service}
-use Rattle.nbd_wire.specs.protocol.Reports.{report}
-use Rattle.nbd_wire.specs.protocol.Rules.{IsRunOf}
+use Rattle.nbd_wire.specs.Prelude.{Item, pairs, without_service, report, IsRunOf}
 
 -- runs with the same bytes have the same marks at the same places, but for those of service
 abbrev pub SameMarks : Type 0

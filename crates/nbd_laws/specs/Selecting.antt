@@ -6,12 +6,8 @@ use Rattle.nbd_wire.specs.declared.options.TheConstants as options
 use Rattle.nbd_wire.specs.declared.message.Message.{Message}
 use Rattle.nbd_wire.specs.declared.message.Message.TheVariants.{Answer, Choice}
 use Rattle.nbd_wire.specs.declared.profile.Profile.{Profile}
-use Rattle.nbd_wire.specs.protocol.Contexts.{Context}
+use Rattle.nbd_wire.specs.Prelude.{Context, Item, completed_messages, Exporting, Operation, IsRunOf, ends_at, Transmission, in_force, start_of}
 use Rattle.nbd_wire.specs.protocol.Forms.{HasGoForm, HasQueriesForm}
-use Rattle.nbd_wire.specs.protocol.Marks.{Item, completed_messages}
-use Rattle.nbd_wire.specs.protocol.Operations.{Exporting, Operation}
-use Rattle.nbd_wire.specs.protocol.Rules.{IsRunOf, ends_at}
-use Rattle.nbd_wire.specs.protocol.States.{Transmission, in_force, start_of}
 
 -- the answer that tells a context (proto.md, "Option reply types")
 abbrev pub telling : Context → Message

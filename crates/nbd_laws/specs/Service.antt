@@ -6,13 +6,8 @@ use Rattle.nbd_wire.specs.declared.message.Side.TheVariants.{Client, Server}
 use Rattle.nbd_wire.specs.declared.message.Message.{Message}
 use Rattle.nbd_wire.specs.declared.message.Message.TheVariants.{Request, ExtendedRequest}
 use Rattle.nbd_wire.specs.declared.profile.Profile.{Profile}
-use Rattle.nbd_wire.specs.protocol.Entries.{IsServedAt, MayServe}
-use Rattle.nbd_wire.specs.protocol.Explains.{IsExplainedOf, Start}
-use Rattle.nbd_wire.specs.protocol.Reports.{operations_of, export_of}
-use Rattle.nbd_wire.specs.protocol.Marks.{Item, Completes, Starts, Serves, service_order}
-use Rattle.nbd_wire.specs.protocol.Operations.{Operation, Exporting, is_finished}
-use Rattle.nbd_wire.specs.protocol.Rules.{IsRunOf, request_of_reply, cookie_of, ends_at, inside_at, makes_due}
-use Rattle.nbd_wire.specs.protocol.States.{operation, start, start_of}
+use Rattle.nbd_wire.specs.Prelude.{IsServedAt, MayServe, IsExplainedOf, Start, operations_of, Item, Completes, Starts, Serves, service_order, Operation, Exporting, is_finished, IsRunOf, request_of_reply, cookie_of, ends_at, inside_at, makes_due, operation, start, start_of}
+use Rattle.nbd_wire.specs.protocol.Reports.{export_of}
 use Rattle.nbd_laws.specs.Prefixes.{ended_messages}
 
 -- request k is outstanding after these items

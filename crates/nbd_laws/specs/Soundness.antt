@@ -6,12 +6,7 @@ use Rattle.nbd_wire.specs.declared.limits.TheConstants.{EXPORT_SIZE}
 use Rattle.nbd_wire.specs.declared.transmission.TheConstants as transmission
 use Rattle.nbd_wire.specs.declared.payloads.Piece.{Piece}
 use Rattle.nbd_wire.specs.declared.profile.Profile.{Profile}
-use Rattle.nbd_wire.specs.protocol.Marks.{Item}
-use Rattle.nbd_wire.specs.protocol.Reports.{Asked, Report, asked_at, first_shown, report}
-use Rattle.nbd_wire.specs.protocol.Operations.{Exporting, Success, has_range}
-use Rattle.nbd_wire.specs.protocol.Pieces.{byte_at, holds, is_in, piece_offset, piece_size}
-use Rattle.nbd_wire.specs.protocol.Flags.{has}
-use Rattle.nbd_wire.specs.protocol.Rules.{IsRunOf}
+use Rattle.nbd_wire.specs.Prelude.{Item, Asked, Report, asked_at, first_shown, report, Exporting, Success, has_range, byte_at, holds, is_in, piece_offset, piece_size, has, IsRunOf}
 
 -- the pieces lie in the range of their request, and no two of them share an offset
 pub record AreLaid (offset len : ℕ) (pieces : List Piece) : Type 0 where

@@ -3,9 +3,9 @@
 
 ghost use Rattle.std.specs.Prelude.{◌≡◌, ℕ, List, [], ◌∷◌, length};
 ghost use Rattle.nbd_wire.specs.declared.entry.Entry.{Entry};
-ghost use Rattle.nbd_wire.specs.protocol.Entries.{part, whole};
-ghost use Rattle.nbd_wire.specs.protocol.Explains.{Start, Unknown, Zeroes, image};
-ghost use Rattle.nbd_wire.specs.protocol.Captures.{Pair, flat};
+ghost use Rattle.nbd_wire.specs.protocol.Entries.{part};
+ghost use Rattle.nbd_wire.specs.Prelude.{whole, Start, Zeroes, image, Pair, flat};
+ghost use Rattle.nbd_wire.specs.protocol.Explains.{Unknown};
 ghost use Rattle.nbd_laws.specs.captures.Openings as captures;
 ghost use Rattle.nbd_laws.specs.captures.Reads as reads;
 ghost use Rattle.nbd_laws.specs.captures.Chunks as chunks;

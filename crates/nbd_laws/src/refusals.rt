@@ -3,8 +3,8 @@
 #![tactic(auto, using(crate::proofs::worked::WorkedPlaceLemmas::worked_places))]
 
 ghost use Rattle.std.specs.Prelude.{[], ◌∷◌};
-ghost use Rattle.nbd_wire.specs.protocol.Captures.{flat};
-ghost use Rattle.nbd_wire.specs.protocol.Places.{IsPlace, IsPlaceOf};
+ghost use Rattle.nbd_wire.specs.Prelude.{flat, IsPlaceOf};
+ghost use Rattle.nbd_wire.specs.protocol.Places.{IsPlace};
 ghost use Rattle.nbd_wire.specs.declared.profile.Profile.TheVariants.{Base, Wide};
 ghost use Rattle.nbd_wire.specs.declared.fault.WireFault.TheVariants.{BadMagic, NotFixedNewstyle, BadClientFlags, OutOfTurn, OutOfProfile, UnknownCookie, BadDisconnect, IncompleteStatus};
 ghost use Rattle.nbd_wire.specs.declared.message.Message.TheVariants.{Greeting};

@@ -1,9 +1,8 @@
 -- Scripts: what `make` reads and writes, and what `show` writes. The formats are this project's choice.
 use Rattle.std.specs.Prelude.{ℕ, List, [], ◌∷◌, ◌++◌, codes, flat_map}
 use Rattle.nbd_wire.specs.declared.message.Message.{Message}
-use Rattle.nbd_wire.specs.protocol.Encoding.{enc}
+use Rattle.nbd_wire.specs.Prelude.{enc, side}
 use Rattle.nbd_wire.specs.codec.Fits.{FitsItsHead}
-use Rattle.nbd_wire.specs.protocol.Sides.{side}
 use Rattle.nbd_capture.specs.Capture.{Chunk, chunk_line, hash}
 use Rattle.nbd_capture.specs.Lines.{line_feed, IsText, IsFirstBadLine}
 use Rattle.nbd_lines.specs.Line.{IsMessageLine, message_line}

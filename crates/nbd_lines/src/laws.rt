@@ -5,7 +5,7 @@ ghost use Rattle.std.specs.List.{AllByRecursion};
 ghost use Rattle.hex.specs.Hex.{IsBytes};
 ghost use Rattle.nbd_wire.specs.declared.message.Message.{Message};
 ghost use Rattle.nbd_wire.specs.codec.Fits.{FitsItsHead};
-ghost use Rattle.nbd_wire.specs.protocol.Sendable.{IsSendable};
+ghost use Rattle.nbd_wire.specs.Prelude.{IsSendable};
 ghost use Rattle.nbd_wire.specs.declared.entry.Entry.{Entry};
 ghost use Rattle.nbd_export.specs.Extents.{byte_of, size_of};
 ghost use Rattle.nbd_export.specs.Ranges.{AreSameBelow};

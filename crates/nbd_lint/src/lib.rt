@@ -39,7 +39,6 @@ mod transmission;
 mod wildcards;
 
 pub use linter::Linter;
-pub use objects::Object;
 pub use places::Runs;
 pub use report::{Form, Refusal, Report, Wanted, is_kept, listed};
 pub use table::{Level, rule_named};

@@ -2,7 +2,7 @@
 use Rattle.nbd_order.proofs.Common.{◌≡◌, ℕ, ◌+◌, List, [], ◌∷◌, sym, ◌∙◌, ap, Some, drop, slice_get, Asked, Piece, Span, is_in}
 use Rattle.std.specs.Prelude.{◌++◌}
 use Rattle.nbd_state.specs.Spans.{span_of}
-use Rattle.nbd_wire.specs.protocol.Pieces.{holds}
+use Rattle.nbd_wire.specs.Prelude.{holds}
 use Rattle.nbd_order.specs.declared.here.Here.{Here}
 use Rattle.nbd_order.specs.declared.touches.Touch.{Touch}
 use Rattle.nbd_order.specs.internal.Here.{here_if, joined, of_piece, pieces_here, request_here, requests_here}

@@ -1,9 +1,7 @@
 -- Starts that know less, and sessions one after another.
 use Rattle.nbd_order.proofs.Common.{arith, take_all, ◌≡◌, ◌&&◌, ◌||◌, ℕ, List, [], ◌∷◌, refl, sym, ap, ◌∙◌, Bool, true, false, Option, Some, None, take, if◌then◌else◌, Entry, Part, is_in, start_byte, Effect, byte_before, byte_or_start, effects, last_touch, later, touch_of, Asked, Report, report, IsFaultless, Passes, ExplainedPasses, PassingIsExplained}
 use Rattle.std.specs.Prelude.{◌++◌, length}
-use Rattle.nbd_wire.specs.protocol.ExportBytes.{IsWrongOf}
-use Rattle.nbd_wire.specs.protocol.Explains.{IsExplainedOf}
-use Rattle.nbd_wire.specs.protocol.Marks.{pairs}
+use Rattle.nbd_wire.specs.Prelude.{IsWrongOf, IsExplainedOf, pairs}
 use Rattle.nbd_laws.specs.Soundness.{ReportsAreSound}
 use Rattle.nbd_judge.proofs.contents.CompareLemmas.{wrong_there}
 use Rattle.nbd_judge.proofs.contents.StartLemmas.{left_same, wrong_more}

@@ -6,8 +6,8 @@ pub use Rattle.nbd_judge.specs.Images.{IsOtherSize}
 pub use Rattle.nbd_judge.specs.Servable.{size_of}
 pub use Rattle.nbd_judge.specs.Uniqueness.{OneVerdict}
 pub use Rattle.nbd_judge.specs.Verdicts.{IsVerdict}
-pub use Rattle.nbd_judge.specs.declared.verdict.Verdict.{Verdict}
-pub use Rattle.nbd_judge.specs.declared.verdict.Verdict.TheVariants.{Yes}
+pub use Rattle.nbd_wire.specs.declared.verdict.Verdict.{Verdict}
+pub use Rattle.nbd_wire.specs.declared.verdict.Verdict.TheVariants.{Yes}
 pub use Rattle.nbd_laws.specs.Explaining.{ExplainedPasses, PassingIsExplained}
 pub use Rattle.nbd_order.specs.Finding.{AreWhole, FailsArrival, FoundIsSo, IsFound, IsWanted, IsWantedOrder, Says, arrival}
 pub use Rattle.nbd_order.specs.Unexplained.{AreRising, IsRefutedBy, RefutedIsUnexplained, has}

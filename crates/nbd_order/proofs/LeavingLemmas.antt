@@ -5,10 +5,7 @@ use Rattle.std.proofs.Math.Seq.{drop-cons}
 use Rattle.std.proofs.lemmas.Option.{get_or_from_slice_get, slice_get_cases, slice_get_within}
 use Rattle.nbd_wire.specs.declared.entry.Entry.{Entry}
 use Rattle.nbd_wire.specs.declared.profile.Profile.{Profile}
-use Rattle.nbd_wire.specs.protocol.ExportBytes.{effects, last_touch}
-use Rattle.nbd_wire.specs.protocol.Explains.{FitsImage, Start, start_byte}
-use Rattle.nbd_wire.specs.protocol.Operations.{Exporting}
-use Rattle.nbd_wire.specs.protocol.Reports.{Asked, Report, asked_at}
+use Rattle.nbd_wire.specs.Prelude.{effects, last_touch, FitsImage, Start, start_byte, Exporting, Asked, Report, asked_at}
 use Rattle.nbd_export.specs.declared.extents.Extents.{Extents}
 use Rattle.nbd_export.specs.Extents.{byte_of, size_of}
 use Rattle.nbd_export.specs.Held.{held, held_from}

@@ -9,7 +9,7 @@ use Rattle.nbd_export.specs.declared.extents.Extents.{Extents}
 use Rattle.nbd_judge.proofs.contents.CompareLemmas.{byte_of as byte_of_piece, from_in, in_from}
 use Rattle.nbd_judge.proofs.contents.RangeLemmas.{range_get, range_length}
 use Rattle.nbd_laws.specs.Soundness.{AreLaid, IsSoundAsked, IsSoundReport}
-use Rattle.nbd_wire.specs.protocol.Pieces.{holds, piece_byte}
+use Rattle.nbd_wire.specs.Prelude.{holds, piece_byte}
 use Rattle.nbd_order.specs.Sure.{changes, sure}
 use Rattle.nbd_order.specs.declared.here.Here.{Here}
 use Rattle.nbd_order.specs.declared.stretches.Stretch.{Stretch}

@@ -5,9 +5,7 @@ use Rattle.std.specs.Option.{option_map}
 use Rattle.std.proofs.Math.Seq.{take-append-add}
 use Rattle.std.proofs.lemmas.List.{take-append-le, take-map}
 use Rattle.std.proofs.lemmas.Option.{slice_get-map}
-use Rattle.nbd_wire.specs.protocol.ExportBytes.{IsWrongIn, IsWrongOf}
-use Rattle.nbd_wire.specs.protocol.Explains.{IsExplainedOf, known}
-use Rattle.nbd_wire.specs.protocol.Marks.{pairs}
+use Rattle.nbd_wire.specs.Prelude.{IsWrongIn, IsWrongOf, IsExplainedOf, known, pairs}
 use Rattle.nbd_export.proofs.HeldLemmas.{length-held_from, slice_get-held_from}
 use Rattle.nbd_laws.proofs.service.EntryLemmas.{HasNoFault}
 use Rattle.nbd_laws.proofs.service.IndexLemmas.{by_entries, by_index}

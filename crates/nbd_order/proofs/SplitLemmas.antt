@@ -2,12 +2,9 @@
 use Rattle.nbd_order.proofs.Common.{◌≡◌, ℕ, zero, suc, ◌+◌, ◌<◌, ◌≤◌, ◌&&◌, ◌||◌, List, [], ◌∷◌, length, refl, sym, ap, subst, ◌∙◌, Bool, true, false, not, Option, Some, None, arith, nat_le, if◌then◌else◌, Profile, Base, Item, Effect, effect, effect_if, effects, Exporting, Asked, Report, asked_at, due_by_chunk, due_in, due_of, first_shown, inside_in, lesser_of, is_change, is_in}
 use Rattle.std.specs.Prelude.{◌++◌}
 use Rattle.std.proofs.Common.{append-nil, length-append}
-use Rattle.nbd_wire.specs.protocol.Operations.{Operation, Pending, is_chunked, is_finished, outcome}
+use Rattle.nbd_wire.specs.Prelude.{Operation, Pending, is_chunked, is_finished, outcome}
 unfoldable use Rattle.nbd_wire.specs.protocol.Reports.{report}
-use Rattle.nbd_wire.specs.protocol.Reports.{asked_list, asked_of, known_count}
-use Rattle.nbd_wire.specs.protocol.Rules.{Obeys, ends_at, inside_operation}
-use Rattle.nbd_wire.specs.protocol.States.{Core, Transmission, export_in, operation, start_of}
-use Rattle.nbd_wire.specs.protocol.Verdicts.{is_answered}
+use Rattle.nbd_wire.specs.Prelude.{asked_list, asked_of, known_count, Obeys, ends_at, inside_operation, Core, Transmission, export_in, operation, start_of, is_answered}
 use Rattle.nbd_laws.proofs.requests.ReportLemmas.{asked-report, entry_within, length-report, stated, told_if}
 use Rattle.nbd_laws.proofs.runs.PartLemmas.{obeys_back}
 use Rattle.nbd_laws.proofs.runs.ProfileLemmas.{at_base, profile_end}

@@ -3,7 +3,7 @@ use Rattle.nbd_order.proofs.Common.{◌≡◌, ℕ, ◌+◌, ◌<◌, ◌≤◌,
 use Rattle.std.specs.Prelude.{◌++◌, ◌⊎◌, ◌-◌}
 use Rattle.std.proofs.lemmas.Bool.{le-leb}
 use Rattle.std.proofs.Common.{append-nil, append_assoc}
-use Rattle.nbd_wire.specs.protocol.Entries.{IsServedAt, NamesWhole}
+use Rattle.nbd_wire.specs.Prelude.{IsServedAt, NamesWhole}
 use Rattle.nbd_laws.proofs.service.EntryLemmas.{AreFine, AreFine-as, AreFine-left, AreFine-right, HasNoFault, IsFine, IsInTime, IsInTime-right, Names-append_cases, names_served, served-append, served_at-left, served_behind, whole_names}
 use Rattle.nbd_order.proofs.SplitCoreLemmas.{plus, same_number}
 use Rattle.nbd_order.specs.Splits.{behind}

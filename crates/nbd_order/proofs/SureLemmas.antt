@@ -1,6 +1,6 @@
 -- What is sure of an offset, by what the requests tell of it.
 use Rattle.nbd_order.proofs.Common.{◌≡◌, ℕ, suc, ◌≤◌, List, [], ◌∷◌, refl, sym, ◌∙◌, ap, Option, Some, None, Bool, true, false, ◌||◌, if◌then◌else◌, arith, nat_le, nat_lt, slice_get, Asked, Piece, Report, asked_at, byte_at, effect, effect_byte}
-use Rattle.nbd_wire.specs.protocol.Pieces.{holds}
+use Rattle.nbd_wire.specs.Prelude.{holds}
 use Rattle.nbd_order.specs.Sure.{byte_behind_last, byte_seen, changes, gets, is_last_alone, last_number, number_before, sure}
 use Rattle.nbd_order.specs.declared.here.Got.{Got}
 use Rattle.nbd_order.specs.declared.here.Here.{Here}

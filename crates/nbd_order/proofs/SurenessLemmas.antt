@@ -7,9 +7,7 @@ use Rattle.std.proofs.lemmas.Bool.{le-leb, lt-ltb, leb-true, or_parts}
 use Rattle.nbd_laws.proofs.requests.SoundnessLemmas.{reports_are_sound}
 use Rattle.nbd_laws.specs.Soundness.{IsSoundReport}
 use Rattle.nbd_wire.specs.declared.commands.TheConstants as commands
-use Rattle.nbd_wire.specs.protocol.Operations.{Outcome, is_chunked}
-use Rattle.nbd_wire.specs.protocol.Pieces.{holds}
-use Rattle.nbd_wire.specs.protocol.Verdicts.{is_answered}
+use Rattle.nbd_wire.specs.Prelude.{Outcome, is_chunked, holds, is_answered}
 use Rattle.nbd_order.specs.Leaving.{are_open_at, is_open_at, left}
 use Rattle.nbd_order.specs.Sure.{byte_behind_last, byte_got, byte_left, byte_seen, changes, changes_behind, gets, has_completed, is_last_alone, is_read, last_number, leaves_unknown, may_leave_unknown, number_before, sure}
 use Rattle.nbd_order.specs.Sureness.{SureIsLeft, SureOfLessIsLeft}

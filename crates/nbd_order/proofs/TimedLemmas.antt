@@ -10,11 +10,8 @@ use Rattle.nbd_laws.specs.Reached.{IsReached, at_start, after_message}
 use Rattle.nbd_wire.specs.declared.message.Message.{Message}
 use Rattle.nbd_wire.specs.declared.message.Message.TheVariants.{Chunk, ExtendedChunk, ExtendedRequest, Request, Simple}
 use Rattle.nbd_wire.specs.declared.commands.TheConstants as commands
-use Rattle.nbd_wire.specs.protocol.Operations.{Operation, any, ends_reply, is_finished}
-use Rattle.nbd_wire.specs.protocol.Reports.{known_count, operations_of}
-use Rattle.nbd_wire.specs.protocol.Rules.{complete, core_with_request, ends_at, noted, reply_to, request_of_reply}
-use Rattle.nbd_wire.specs.protocol.States.{Core, operation, start, start_of, with_reply, with_reply_at}
-use Rattle.nbd_wire.specs.protocol.Verdicts.{is_answered}
+use Rattle.nbd_wire.specs.Prelude.{Operation, any, ends_reply, is_finished, known_count, operations_of, core_with_request, ends_at, noted, reply_to, request_of_reply, Core, operation, start, start_of, with_reply, with_reply_at, is_answered}
+use Rattle.nbd_wire.specs.protocol.Rules.{complete}
 
 -- of each reply that is finished the end is noted
 abbrev NotesEnds : Core → Type 0

@@ -5,7 +5,7 @@ use Rattle.std.specs.List.{list_any}
 use Rattle.std.specs.Option.{option_or}
 use Rattle.std.proofs.lemmas.Bool.{cases_Bool}
 use Rattle.std.proofs.lemmas.List.Sums.{sum_by-cons}
-use Rattle.nbd_wire.specs.protocol.Pieces.{holds}
+use Rattle.nbd_wire.specs.Prelude.{holds}
 use Rattle.nbd_order.specs.Leaving.{are_open_at, is_open_at}
 use Rattle.nbd_order.specs.Sure.{changes, changes_behind, gets, is_read, last_number, leaves_unknown, number_before}
 use Rattle.nbd_order.specs.declared.here.Got.{Got}

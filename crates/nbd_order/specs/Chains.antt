@@ -4,12 +4,7 @@ use Rattle.nbd_wire.specs.declared.commands.TheConstants as commands
 use Rattle.nbd_wire.specs.declared.entry.Entry.{Entry}
 use Rattle.nbd_wire.specs.declared.entry.Part.{Part}
 use Rattle.nbd_wire.specs.declared.profile.Profile.{Profile}
-use Rattle.nbd_wire.specs.protocol.Explains.{FitsImage, IsExplainedOf, Start, start_byte}
-use Rattle.nbd_wire.specs.protocol.ExportBytes.{Effect, IsWrongOf, byte_or_start, effects, later, touch_of}
-use Rattle.nbd_wire.specs.protocol.Marks.{Item, pairs}
-use Rattle.nbd_wire.specs.protocol.Reports.{Asked, Report, report}
-use Rattle.nbd_wire.specs.protocol.Rules.{IsRunOf}
-use Rattle.nbd_wire.specs.protocol.Verdicts.{IsFaultless}
+use Rattle.nbd_wire.specs.Prelude.{FitsImage, IsExplainedOf, Start, start_byte, Effect, IsWrongOf, byte_or_start, effects, later, touch_of, Item, pairs, Asked, Report, report, IsRunOf, IsFaultless}
 use Rattle.nbd_export.specs.Ranges.{AreSameBelow}
 use Rattle.nbd_judge.specs.Servable.{size_of}
 use Rattle.nbd_order.specs.Leaving.{is_open, left}

@@ -2,16 +2,12 @@
 use Rattle.std.specs.Prelude.{ℕ, List, [], ◌∷◌, ◌≡◌, ◌&&◌, ◌||◌, Bool, false, not, Option, Some, None, if◌then◌else◌}
 use Rattle.nbd_wire.specs.declared.entry.Entry.{Entry}
 use Rattle.nbd_wire.specs.declared.profile.Profile.{Profile}
-use Rattle.nbd_wire.specs.protocol.Explains.{Start, start_byte}
-use Rattle.nbd_wire.specs.protocol.Operations.{Exporting, is_change}
-use Rattle.nbd_wire.specs.protocol.Pieces.{is_in}
-use Rattle.nbd_wire.specs.protocol.Reports.{Asked, Report}
-use Rattle.nbd_wire.specs.protocol.Verdicts.{is_answered}
+use Rattle.nbd_wire.specs.Prelude.{Start, start_byte, Exporting, is_change, is_in, Asked, Report, is_answered}
 use Rattle.nbd_export.specs.Held.{held, held_from}
 use Rattle.nbd_judge.specs.Captures.{SaysYes}
 use Rattle.nbd_judge.specs.Left.{byte_behind}
 use Rattle.nbd_judge.specs.Verdicts.{IsJudged, IsVerdict}
-use Rattle.nbd_judge.specs.declared.verdict.Verdict.{Verdict}
+use Rattle.nbd_wire.specs.declared.verdict.Verdict.{Verdict}
 use Rattle.nbd_order.specs.declared.leaving.Left.{Left}
 use Rattle.nbd_order.specs.declared.leaving.Left.TheVariants.{Contents, NoExport, Refused}
 

@@ -2,13 +2,7 @@
 use Rattle.std.specs.Prelude.{ℕ, List, [], ◌++◌, ◌+◌, ◌<◌, ◌≡◌, ◌↔◌, Some, length, map}
 use Rattle.nbd_wire.specs.declared.entry.Entry.{Entry}
 use Rattle.nbd_wire.specs.declared.profile.Profile.{Profile}
-use Rattle.nbd_wire.specs.protocol.Explains.{Held, IsExplainedOf, Start, start_byte}
-use Rattle.nbd_wire.specs.protocol.Marks.{Item, pairs, without_service}
-use Rattle.nbd_wire.specs.protocol.Operations.{Exporting, Pending}
-use Rattle.nbd_wire.specs.protocol.Reports.{Asked, Report, asked_at, report}
-use Rattle.nbd_wire.specs.protocol.Rules.{IsRunOf, ends_at}
-use Rattle.nbd_wire.specs.protocol.Sizes.{sizes_kept}
-use Rattle.nbd_wire.specs.protocol.States.{Core, Transmission, in_force, start}
+use Rattle.nbd_wire.specs.Prelude.{Held, IsExplainedOf, Start, start_byte, Item, pairs, without_service, Exporting, Pending, Asked, Report, asked_at, report, IsRunOf, ends_at, sizes_kept, Core, Transmission, in_force, start}
 use Rattle.nbd_export.specs.Held.{held_from}
 use Rattle.nbd_judge.specs.Servable.{size_of}
 use Rattle.nbd_order.specs.Leaving.{left}

@@ -3,14 +3,10 @@ use Rattle.std.specs.Prelude.{ℕ, suc, List, [], ◌∷◌, ◌≡◌, ◌==◌
 use Rattle.std.specs.List.{list_any}
 use Rattle.nbd_wire.specs.declared.commands.TheConstants as commands
 use Rattle.nbd_wire.specs.declared.payloads.Piece.{Piece}
-use Rattle.nbd_wire.specs.protocol.ExportBytes.{effect, effect_byte, is_success}
-use Rattle.nbd_wire.specs.protocol.Explains.{FitsImage, Start, start_byte}
-use Rattle.nbd_wire.specs.protocol.Operations.{Exporting, is_change}
-use Rattle.nbd_wire.specs.protocol.Pieces.{byte_at, holds, is_in}
-use Rattle.nbd_wire.specs.protocol.Reports.{Asked, Report, asked_at}
+use Rattle.nbd_wire.specs.Prelude.{effect, effect_byte, is_success, FitsImage, Start, start_byte, Exporting, is_change, byte_at, holds, is_in, Asked, Report, asked_at}
 use Rattle.nbd_export.specs.Held.{held, held_from}
 use Rattle.nbd_judge.specs.Images.{IsOtherSize}
-use Rattle.nbd_judge.specs.declared.verdict.Verdict.TheVariants as verdict
+use Rattle.nbd_wire.specs.declared.verdict.Verdict.TheVariants as verdict
 use Rattle.nbd_order.specs.Leaving.{are_open_at}
 use Rattle.nbd_order.specs.declared.leaving.Left.{Left}
 use Rattle.nbd_order.specs.declared.leaving.Left.TheVariants.{Contents, NoExport, Refused}

@@ -3,13 +3,7 @@ use Rattle.std.specs.Prelude.{ℕ, List, ◌≡◌, ◌+◌, ◌<◌, ◌==◌, 
 use Rattle.std.specs.List.{list_any}
 use Rattle.nbd_wire.specs.declared.entry.Entry.{Entry}
 use Rattle.nbd_wire.specs.declared.profile.Profile.{Profile}
-use Rattle.nbd_wire.specs.protocol.Captures.{Pair}
-use Rattle.nbd_wire.specs.protocol.Explains.{IsExplainedOf, Start, start_byte}
-use Rattle.nbd_wire.specs.protocol.ExportBytes.{Effect, GivesByte, IsWrong, effects}
-use Rattle.nbd_wire.specs.protocol.Marks.{Item, pairs}
-use Rattle.nbd_wire.specs.protocol.Reports.{Report, inside_in, report}
-use Rattle.nbd_wire.specs.protocol.Rules.{IsRunOf}
-use Rattle.nbd_wire.specs.protocol.Verdicts.{IsFaultless}
+use Rattle.nbd_wire.specs.Prelude.{Pair, IsExplainedOf, Start, start_byte, Effect, GivesByte, IsWrong, effects, Item, pairs, Report, inside_in, report, IsRunOf, IsFaultless}
 
 -- k is one of these numbers
 abbrev pub has : List ℕ → ℕ → Bool

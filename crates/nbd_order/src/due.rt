@@ -3,8 +3,7 @@
 ghost use Rattle.std.specs.Prelude.{◌≡◌, ◌<◌, ℕ, IsTrue, None, Some, if◌then◌else◌};
 ghost use Rattle.nbd_state.specs.Transcripts.{report_of_request};
 ghost use Rattle.nbd_wire.specs.declared.commands.TheConstants as commands;
-ghost use Rattle.nbd_wire.specs.protocol.Pieces.{is_in};
-ghost use Rattle.nbd_wire.specs.protocol.Reports.{first_shown, inside_asked};
+ghost use Rattle.nbd_wire.specs.Prelude.{is_in, first_shown, inside_asked};
 ghost use Rattle.nbd_order.specs.internal.Offsets.{due_at};
 
 use nbd_judge::lesser;
@@ -62,9 +61,10 @@ fn shown_at(one: &Asked, offset: u64) -> Option<u64>
     requires { one.now.command ≡ commands.READ }
     ensures { result ≡ first_shown (report_of_request one.now).shown offset }
 {
-    for i in 0..one.shown.len() {
+    let counts = one.pieces.counts();
+    for i in 0..counts.len() {
         if holds(Span::of(one.pieces.get(i)?), offset) {
-            return Some(one.shown[i]);
+            return Some(counts[i]);
         }
     }
     None

@@ -2,10 +2,7 @@
 
 ghost use Rattle.std.specs.Prelude.{◌≡◌, List, IfOk};
 ghost use Rattle.nbd_judge.specs.Beginnings.{initial_of};
-ghost use Rattle.nbd_wire.specs.protocol.Marks.{Item};
-ghost use Rattle.nbd_wire.specs.protocol.Reports.{report};
-ghost use Rattle.nbd_wire.specs.protocol.Rules.{IsRunOf};
-ghost use Rattle.nbd_wire.specs.protocol.Verdicts.{Passes, request_count};
+ghost use Rattle.nbd_wire.specs.Prelude.{Item, report, IsRunOf, Passes, request_count};
 ghost use Rattle.nbd_order.specs.Finding.{IsFound, IsWanted, Says, arrival};
 ghost use Rattle.nbd_order.specs.declared.finding.Wanted.{Wanted};
 ghost use Rattle.nbd_order.specs.internal.Proposals.{IsOpen};

@@ -7,7 +7,7 @@ ghost use Rattle.nbd_state.specs.Transcripts.{report_of_request};
 ghost use Rattle.nbd_wire.specs.protocol.Explains as explains;
 ghost use Rattle.nbd_wire.specs.protocol.ExportBytes as bytes;
 ghost use Rattle.nbd_wire.specs.protocol.Operations as operations;
-ghost use Rattle.nbd_wire.specs.protocol.Pieces.{byte_at, holds, is_in, piece_byte};
+ghost use Rattle.nbd_wire.specs.Prelude.{byte_at, holds, is_in, piece_byte};
 ghost use Rattle.nbd_order.specs.internal.Offsets.{differs, gives_byte, reads_at};
 ghost use Rattle.nbd_order.specs.internal.Refutations.{IsBefore, IsChangeAt, IsOther, IsReadAt};
 

@@ -10,7 +10,7 @@ use crate::here::Here;
 use crate::leaving::range_of;
 use nbd_session::{Asked, Transcript};
 use nbd_state::{Span, is_change};
-use nbd_wire::commands;
+use nbd_wire::{Piece, commands};
 use std::alloc::{AllocError, Global};
 
 /// A range, and what a request tells of it.
@@ -54,9 +54,10 @@ fn add_pieces(number: u64, one: &Asked, touches: &mut Vec<Touch>) -> Result<(), 
     ensures { OnOk result ((x : ℕ) → touches_here touches.new.items x
         ≡ joined (touches_here touches.old.items x) (pieces_here number 0 one.now.pieces.items x)) }
 {
-    for i in 0..one.pieces.len() {
+    let pieces: &[Piece] = &one.pieces;
+    for i in 0..pieces.len() {
         touches.push(Touch {
-            span: Span::of(&one.pieces[i]),
+            span: Span::of(&pieces[i]),
             here: Here::of_piece(number, i),
         })?;
     }

@@ -3,8 +3,7 @@
 use crate::order::Moment;
 use crate::work::Work;
 use nbd_export::{Contents, Extents, HeldPart, Start};
-use nbd_session::{Asked, Transcript};
-use nbd_state::Span;
+use nbd_state::{Asked, Span, Transcript};
 use nbd_wire::{Piece, Profile, commands};
 
 /// The last slot of a request that may stay out.
@@ -219,7 +218,7 @@ impl<'a> Scene<'a> {
 
 // The last slot of a request; by chunk that of a piece of a READ, of which none has an earlier one than the first.
 fn due_of(profile: Profile, one: &Asked, piece: usize) -> usize {
-    let due = match one.shown.get(piece) {
+    let due = match one.pieces.counts().get(piece) {
         _ if !profile.serves_by_chunk(one.command) => one.known_at,
         Some(shown) => Some(*shown),
         None => one.ended_at,

@@ -10,7 +10,7 @@ use crate::sweep::{Outcome, Sweep};
 use crate::walk::{Walk, events_of};
 use crate::work::{Limits, PAUSE, Work};
 use nbd_export::Start;
-use nbd_session::Transcript;
+use nbd_state::Transcript;
 use nbd_wire::Profile;
 use std::alloc::{AllocError, Global};
 

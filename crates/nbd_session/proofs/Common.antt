@@ -83,7 +83,8 @@ pub use Rattle.nbd_wire.specs.declared.payloads.Piece.{Piece}
 pub use Rattle.nbd_wire.specs.declared.profile.Profile.{Profile}
 pub use Rattle.nbd_wire.specs.protocol.Captures.{ArePairs, Pair, side_pairs}
 pub use Rattle.nbd_wire.specs.protocol.Contexts.{Extent, Status, reach}
-pub use Rattle.nbd_wire.specs.protocol.Decisions.{Decision, abort_answer, answer, begins, choice, client_flags, export_answer, greeting, magic_fault, operation_if, operation_of, reply, reply_by, reply_in, reply_with, request, request_by, simple_to}
+pub use Rattle.nbd_laws.proofs.judge.DecideLemmas.{reply, reply_by, request_unless}
+pub use Rattle.nbd_wire.specs.protocol.Decisions.{Decision, abort_answer, answer, begins, choice, client_flags, export_answer, greeting, magic_fault, operation_if, operation_of, reply_in, reply_with, request, request_by, simple_to, Bad, More, Reading, Whole, judge, decision, decision_with, read_by, reading_by_decision}
 pub use Rattle.nbd_wire.specs.protocol.Encoding.{AreBytes, enc}
 pub use Rattle.nbd_wire.specs.protocol.Flags.{has}
 pub use Rattle.nbd_wire.specs.protocol.Marks.{Byte, Completes, Item, completed_messages, pairs}
@@ -94,7 +95,7 @@ pub use Rattle.nbd_wire.specs.protocol.Payloads.{extents_of, failure_of, number_
 unfoldable pub use Rattle.nbd_wire.specs.protocol.Payloads.{content_of}
 pub use Rattle.nbd_wire.specs.protocol.Pieces.{chunk_piece, piece_size}
 pub use Rattle.nbd_wire.specs.protocol.Places.{IsUnderWayOf}
-pub use Rattle.nbd_wire.specs.protocol.Reading.{Bad, Both, IsFilled, Judge, More, Reader, Reading, Rest, Whole, by_tests, decision, decision_with, fresh_of, get, old_of, on_ok, put, read_by, reading_by_decision, reads, request_unless, rest_with, settle, step}
+pub use Rattle.nbd_wire.specs.protocol.Reading.{Both, IsFilled, Reader, Rest, fresh_of, get, old_of, on_ok, put, reads, rest_with, settle, step}
 pub use Rattle.nbd_wire.specs.protocol.Reports.{asked_list, asked_of}
 unfoldable pub use Rattle.nbd_wire.specs.protocol.Reports.{report}
 pub use Rattle.nbd_wire.specs.protocol.Rules.{IsRunBut, IsRunOf, MayComplete, Obeys, after, complete, cookie_of, is_reply_to, is_this, noted}

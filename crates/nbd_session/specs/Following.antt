@@ -1,7 +1,7 @@
 -- A session that a monitor follows.
 use Rattle.std.specs.Prelude.{◌≡◌, ◌++◌, ℕ, List, Some, None, Result, Err, IfErr, OnOk}
 use Rattle.nbd_wire.specs.declared.message.Side.{Side}
-use Rattle.nbd_wire.specs.protocol.Captures.{side_pairs}
+use Rattle.nbd_wire.specs.Prelude.{side_pairs}
 use Rattle.nbd_session.specs.Incoming.{bytes_come}
 use Rattle.nbd_session.specs.Refusals.{Refuses}
 use Rattle.nbd_session.specs.Sessions.{AddsPrefix, SessionView, pairs_of}

@@ -4,8 +4,7 @@ use Rattle.std.specs.Prelude.{◌≡◌, ◌+◌, ℕ, List, [], ◌∷◌, ◌+
 use Rattle.nbd_wire.specs.declared.message.Side.{Side}
 use Rattle.nbd_wire.specs.declared.message.Side.TheVariants.{Client, Server}
 use Rattle.nbd_wire.specs.declared.message.Message.{Message}
-use Rattle.nbd_wire.specs.protocol.Captures.{Pair, side_pairs}
-use Rattle.nbd_wire.specs.protocol.Sides.{same_side}
+use Rattle.nbd_wire.specs.Prelude.{Pair, side_pairs, same_side}
 use Rattle.nbd_laws.specs.Bytes.{bytes_from, bytes_of, of_two}
 
 -- bytes of one side that follow each other, by their number

@@ -2,10 +2,8 @@
 use Rattle.std.specs.Prelude.{◌≡◌, ◌≢◌, ◌⊎◌, ◌∷◌, ◌++◌, ℕ, List, [], Option, Some, None, length}
 use Rattle.nbd_wire.specs.declared.profile.Profile.{Profile}
 use Rattle.nbd_wire.specs.declared.message.Message.{Message}
-use Rattle.nbd_wire.specs.protocol.Captures.{Pair}
-use Rattle.nbd_wire.specs.protocol.Reading.{Reader}
-use Rattle.nbd_wire.specs.protocol.Places.{IsPlaceOf, IsUnderWayOf}
-use Rattle.nbd_wire.specs.protocol.Within.{BeginsNoRunOf, CompletesExactlyOf, IsOfNoRunOf}
+use Rattle.nbd_wire.specs.Prelude.{Pair, Reader, IsPlaceOf, IsUnderWayOf, CompletesExactlyOf, IsOfNoRunOf}
+use Rattle.nbd_wire.specs.protocol.Within.{BeginsNoRunOf}
 use Rattle.nbd_wire.specs.declared.fault.WireFault.{WireFault}
 use Rattle.nbd_wire.specs.declared.fault.WireFault.TheVariants.{Unfinished}
 use Rattle.nbd_session.specs.declared.fault.SessionFault.{SessionFault}

@@ -4,11 +4,8 @@ use Rattle.nbd_wire.specs.declared.profile.Profile.{Profile}
 use Rattle.nbd_wire.specs.declared.profile.Profile.TheVariants.{Base}
 use Rattle.nbd_wire.specs.declared.message.Message.{Message}
 use Rattle.nbd_wire.specs.declared.message.Side.{Side}
-use Rattle.nbd_wire.specs.protocol.Marks.{Item, completed_messages, pairs}
-use Rattle.nbd_wire.specs.protocol.Captures.{Pair, side_pairs}
+use Rattle.nbd_wire.specs.Prelude.{Item, completed_messages, pairs, Pair, side_pairs, Report, report, IsRunOf, IsRunBut}
 use Rattle.nbd_session.specs.Pushed.{Stretch, pushed_pairs}
-use Rattle.nbd_wire.specs.protocol.Reports.{Report, report}
-use Rattle.nbd_wire.specs.protocol.Rules.{IsRunOf, IsRunBut}
 use Rattle.nbd_session.specs.declared.fault.SessionFault.{SessionFault}
 use Rattle.nbd_session.specs.declared.fault.SessionFault.TheVariants.{Memory, Wire}
 use Rattle.nbd_wire.specs.declared.fault.WireFault.TheVariants.{Unfinished}

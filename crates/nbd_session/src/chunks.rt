@@ -6,8 +6,7 @@ ghost use Rattle.nbd_wire.specs.declared.chunks.TheConstants as chunks;
 ghost use Rattle.nbd_wire.specs.declared.payloads.Piece.{Piece};
 ghost use Rattle.nbd_wire.specs.declared.command_flags.TheConstants as command_flags;
 ghost use Rattle.nbd_wire.specs.protocol.Flags as flags;
-ghost use Rattle.nbd_wire.specs.protocol.Operations.{Operation, Exporting, has_failed, is_finished, is_proper, pieces};
-ghost use Rattle.nbd_wire.specs.protocol.States.{Core, in_force, with_reply};
+ghost use Rattle.nbd_wire.specs.Prelude.{Operation, Exporting, has_failed, is_finished, is_proper, pieces, Core, in_force, with_reply, fault_if, chunk_fault, fits_read, fits_failure, read_as, total};
 ghost use Rattle.nbd_wire.specs.declared.fault.WireFault.TheVariants.{BadChunk, BadContent};
 ghost use Rattle.nbd_session.specs.internal.Asking.{done_by, elsewhere_fault, finish_by, is_status, lacks_by};
 ghost use Rattle.nbd_session.specs.internal.Expecting.{chunk_fault_to};
@@ -15,8 +14,6 @@ ghost use Rattle.nbd_state.specs.Heads.{chunk_of};
 ghost use Rattle.nbd_state.specs.Showing.{IsShown};
 ghost use Rattle.nbd_state.specs.Shows.{Shows, TellsThese};
 ghost use Rattle.nbd_state.specs.Spans.{span_of};
-ghost use Rattle.nbd_wire.specs.protocol.Tests.{fault_if};
-ghost use Rattle.nbd_wire.specs.protocol.Transmission.{chunk_fault, fits_read, fits_failure, read_as, total};
 
 use crate::spans::{bytes_in, content_span, is_inside};
 use crate::statuses::status_fault;
@@ -100,7 +97,8 @@ fn is_status(head: &ChunkHead) -> bool
 // A chunk without content is empty, and ends its reply.
 fn none_fault(state: &State, payload: &[u8], done: bool, exchange: &Exchange) -> Option<WireFault>
     ensures { (core : Core) (export : Exporting) (e : Operation) (settled : ℕ → Bool) → Shows state.now core →
-        e.contexts ≡ in_force core → IsShown export e exchange.now → TellsThese settled e.contexts exchange.now.told None →
+        e.contexts ≡ in_force core → IsShown export e exchange.now →
+        TellsThese settled e.contexts exchange.now.asked.pieces.told None →
         result ≡ fault_if (not (length payload.now == 0) || not done) BadChunk
         (done_by done (finish_by e.command e.length (is_proper export e) (has_failed e) (total (pieces e))
         (lacks_by e.command e.length settled e.contexts))) }
@@ -116,7 +114,7 @@ fn none_fault(state: &State, payload: &[u8], done: bool, exchange: &Exchange) ->
 fn content_fault(state: &State, span: Span, done: bool, exchange: &Exchange) -> Option<WireFault>
     ensures { (core : Core) (export : Exporting) (e : Operation) (piece : Piece) (settled : ℕ → Bool) →
         Shows state.now core → e.contexts ≡ in_force core → IsShown export e exchange.now →
-        TellsThese settled e.contexts exchange.now.told None → span_of piece ≡ span →
+        TellsThese settled e.contexts exchange.now.asked.pieces.told None → span_of piece ≡ span →
         result ≡ fault_if (not (fits_read export e piece)) BadContent
         (done_by done (finish_by e.command e.length (is_proper export e) (has_failed e)
         (total (pieces e) + span.size) (lacks_by e.command e.length settled e.contexts))) }
@@ -172,12 +170,13 @@ pub(crate) fn finish_fault(
     id: Option<u32>,
 ) -> Option<WireFault>
     ensures { (core : Core) (export : Exporting) (e : Operation) (settled : ℕ → Bool) → Shows state.now core →
-        e.contexts ≡ in_force core → IsShown export e exchange.now → TellsThese settled e.contexts exchange.now.told id →
+        e.contexts ≡ in_force core → IsShown export e exchange.now →
+        TellsThese settled e.contexts exchange.now.asked.pieces.told id →
         result ≡ finish_by e.command e.length (is_proper export e) (has_failed e) (total (pieces e) + more)
         (lacks_by e.command e.length settled e.contexts) }
 {
     let asked = &exchange.asked;
-    if exchange.failed {
+    if asked.failed {
         return None;
     }
     if asked.command == commands::READ
@@ -199,11 +198,9 @@ pub(crate) fn finish_fault(
 fn lacks_status(state: &State, exchange: &Exchange, id: Option<u32>) -> bool
     ensures { (core : Core) (e : Operation) (settled : ℕ → Bool) → Shows state.now core →
         e.contexts ≡ in_force core → e.command ≡ exchange.now.asked.command → e.length ≡ exchange.now.asked.length →
-        TellsThese settled e.contexts exchange.now.told id →
+        TellsThese settled e.contexts exchange.now.asked.pieces.told id →
         result ≡ lacks_by e.command e.length settled e.contexts }
 {
     let asked = &exchange.asked;
-    asked.command == commands::BLOCK_STATUS
-        && asked.length != 0
-        && !state.are_told(&exchange.told, id)
+    asked.command == commands::BLOCK_STATUS && asked.length != 0 && !state.are_told(exchange, id)
 }

@@ -2,9 +2,8 @@
 
 ghost use Rattle.std.specs.Prelude.{◌≡◌, ◌≤◌, ℕ, List, IfErr, IfOk};
 ghost use Rattle.nbd_wire.specs.declared.message.Side.TheVariants.{Client, Server};
-ghost use Rattle.nbd_wire.specs.protocol.States.{Core};
+ghost use Rattle.nbd_wire.specs.Prelude.{Core, Bad, reading_by_decision};
 ghost use Rattle.nbd_session.specs.internal.Counted.{decision_by_count};
-ghost use Rattle.nbd_wire.specs.protocol.Reading.{Bad, reading_by_decision};
 ghost use Rattle.nbd_session.specs.internal.Expecting.{HasHeadLength, HasReplyLength, IsExpectedOf, IsNoReply, IsPlaced, IsRefusedHead, IsWholeHead};
 ghost use Rattle.nbd_session.specs.internal.Leading.{request_head_length};
 ghost use Rattle.nbd_state.specs.Shows.{Shows};

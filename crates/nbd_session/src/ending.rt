@@ -1,10 +1,7 @@
 //! What the last byte of a message shows to be wrong with it.
 
 ghost use Rattle.std.specs.Prelude.{◌≡◌, Some};
-ghost use Rattle.nbd_wire.specs.protocol.Operations.{Exporting, Operation};
-ghost use Rattle.nbd_wire.specs.protocol.States.{Core};
-ghost use Rattle.nbd_wire.specs.protocol.Negotiation.{are_zeroes};
-ghost use Rattle.nbd_wire.specs.protocol.Transmission.{simple_last_fault};
+ghost use Rattle.nbd_wire.specs.Prelude.{Exporting, Operation, Core, are_zeroes, simple_last_fault};
 ghost use Rattle.nbd_state.specs.Showing.{IsShown};
 ghost use Rattle.nbd_session.specs.internal.Expecting.{StandsIn, last_fault_by};
 ghost use Rattle.nbd_state.specs.Shows.{Shows};

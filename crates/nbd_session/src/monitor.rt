@@ -1,7 +1,7 @@
 //! What follows a session's bytes as they come, and keeps none of its messages.
 
 ghost use Rattle.std.specs.Prelude.{◌≡◌, ◌+◌, ◌<◌, ◌≤◌, ◌^◌, [], drop, take, length, Err, IfErr, IfOk, None, OnErr, OnOk, Some};
-ghost use Rattle.nbd_wire.specs.protocol.States.{start_of};
+ghost use Rattle.nbd_wire.specs.Prelude.{start_of};
 ghost use Rattle.nbd_session.specs.Following.{Follows, IsPushed};
 ghost use Rattle.nbd_session.specs.Incoming.{bytes_come, incoming_with, nothing_come};
 ghost use Rattle.nbd_session.specs.Refusals.{EndsIn};

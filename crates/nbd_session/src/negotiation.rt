@@ -4,8 +4,7 @@
 ghost use Rattle.std.specs.Prelude.{◌≡◌, ◌++◌, ◌||◌, ◌&&◌, ℕ, List, IfErr, IfOk, Some, length};
 ghost use Rattle.nbd_wire.specs.declared.handshake.TheConstants as handshake;
 ghost use Rattle.nbd_wire.specs.protocol.Flags as flags;
-ghost use Rattle.nbd_wire.specs.protocol.States.{Core};
-ghost use Rattle.nbd_wire.specs.protocol.Decisions.{client_flags, export_answer, greeting};
+ghost use Rattle.nbd_wire.specs.Prelude.{Core, client_flags, export_answer, greeting};
 ghost use Rattle.nbd_wire.specs.protocol.Negotiation.{sets_more};
 ghost use Rattle.nbd_session.specs.internal.Expecting.{IsPlaced, expected_decision};
 

@@ -1,8 +1,7 @@
 //! Requests (proto.md, "Request message", "Reserved Magic values").
 
 ghost use Rattle.std.specs.Prelude.{◌≡◌, ◌++◌, ℕ, List, IfErr, IfOk, Some, length};
-ghost use Rattle.nbd_wire.specs.protocol.States.{Core};
-ghost use Rattle.nbd_wire.specs.protocol.Decisions.{request};
+ghost use Rattle.nbd_wire.specs.Prelude.{Core, request};
 ghost use Rattle.nbd_session.specs.internal.Asking.{is_bad_disconnect, is_beyond};
 ghost use Rattle.nbd_session.specs.internal.Expecting.{IsPlaced, expected_decision};
 ghost use Rattle.nbd_session.specs.internal.Leading.{request_head_length, request_head_of};

@@ -1,9 +1,7 @@
 //! A session, whose bytes are given in steps.
 
 ghost use Rattle.std.specs.Prelude.{◌≡◌, ◌+◌, ◌++◌, ◌<◌, ◌≤◌, ◌^◌, drop, Err, IfErr, IfOk, None, OnOk, Some, length};
-ghost use Rattle.nbd_wire.specs.protocol.Captures.{side_pairs};
-ghost use Rattle.nbd_wire.specs.protocol.Places.{IsUnderWayOf};
-ghost use Rattle.nbd_wire.specs.protocol.Within.{CompletesExactlyOf};
+ghost use Rattle.nbd_wire.specs.Prelude.{side_pairs, IsUnderWayOf, CompletesExactlyOf};
 ghost use Rattle.nbd_session.specs.declared.fault.SessionFault.{SessionFault};
 ghost use Rattle.nbd_session.specs.Refusals.{EndsIn, HasNoPlaceOf, IsComplete, Refuses};
 ghost use Rattle.nbd_session.specs.Sessions.{Adds, AddsPrefix, IsAtEnd, IsOfRun, IsReported, fault_at_end, fault_of, empty_session, empty_session_of, pairs_of, bytes_taken};

@@ -3,7 +3,7 @@
 ghost use Rattle.std.specs.Prelude.{◌≡◌, ◌+◌, ◌-◌, ◌^◌, ◌&&◌, min, nat_le};
 ghost use Rattle.nbd_wire.specs.codec.Contents.{piece_of};
 ghost use Rattle.nbd_state.specs.Spans.{span_of};
-ghost use Rattle.nbd_wire.specs.protocol.Transmission.{total};
+ghost use Rattle.nbd_wire.specs.Prelude.{total};
 
 use nbd_state::{Span, ends_by};
 use nbd_wire::{Content, Piece};

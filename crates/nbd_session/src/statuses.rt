@@ -1,12 +1,8 @@
 //! Status chunks (proto.md, "Structured reply types", "Command flags").
 
 ghost use Rattle.std.specs.Prelude.{◌≡◌, ◌==◌, ◌&&◌, ◌<◌, ℕ, Option, false, is_some, length, nat_le, not};
-ghost use Rattle.nbd_wire.specs.protocol.Contexts.{reach};
-ghost use Rattle.nbd_wire.specs.protocol.Operations.{Exporting, Operation, is_finished};
-ghost use Rattle.nbd_wire.specs.protocol.Payloads.{extents_of, status_of};
-ghost use Rattle.nbd_wire.specs.protocol.States.{Core, in_force, with_reply};
-ghost use Rattle.nbd_wire.specs.protocol.Statuses.{but_last};
-ghost use Rattle.nbd_wire.specs.protocol.Transmission.{chunk_fault, fits_range, fits_status, status_kind};
+ghost use Rattle.nbd_wire.specs.Prelude.{reach, Exporting, Operation, is_finished, extents_of, status_of, Core, in_force, with_reply, but_last, chunk_fault, status_kind};
+ghost use Rattle.nbd_wire.specs.protocol.Transmission.{fits_range, fits_status};
 ghost use Rattle.std.specs.Option.{option_map};
 ghost use Rattle.nbd_state.specs.Heads.{chunk_with};
 ghost use Rattle.nbd_state.specs.Showing.{IsShown};
@@ -77,7 +73,7 @@ fn fits_status(
     let asked = &exchange.asked;
     asked.command == commands::BLOCK_STATUS
         && state.is_in_force(id)
-        && !exchange.told.is_settled(id)
+        && !exchange.is_settled(id)
         && (asked.length == 0 || fits_range(asked, extended, descriptors))
 }
 

@@ -1,4 +1,6 @@
 -- The names that the proofs of this crate cite from elsewhere, passed on from one place. Declares nothing.
+pub use Rattle.nbd_laws.proofs.judge.WholeLemmas.{AnswersOne, allowed}
+unfoldable pub use Rattle.nbd_laws.proofs.judge.WholeLemmas.{IsAllowed}
 pub use Rattle.nbd_laws.proofs.judge.AllowLemmas.{MayAsk, ask_allow, extended_ask_allow}
 pub use Rattle.nbd_laws.proofs.requests.ContextLemmas.{asked_answered, asked_snoc}
 pub use Rattle.nbd_laws.proofs.judge.PhaseLemmas.{IsFound, find}
@@ -53,7 +55,7 @@ unfoldable pub use Rattle.nbd_wire.specs.protocol.Payloads.{content_of}
 pub use Rattle.nbd_wire.specs.protocol.Pieces.{byte_at, chunk_piece, is_in, piece_offset, piece_size, simple_piece}
 unfoldable pub use Rattle.nbd_wire.specs.protocol.Pieces.{piece_of}
 pub use Rattle.nbd_wire.specs.protocol.Reports.{asked_at}
-pub use Rattle.nbd_wire.specs.protocol.Rules.{AnswersOne, cookie_of, core_with_reply, core_with_request, grants_extended, grants_structured, is_reply_to, is_this, noted, reply_to, shown_with, target_of}
+pub use Rattle.nbd_wire.specs.protocol.Rules.{cookie_of, core_with_reply, core_with_request, grants_extended, grants_structured, is_reply_to, is_this, noted, reply_to, shown_with, target_of}
 unfoldable pub use Rattle.nbd_wire.specs.protocol.Rules.{MayComplete, complete}
 pub use Rattle.nbd_wire.specs.protocol.Sizes.{sizes_for, sizes_kept, sizing_after, sizing_at}
 pub use Rattle.nbd_wire.specs.protocol.States.{Answering, Core, Phase, Shown, Transmission, export_in, has_contexts, in_force, is_awaiting, operation, target_from, with_reply, with_reply_at}

@@ -41,8 +41,8 @@ pub none_told : (export : Exporting) (e : Operation) → e.command ≡ commands.
 none_told export e q = ap (λ c. if (c == commands.BLOCK_STATUS) && is_proper export e then zeroes_told e (statuses_of (take 1 e.replies)) else []) q
 
 -- before the first reply nothing is noted
-pub none_noted : (export : Exporting) (e : Operation) (x : Exchange) → IsShown export e x → is_finished e ≡ false → e.replies ≡ [] → e.command ≡ commands.READ → x.asked.shown.items ≡ []
-none_noted export e x s u none q = empty x.asked.shown.items ((s.is_open u).1 q ∙ ap length (s.pieces_are ∙ (λ i. none_told export e q i ++ pieces_of e.offset (none i))))
+pub none_noted : (export : Exporting) (e : Operation) (x : Exchange) → IsShown export e x → is_finished e ≡ false → e.replies ≡ [] → e.command ≡ commands.READ → x.asked.pieces.counts ≡ []
+none_noted export e x s u none q = empty x.asked.pieces.counts ((s.is_open u).1 q ∙ ap length (s.pieces_are ∙ (λ i. none_told export e q i ++ pieces_of e.offset (none i))))
   where
     empty : (cs : List ℕ) → length cs ≡ 0 → cs ≡ []
     empty [] h = refl
@@ -54,7 +54,7 @@ counted_none export e m ps none p q c = grind (arith, none_told, pieces-snoc)
 
 -- a message with this piece is noted
 pub noted_piece : (export : Exporting) (e : Operation) (m : Message) (x : Exchange) (piece : Option Piece) (ends : Bool) (n : ℕ) (ps : List Piece) (cs : List ℕ) → IsShown export e x → is_finished e ≡ false → ends_reply m ≡ ends → piece_of e.offset m ≡ chunk_piece piece →
-    ps ≡ x.asked.pieces.items ++ chunk_piece piece → cs ≡ x.asked.shown.items ++ more_counts piece ends n →
+    ps ≡ x.asked.pieces.items ++ chunk_piece piece → cs ≡ x.asked.pieces.counts ++ more_counts piece ends n →
     (if x.asked.command == commands.READ then with_counts ps cs else []) ≡ shown_in x.asked ++ shown_with (Some e) m n
 noted_piece export e m x piece ends n ps cs s u d p pieces_are counts_are = grind (arith, with_piece, eqb-true)
 
@@ -63,7 +63,7 @@ shows_none e m n p = grind arith
 
 -- a first status is noted
 pub noted_first : (export : Exporting) (e : Operation) (m : Message) (x : Exchange) (n : ℕ) (ps : List Piece) → IsShown export e x → is_finished e ≡ false → e.replies ≡ [] → piece_of e.offset m ≡ [] →
-    (if x.asked.command == commands.READ then with_counts ps x.asked.shown.items else []) ≡ shown_in x.asked ++ shown_with (Some e) m n
+    (if x.asked.command == commands.READ then with_counts ps x.asked.pieces.counts else []) ≡ shown_in x.asked ++ shown_with (Some e) m n
 noted_first export e m x n ps s u none p = grind (arith, append-nil, shows_none, none_noted, eqb-true, without_counts)
 
 -- what has not ended has no end noted

@@ -1,5 +1,5 @@
 -- What a state shows once a message of the negotiation has completed.
-use Rattle.nbd_state.proofs.Common.{arith, ◌≡◌, ℕ, ◌<◌, ◌||◌, ◌&&◌, ◌==◌, List, length, refl, sym, ◌∙◌, ap, subst, Option, Some, None, Bool, slice_get_within, place_at, ask_allow, extended_ask_allow, MayAsk, Message, Greeting, ClientFlags, Choice, Answer, Exported, Request, ExtendedRequest, Simple, Chunk, ExtendedChunk, Sizing, sizing_after, sizing_at, agrees, reply_phase, choice_phase, is_proper_option, next_phase, selection_after, selection_at, takes_contexts, Exporting, AnswersOne, MayComplete, complete, grants_extended, grants_structured, Core, Phase, Answering, Transmission, export_in, Chosen, State, MayTake, IsTransmitting, Selection, HasSelection, Shows, export_shown_if, phase_shown}
+use Rattle.nbd_state.proofs.Common.{IsAllowed, allowed, arith, ◌≡◌, ℕ, ◌<◌, ◌||◌, ◌&&◌, ◌==◌, List, length, refl, sym, ◌∙◌, ap, subst, Option, Some, None, Bool, slice_get_within, place_at, ask_allow, extended_ask_allow, MayAsk, Message, Greeting, ClientFlags, Choice, Answer, Exported, Request, ExtendedRequest, Simple, Chunk, ExtendedChunk, Sizing, sizing_after, sizing_at, agrees, reply_phase, choice_phase, is_proper_option, next_phase, selection_after, selection_at, takes_contexts, Exporting, AnswersOne, MayComplete, complete, grants_extended, grants_structured, Core, Phase, Answering, Transmission, export_in, Chosen, State, MayTake, IsTransmitting, Selection, HasSelection, Shows, export_shown_if, phase_shown}
 use Rattle.nbd_wire.specs.declared.commands.TheConstants as commands
 use Rattle.nbd_state.specs.declared.state.Phase as states
 use Rattle.nbd_state.specs.declared.state.Phase.TheVariants as shown
@@ -27,51 +27,51 @@ unfolding next_phase
 behind_none x p option kind payload na nb e = grind arith
 
 chooses : (core : Core) (p : Phase) (id : ℕ) (payload : List ℕ) → MayComplete core p (Choice id payload) → (export_in p ≡ None) × (phase_shown (choice_phase id payload) ≡ phase_shown (next_phase p (Choice id payload)))
-unfolding MayComplete next_phase
-chooses core p id payload ok = grind arith
+unfolding IsAllowed next_phase
+chooses core p id payload ok = grind (arith, allowed core p (Choice id payload) ok)
 
 answers : (core : Core) (p : Phase) (option kind : ℕ) (payload : List ℕ) → MayComplete core p (Answer option kind payload) → export_in p ≡ None
-unfolding MayComplete
-answers core p option kind payload ok = grind arith
+unfolding IsAllowed
+answers core p option kind payload ok = grind (arith, allowed core p (Answer option kind payload) ok)
 
 exports : (core : Core) (p : Phase) (size flags : ℕ) (padded : Bool) → MayComplete core p (Exported size flags padded) →
     (export_in p ≡ None) × (shown.Transmission (record { size = size; flags = flags }) ≡ phase_shown (next_phase p (Exported size flags padded)))
-unfolding MayComplete next_phase
-exports core p size flags padded ok = grind arith
+unfolding IsAllowed next_phase
+exports core p size flags padded ok = grind (arith, allowed core p (Exported size flags padded) ok)
 
 pub asked_in : (core : Core) (p : Phase) (flags command cookie offset len : ℕ) (payload : List ℕ) → MayComplete core p (Request flags command cookie offset len payload) →
     (export : Exporting) × (p ≡ Transmission export) × MayAsk (command == commands.DISC) core cookie offset len
-unfolding MayComplete
-asked_in core p flags command cookie offset len payload ok = grind (arith, ask_allow)
+unfolding IsAllowed
+asked_in core p flags command cookie offset len payload ok = grind (arith, ask_allow, allowed core p (Request flags command cookie offset len payload) ok)
 
 pub extended_asked_in : (core : Core) (p : Phase) (flags command cookie offset len : ℕ) (payload : List ℕ) → MayComplete core p (ExtendedRequest flags command cookie offset len payload) →
     (export : Exporting) × (p ≡ Transmission export) × MayAsk (command == commands.DISC) core cookie offset len
-unfolding MayComplete
-extended_asked_in core p flags command cookie offset len payload ok = grind (arith, extended_ask_allow)
+unfolding IsAllowed
+extended_asked_in core p flags command cookie offset len payload ok = grind (arith, extended_ask_allow, allowed core p (ExtendedRequest flags command cookie offset len payload) ok)
 
 pub simple_in : (core : Core) (p : Phase) (error cookie : ℕ) (payload : List ℕ) → MayComplete core p (Simple error cookie payload) →
     (export : Exporting) × (p ≡ Transmission export) × AnswersOne core export cookie (Simple error cookie payload)
-unfolding MayComplete
-simple_in core p error cookie payload ok = grind arith
+unfolding IsAllowed
+simple_in core p error cookie payload ok = grind (arith, allowed core p (Simple error cookie payload) ok)
 
 pub chunk_in : (core : Core) (p : Phase) (flags kind cookie : ℕ) (payload : List ℕ) → MayComplete core p (Chunk flags kind cookie payload) →
     (export : Exporting) × (p ≡ Transmission export) × AnswersOne core export cookie (Chunk flags kind cookie payload)
-unfolding MayComplete
-chunk_in core p flags kind cookie payload ok = grind arith
+unfolding IsAllowed
+chunk_in core p flags kind cookie payload ok = grind (arith, allowed core p (Chunk flags kind cookie payload) ok)
 
 pub extended_chunk_in : (core : Core) (p : Phase) (flags kind cookie offset : ℕ) (payload : List ℕ) → MayComplete core p (ExtendedChunk flags kind cookie offset payload) →
     (export : Exporting) × (p ≡ Transmission export) × AnswersOne core export cookie (ExtendedChunk flags kind cookie offset payload)
-unfolding MayComplete
-extended_chunk_in core p flags kind cookie offset payload ok = grind arith
+unfolding IsAllowed
+extended_chunk_in core p flags kind cookie offset payload ok = grind (arith, allowed core p (ExtendedChunk flags kind cookie offset payload) ok)
 
 module _ (old new : State) (core : Core) (s : Shows old core) where
   pub shows_greeted : (flags : ℕ) → MayComplete core core.phase (Greeting flags) → new ≡ record old { phase = shown.Flags; offered = flags } → Shows new (complete core (Greeting flags))
-  unfolding complete MayComplete next_phase
-  shows_greeted flags ok made = grind (arith, negotiation_is_shown)
+  unfolding complete IsAllowed next_phase
+  shows_greeted flags ok made = grind (arith, negotiation_is_shown, allowed core core.phase (Greeting flags) ok)
 
   pub shows_flags : (flags : ℕ) → MayComplete core core.phase (ClientFlags flags) → new ≡ record old { phase = shown.Choosing; client_flags = flags } → Shows new (complete core (ClientFlags flags))
-  unfolding complete MayComplete next_phase
-  shows_flags flags ok made = grind (arith, negotiation_is_shown)
+  unfolding complete IsAllowed next_phase
+  shows_flags flags ok made = grind (arith, negotiation_is_shown, allowed core core.phase (ClientFlags flags) ok)
 
   pub shows_chosen : (id : ℕ) (payload : List ℕ) (phase : states.Phase) (selection : Selection) (agreed : Bool) (sizing : Sizing) → MayComplete core core.phase (Choice id payload) → phase ≡ phase_shown (choice_phase id payload) →
       agreed ≡ (core.structured && agrees id payload core.selection) → HasSelection selection (selection_at id payload core.selection) → sizing ≡ sizing_at id payload → new ≡ record old { phase = phase; selection = selection; brings_contexts = agreed; sizing = sizing } → Shows new (complete core (Choice id payload))

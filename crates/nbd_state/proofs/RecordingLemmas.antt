@@ -17,10 +17,10 @@ pub record IsKept (x y : Exchange) : Type 0 where
 
 pub exchange_shows_reply : (export : Exporting) (e : Operation) (m : Message) (x y : Exchange) (ends fails : Bool) (known : ℕ) → IsShown export e x → is_finished e ≡ false → ends_reply m ≡ ends → is_failing m ≡ fails → IsKept x y →
     y.asked.known_at ≡ (if is_some x.asked.known_at then x.asked.known_at else Some known) →
-    y.failed ≡ (x.failed || fails) →
-    y.asked.outcome ≡ (if ends then (if y.failed then Failure else Success) else x.asked.outcome) →
+    y.asked.failed ≡ (x.asked.failed || fails) →
+    y.asked.outcome ≡ (if ends then (if y.asked.failed then Failure else Success) else x.asked.outcome) →
     y.asked.pieces.items ≡ zeroes export (with_reply e m) ++ pieces (with_reply e m) →
-    (is_finished (with_reply e m) ≡ false → (id : ℕ) → has_id e.contexts id ≡ true → is_settled_by y.told id ≡ is_settled (with_reply e m) id) →
+    (is_finished (with_reply e m) ≡ false → (id : ℕ) → has_id e.contexts id ≡ true → is_settled_by y.asked.pieces.told id ≡ is_settled (with_reply e m) id) →
     (ends ≡ false → (y.asked.ended_at ≡ None) × (e.command ≡ commands.READ → AreCounted y.asked)) →
     IsShown export (with_reply e m) y
 exchange_shows_reply export e m x y ends fails known s u n f k known_is failed_is outcome_is pieces_are told_are is_open = grind (arith, any-snoc, proper-same)
@@ -41,18 +41,18 @@ module _ (export : Exporting) (e : Operation) (m : Message) (x : Exchange) (ends
   not_yet f = sym (any-snoc ends_reply e.replies m ∙ ap (λ b. b || ends_reply m) u ∙ n) ∙ f
 
   -- what is told with the message
-  pub told_without : status_in m ≡ [] → TellsThese (is_settled (with_reply e m)) e.contexts x.told None
+  pub told_without : status_in m ≡ [] → TellsThese (is_settled (with_reply e m)) e.contexts x.asked.pieces.told None
   told_without none i h = grind (arith, statuses-snoc, append-nil)
 
-  pub told_with : (status : Status) → status_in m ≡ status ∷ [] → TellsThese (is_settled (with_reply e m)) e.contexts x.told (Some status.id)
+  pub told_with : (status : Status) → status_in m ≡ status ∷ [] → TellsThese (is_settled (with_reply e m)) e.contexts x.asked.pieces.told (Some status.id)
   told_with status is i h = grind (arith, statuses-snoc, tells-snoc)
 
   -- a message without a status leaves what is settled
-  pub told_kept : (told : Telling) → status_in m ≡ [] → (ends ≡ false → told ≡ x.told) → is_finished (with_reply e m) ≡ false → (id : ℕ) → has_id e.contexts id ≡ true → is_settled_by told id ≡ is_settled (with_reply e m) id
+  pub told_kept : (told : Telling) → status_in m ≡ [] → (ends ≡ false → (id : ℕ) → is_settled_by told id ≡ is_settled_by x.asked.pieces.told id) → is_finished (with_reply e m) ≡ false → (id : ℕ) → has_id e.contexts id ≡ true → is_settled_by told id ≡ is_settled (with_reply e m) id
   told_kept told none kept f id h = grind (arith, not_yet, statuses-snoc, append-nil)
 
   -- a status settles its context
-  pub told_more : (told : Telling) (status : Status) → status_in m ≡ status ∷ [] → (ends ≡ false → (id : ℕ) → is_settled_by told id ≡ (if status.id == id then true else is_settled_by x.told id)) →
+  pub told_more : (told : Telling) (status : Status) → status_in m ≡ status ∷ [] → (ends ≡ false → (id : ℕ) → is_settled_by told id ≡ (if status.id == id then true else is_settled_by x.asked.pieces.told id)) →
       is_finished (with_reply e m) ≡ false → (id : ℕ) → has_id e.contexts id ≡ true → is_settled_by told id ≡ is_settled (with_reply e m) id
   told_more told status is added f id h = grind (arith, not_yet, statuses-snoc, tells-snoc)
 
@@ -67,6 +67,10 @@ module _ (export : Exporting) (e : Operation) (m : Message) where
   -- a message that is no first status
   pub pieces_kept : (x y : List Piece) → x ≡ zeroes export e ++ pieces e → (e.replies ≡ [] → status_in m ≡ []) → y ≡ x ++ piece_of e.offset m → y ≡ zeroes export (with_reply e m) ++ pieces (with_reply e m)
   pieces_kept x y is n q = grind (arith, append_assoc, stay, pieces-snoc)
+
+  -- before the first message there is none
+  pub none_before : e.replies ≡ [] → zeroes export e ++ pieces e ≡ []
+  none_before none = grind arith
 
   -- a first status
   pub pieces_first : (y : List Piece) (s : Status) → e.replies ≡ [] → status_in m ≡ s ∷ [] → piece_of e.offset m ≡ [] →

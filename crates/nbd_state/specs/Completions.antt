@@ -2,8 +2,7 @@
 use Rattle.std.specs.Prelude.{◌≡◌, ℕ, Some}
 use Rattle.nbd_state.specs.Places.{place_at}
 use Rattle.nbd_wire.specs.declared.message.Message.{Message}
-use Rattle.nbd_wire.specs.protocol.Rules.{MayComplete, cookie_of}
-use Rattle.nbd_wire.specs.protocol.States.{Core}
+use Rattle.nbd_wire.specs.Prelude.{MayComplete, cookie_of, Core}
 use Rattle.nbd_laws.specs.Reached.{IsReached}
 use Rattle.nbd_state.specs.declared.state.State.{State}
 use Rattle.nbd_state.specs.Shows.{Shows}

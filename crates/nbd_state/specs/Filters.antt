@@ -3,9 +3,9 @@ use Rattle.std.specs.Prelude.{◌≡◌, ℕ, List, Bool, true, not, ◌==◌, O
 use Rattle.std.specs.BTreeSet.{contains}
 use Rattle.std.specs.Ordering.{nat_cmp}
 use Rattle.nbd_wire.specs.declared.heads.transmission.RequestHead.{RequestHead}
-use Rattle.nbd_wire.specs.protocol.Contexts.{Context, Filter, has_id, is_left_out, length_by}
+use Rattle.nbd_wire.specs.protocol.Contexts.{is_left_out}
+use Rattle.nbd_wire.specs.Prelude.{Context, Filter, has_id, length_by, filter_in}
 use Rattle.nbd_wire.specs.protocol.Operations.{takes_filter}
-use Rattle.nbd_wire.specs.protocol.Rules.{filter_in}
 use Rattle.nbd_state.specs.declared.asking.Asking.{Asking}
 use Rattle.nbd_state.specs.declared.asking.Telling.{Telling}
 

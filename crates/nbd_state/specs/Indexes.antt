@@ -3,8 +3,7 @@ use Rattle.std.specs.Prelude.{ℕ, List, IsTrue, ◌≡◌, ◌+◌, ◌<◌, �
 use Rattle.std.specs.BTreeMap.{BTreeMap, btree_map_len, get}
 use Rattle.std.specs.Ordering.{nat_cmp}
 use Rattle.nbd_wire.specs.declared.payloads.Piece.{Piece}
-use Rattle.nbd_wire.specs.protocol.Pieces.{is_in, piece_offset, piece_size}
-use Rattle.nbd_wire.specs.protocol.Transmission.{is_apart_from}
+use Rattle.nbd_wire.specs.Prelude.{is_in, piece_offset, piece_size, is_apart_from}
 
 -- the size of the span that begins at an offset, where one does
 abbrev pub size_from : BTreeMap ℕ ℕ → ℕ → Option ℕ

@@ -3,6 +3,7 @@ pub mod Filters
 pub mod Heads
 pub mod Indexes
 pub mod Moments
+pub mod Pieces
 pub mod Places
 pub mod Showing
 pub mod Shows

@@ -2,8 +2,7 @@
 use Rattle.std.specs.Prelude.{ℕ, List, [], ◌∷◌, ◌==◌, if◌then◌else◌}
 use Rattle.nbd_wire.specs.declared.commands.TheConstants as commands
 use Rattle.nbd_wire.specs.declared.payloads.Piece.{Piece}
-use Rattle.nbd_wire.specs.protocol.Pieces.{piece_offset, piece_size}
-use Rattle.nbd_wire.specs.protocol.States.{Shown}
+use Rattle.nbd_wire.specs.Prelude.{piece_offset, piece_size, Shown}
 use Rattle.nbd_state.specs.declared.asked.Asked.{Asked}
 
 -- the ranges of the pieces, each with its count; of the pieces that stand behind the counts nothing
@@ -15,4 +14,4 @@ with_counts (piece ∷ pieces) (n ∷ counts) =
 
 -- what of a READ the messages before the last one showed
 abbrev pub shown_in : Asked → List Shown
-shown_in a = if a.command == commands.READ then with_counts a.pieces.items a.shown.items else []
+shown_in a = if a.command == commands.READ then with_counts a.pieces.items a.pieces.counts else []

@@ -1,10 +1,9 @@
 -- How the program's values show what the definitions speak of.
 use Rattle.std.specs.Prelude.{◌≡◌, ℕ, false, true, not, Option, Some, None, ◌++◌, is_some, length}
 use Rattle.nbd_wire.specs.declared.commands.TheConstants as commands
-use Rattle.nbd_wire.specs.protocol.Contexts.{has_id}
+use Rattle.nbd_wire.specs.Prelude.{has_id, Operation, Exporting, is_finished, is_proper, has_failed, outcome, pieces, is_settled, zeroes}
 use Rattle.nbd_wire.specs.protocol.Transmission.{is_none_yet}
-use Rattle.nbd_wire.specs.protocol.Operations.{Operation, Exporting, is_finished, is_outside, is_proper, has_failed, outcome, pieces}
-use Rattle.nbd_wire.specs.protocol.Statuses.{is_settled, zeroes}
+use Rattle.nbd_wire.specs.protocol.Operations.{is_outside}
 use Rattle.nbd_wire.specs.protocol.Operations as definitions
 use Rattle.nbd_state.specs.declared.asked.Asked.{Asked}
 use Rattle.nbd_state.specs.declared.asked.Exchange.{Exchange}
@@ -29,7 +28,7 @@ outcome_of Pending = definitions.Pending
 
 -- each piece has its count
 abbrev pub AreCounted : Asked → Type 0
-AreCounted a = length a.shown.items ≡ length a.pieces.items
+AreCounted a = length a.pieces.counts ≡ length a.pieces.items
 
 -- an exchange shows a numbered request of a session on this export
 pub record IsShown (export : Exporting) (e : Operation) (x : Exchange) : Type 0 where
@@ -43,10 +42,10 @@ pub record IsShown (export : Exporting) (e : Operation) (x : Exchange) : Type 0 
   pub outside : x.asked.outside ≡ is_outside e
   pub replied : is_some x.asked.known_at ≡ not (is_none_yet e.replies)
   pub outcome_is : outcome_of x.asked.outcome ≡ outcome e
-  pub failed : x.failed ≡ has_failed e
+  pub failed : x.asked.failed ≡ has_failed e
   pub pieces_are : x.asked.pieces.items ≡ zeroes export e ++ pieces e
   -- while it is outstanding nothing has ended, and each piece of a READ has its count
   pub is_open : is_finished e ≡ false → (x.asked.ended_at ≡ None)
       × (e.command ≡ commands.READ → AreCounted x.asked)
   pub told_are : is_finished e ≡ false → (id : ℕ) → has_id e.contexts id ≡ true
-      → is_settled_by x.told id ≡ is_settled e id
+      → is_settled_by x.asked.pieces.told id ≡ is_settled e id

@@ -3,13 +3,9 @@ use Rattle.std.specs.Prelude.{◌≡◌, ℕ, suc, ◌-◌, ◌||◌, true, Bool
 use Rattle.nbd_state.specs.Places.{place_at}
 use Rattle.std.specs.BTreeSet.{contains}
 use Rattle.std.specs.Ordering.{nat_cmp}
-use Rattle.nbd_wire.specs.protocol.Options.{is_proper_option, takes_contexts}
+use Rattle.nbd_wire.specs.Prelude.{is_proper_option, takes_contexts, has_id, is_allocation, Operation, Exporting, Core, Shown, start, target, export_in, in_force, is_this}
 use Rattle.nbd_wire.specs.protocol.Contexts as contexts
-use Rattle.nbd_wire.specs.protocol.Contexts.{has_id}
-use Rattle.nbd_wire.specs.protocol.Statuses.{is_allocation}
-use Rattle.nbd_wire.specs.protocol.Operations.{Operation, Exporting}
 use Rattle.nbd_wire.specs.protocol.States as definitions
-use Rattle.nbd_wire.specs.protocol.States.{Core, Shown, start, target, export_in, in_force}
 use Rattle.nbd_laws.specs.Selecting.{AreAskedWith}
 use Rattle.nbd_state.specs.declared.asked.Exchange.{Exchange}
 use Rattle.nbd_state.specs.declared.asking.Telling.{Telling}
@@ -19,7 +15,6 @@ use Rattle.nbd_state.specs.declared.state.Export.{Export}
 use Rattle.nbd_state.specs.declared.state.Phase.{Phase}
 use Rattle.nbd_state.specs.declared.state.Phase.TheVariants.{Greet, Flags, Choosing, Naming, Aborting, Answering, Ended, Transmission}
 use Rattle.nbd_state.specs.declared.state.State.{State}
-use Rattle.nbd_wire.specs.protocol.Rules.{is_this}
 use Rattle.nbd_state.specs.Moments.{shown_in}
 use Rattle.nbd_state.specs.Showing.{IsShown}
 

@@ -1,8 +1,7 @@
 -- What a transcript states.
 use Rattle.std.specs.Prelude.{ℕ, List, map, Option, Some, None}
 use Rattle.nbd_wire.specs.protocol.Reports as definitions
-use Rattle.nbd_wire.specs.protocol.Reports.{Report}
-use Rattle.nbd_wire.specs.protocol.Operations.{Exporting}
+use Rattle.nbd_wire.specs.Prelude.{Report, Exporting}
 use Rattle.nbd_state.specs.declared.asked.Asked.{Asked}
 use Rattle.nbd_state.specs.declared.asked.Exchange.{Exchange}
 use Rattle.nbd_state.specs.declared.state.Export.{Export}

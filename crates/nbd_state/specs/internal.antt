@@ -1,3 +1,4 @@
 pub mod Completing
+pub mod Keeping
 pub mod Noting
 pub mod Showing

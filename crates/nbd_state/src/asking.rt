@@ -2,12 +2,13 @@
 //! BLOCK_STATUS with an extended header may have a filter, which says how long its range is and which of the contexts it
 //! asks (this project's choice, read from libnbd and qemu).
 
-ghost use Rattle.std.specs.Prelude.{ℕ, ◌≡◌, ◌==◌, ◌&&◌, ◌||◌, [], false, not, IfOk, if◌then◌else◌, length, true};
+ghost use Rattle.std.specs.Prelude.{ℕ, ◌≡◌, ◌==◌, ◌&&◌, ◌||◌, [], false, not, IfOk, IsTrue, if◌then◌else◌, length, true};
 ghost use Rattle.std.specs.BTreeSet.{IsEmpty, contains};
 ghost use Rattle.std.specs.Option.{option_map};
 ghost use Rattle.std.specs.Ordering.{nat_cmp};
 ghost use Rattle.nbd_wire.specs.protocol.Contexts as contexts;
-ghost use Rattle.nbd_wire.specs.protocol.Contexts.{are_once, has_id, is_among};
+ghost use Rattle.nbd_wire.specs.protocol.Contexts.{are_once, is_among};
+ghost use Rattle.nbd_wire.specs.Prelude.{has_id};
 ghost use Rattle.nbd_wire.specs.protocol.Payloads.{ids_of};
 ghost use Rattle.nbd_state.specs.Filters.{Asks, filter_of_head, is_settled_by};
 ghost use Rattle.nbd_state.specs.Shows.{HasSelection};
@@ -42,13 +43,20 @@ pub struct Asking {
 
 impl Telling {
     /// Nothing is settled; takes no memory.
-    fn none(alloc: Global) -> Telling
+    pub(crate) fn none(alloc: Global) -> Telling
         ensures { (id : ℕ) → is_settled_by result id ≡ false }
     {
         Telling {
             filtered: false,
             ids: BTreeSet::new(alloc),
         }
+    }
+
+    /// Whether it is seen at once that nothing is settled.
+    pub(crate) fn is_blank(&self) -> bool
+        ensures { IsTrue result → (id : ℕ) → is_settled_by self.now id ≡ false }
+    {
+        !self.filtered && self.ids.is_empty()
     }
 
     /// Whether the context in force with this id has its status, or is not asked.

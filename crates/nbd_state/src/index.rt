@@ -3,7 +3,7 @@
 ghost use Rattle.std.specs.Prelude.{◌≡◌, ◌⊎◌, ◌↔◌, ◌+◌, ◌++◌, ◌∷◌, ◌<◌, ◌≤◌, ◌^◌, ℕ, [], None, Some, false, IfOk, IsTrue, MatchBool};
 ghost use Rattle.std.specs.BTreeMap.{btree_map_len};
 ghost use Rattle.nbd_state.specs.Indexes.{Covers, HasMore, Indexes, IsBare, IsFree, IsHeldFrom, Meets, size_from};
-ghost use Rattle.nbd_wire.specs.protocol.Pieces.{is_in};
+ghost use Rattle.nbd_wire.specs.Prelude.{is_in};
 
 use crate::proper::ends_by;
 use crate::span::Span;

@@ -2,10 +2,9 @@
 
 ghost use Rattle.std.specs.Prelude.{◌≡◌, ◌==◌, ◌&&◌, ◌||◌, MatchOption, true, false, not};
 ghost use Rattle.nbd_wire.specs.declared.commands.TheConstants as commands;
-ghost use Rattle.nbd_wire.specs.protocol.Operations.{has_range};
+ghost use Rattle.nbd_wire.specs.Prelude.{has_range, byte_at, holds, is_in, piece_byte};
 ghost use Rattle.nbd_state.specs.Transcripts.{report_of_request};
 ghost use Rattle.nbd_wire.specs.protocol.ExportBytes as bytes;
-ghost use Rattle.nbd_wire.specs.protocol.Pieces.{byte_at, holds, is_in, piece_byte};
 
 use crate::asked::{Asked, Outcome};
 use crate::proper::{has_range, is_change};

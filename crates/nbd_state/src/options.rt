@@ -2,8 +2,7 @@
 //! types").
 
 ghost use Rattle.std.specs.Prelude.{◌≡◌};
-ghost use Rattle.nbd_wire.specs.protocol.Options.{is_proper_option, last_info, takes_contexts};
-ghost use Rattle.nbd_wire.specs.protocol.Payloads.{info_of};
+ghost use Rattle.nbd_wire.specs.Prelude.{is_proper_option, last_info, takes_contexts, info_of};
 ghost use Rattle.nbd_state.specs.Showing.{exporting_if};
 
 use crate::state::Export;

@@ -4,9 +4,8 @@
 ghost use Rattle.std.specs.Prelude.{◌≡◌, ◌<◌, ◌+◌, ◌==◌, ◌&&◌, ◌||◌, ℕ, List, Option, false, length, not, nat_le};
 ghost use Rattle.nbd_wire.specs.declared.message.Message.{Message};
 ghost use Rattle.nbd_wire.specs.declared.sizes.Sizes.{Sizes};
-ghost use Rattle.nbd_wire.specs.protocol.Contexts.{Context, Filter};
+ghost use Rattle.nbd_wire.specs.Prelude.{Context, Filter, Operation};
 ghost use Rattle.nbd_wire.specs.protocol.Operations as operations;
-ghost use Rattle.nbd_wire.specs.protocol.Operations.{Operation};
 ghost use Rattle.nbd_state.specs.Filters.{Asks};
 ghost use Rattle.nbd_state.specs.Showing.{exporting};
 ghost use Rattle.nbd_state.specs.internal.Showing.{operation_of_head};

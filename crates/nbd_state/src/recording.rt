@@ -3,28 +3,21 @@
 ghost use Rattle.std.specs.Prelude.{◌≡◌, ◌<◌, ◌+◌, ◌^◌, ◌==◌, true, ◌++◌, ◌∷◌, ℕ, List, false, not, IfErr, IfOk, OnErr, [], if◌then◌else◌, is_some, length};
 ghost use Rattle.nbd_wire.specs.declared.message.Message.{Message};
 ghost use Rattle.nbd_wire.specs.declared.message.Message.TheVariants.{Simple};
-ghost use Rattle.nbd_wire.specs.protocol.Contexts.{Context, Filter, Status};
+ghost use Rattle.nbd_wire.specs.Prelude.{Context, Filter, Status, Operation, Exporting, ends_reply, is_error_chunk, is_failing, is_finished, chunk_piece, extents_of, is_allocation, status_in, noted};
 ghost use Rattle.nbd_wire.specs.protocol.Payloads as payloads;
 ghost use Rattle.nbd_wire.specs.protocol.Pieces as pieces;
-ghost use Rattle.nbd_wire.specs.protocol.Operations.{Operation, Exporting, ends_reply, is_error_chunk, is_failing, is_finished};
-ghost use Rattle.nbd_wire.specs.protocol.Pieces.{chunk_piece};
-ghost use Rattle.nbd_wire.specs.protocol.Payloads.{extents_of};
-ghost use Rattle.nbd_wire.specs.protocol.Statuses.{is_allocation, status_in};
 ghost use Rattle.nbd_state.specs.internal.Completing.{is_allocation_told};
 ghost use Rattle.nbd_state.specs.declared.asked.Outcome.TheVariants.{Failure, Success};
-ghost use Rattle.std.specs.Option.{option_copied};
-ghost use Rattle.nbd_state.specs.Indexes.{Indexes};
 ghost use Rattle.nbd_state.specs.Filters.{Asks};
 ghost use Rattle.nbd_state.specs.Heads.{chunk_of};
 ghost use Rattle.nbd_state.specs.internal.Showing.{carried, operation_of_head};
 ghost use Rattle.nbd_state.specs.Showing.{IsShown, exporting};
 ghost use Rattle.nbd_state.specs.internal.Noting.{HasTaken};
-ghost use Rattle.nbd_wire.specs.protocol.Rules.{noted};
 ghost use Rattle.std.specs.Prelude.{◌&&◌, None, OnOk, Option, IsTrue, vec_capacity, vec_len};
 
 use crate::asked::{Asked, Exchange, Outcome};
 use crate::asking::Asking;
-use crate::index::SpanIndex;
+use crate::pieces::Pieces;
 use crate::proper::{is_outside, is_proper};
 use crate::state::Export;
 use crate::statuses::{told_in, zeroes_told};
@@ -32,9 +25,7 @@ use nbd_wire::flags::has;
 use nbd_wire::{
     Bytes, ChunkHead, Content, Piece, RequestHead, Sizes, chunks, commands, content_of,
 };
-use smallvec::SmallVec;
 use std::alloc::{AllocError, Global};
-use std::mem;
 
 /// How many bytes stand before the data of a chunk, which are the offset.
 const OFFSET_LENGTH: u8 = 8;
@@ -63,19 +54,12 @@ impl Exchange {
         ensures unanswered { IfOk result (λ x. x.asked.known_at ≡ None) }
     {
         let payload = carried(head, payload)?;
+        let proper = is_proper(export, &asking, head);
         let asked = Asked {
             flags: head.flags,
             command: head.command,
-            length: asking.length,
-            cookie: head.cookie,
-            offset: head.offset,
-            payload,
-            pieces: SmallVec::new(alloc),
-            shown: Vec::new(alloc),
-            ended_at: None,
-            known_at: None,
             outcome: Outcome::Pending,
-            proper: is_proper(export, &asking, head),
+            proper,
             outside: is_outside(
                 sizes,
                 asking.has_contexts,
@@ -83,13 +67,16 @@ impl Exchange {
                 head.offset,
                 asking.length,
             ),
-        };
-        Ok(Exchange {
-            asked,
             failed: false,
-            told: asking.told,
-            index: SpanIndex::new(alloc),
-        })
+            length: asking.length,
+            known_at: None,
+            cookie: head.cookie,
+            offset: head.offset,
+            payload,
+            pieces: Pieces::none(alloc, asking.told)?,
+            ended_at: None,
+        };
+        Ok(Exchange { asked })
     }
 
     /// A whole simple reply has answered it; so many requests had completed before its first byte and now.
@@ -133,7 +120,7 @@ impl Exchange {
         let ends = has(head.flags, chunks::DONE);
         if let Some((id, descriptors)) = told_in(head, payload.as_slice()) {
             if self.asked.known_at.is_some() {
-                return self.take_status(id, counts, ends);
+                return self.take_status(alloc, id, counts, ends);
             }
             return self.take_first_status(
                 alloc,
@@ -170,16 +157,20 @@ impl Exchange {
             (λ _. self.new.asked.known_at ≡ (if is_some self.old.asked.known_at then self.old.asked.known_at
             else Some counts.known)) }
     {
-        let pieces = zeroes_told(alloc, &self.asked, extended, descriptors, zeroes)?;
-        self.told.tell(id, ends)?;
-        self.asked.pieces = SmallVec::from_vec(pieces);
-        self.index = SpanIndex::new(alloc);
+        let zeroes = zeroes_told(alloc, &self.asked, extended, descriptors, zeroes)?;
+        self.asked.pieces.tell(alloc, id, zeroes, ends)?;
         self.note(counts, ends);
         Ok(())
     }
 
     // A later message of the reply is the status of the context with this id; it may end the reply.
-    fn take_status(&mut self, id: u32, counts: Counts, ends: bool) -> Result<(), AllocError>
+    fn take_status(
+        &mut self,
+        alloc: Global,
+        id: u32,
+        counts: Counts,
+        ends: bool,
+    ) -> Result<(), AllocError>
         ensures taken { IfOk result (λ _. (export : Exporting) (e : Operation) (m : Message) (status : Status) →
             IsShown export e self.old → is_finished e ≡ false → is_some self.old.asked.known_at ≡ true →
             ends_reply m ≡ ends → is_failing m ≡ false → pieces.piece_of e.offset m ≡ [] →
@@ -189,7 +180,7 @@ impl Exchange {
             (λ _. self.new.asked.known_at ≡ (if is_some self.old.asked.known_at then self.old.asked.known_at
             else Some counts.known)) }
     {
-        self.told.tell(id, ends)?;
+        self.asked.pieces.tell(alloc, id, Vec::new(alloc), ends)?;
         self.note(counts, ends);
         Ok(())
     }
@@ -211,13 +202,8 @@ impl Exchange {
             (λ _. self.new.asked.known_at ≡ (if is_some self.old.asked.known_at then self.old.asked.known_at
             else Some counts.known)) }
     {
-        let index = mem::replace(&mut self.index, SpanIndex::new(alloc));
-        let index = index_after(alloc, index, &self.asked.pieces, piece.as_ref(), ends)?;
-        count_if(&mut self.asked.shown, piece.is_some(), ends, counts.now)?;
-        push_if(&mut self.asked.pieces, piece)?;
-        self.index = index;
-        self.told.clear_if(ends);
-        self.failed |= fails;
+        self.asked.pieces.add(alloc, piece, counts.now, ends)?;
+        self.asked.failed |= fails;
         self.note(counts, ends);
         Ok(())
     }
@@ -227,7 +213,7 @@ impl Exchange {
         ensures known { self.new.asked.known_at ≡ (if is_some self.old.asked.known_at then self.old.asked.known_at
             else Some counts.known) }
         ensures ended { self.new.asked.ended_at ≡ noted self.old.asked.ended_at ends counts.now }
-        ensures outcome { self.new.asked.outcome ≡ (if ends then (if self.old.failed then Failure else Success)
+        ensures outcome { self.new.asked.outcome ≡ (if ends then (if self.old.asked.failed then Failure else Success)
             else self.old.asked.outcome) }
         ensures kept { self.new ≡ record self.old {
           asked = record self.old.asked {
@@ -239,7 +225,7 @@ impl Exchange {
     {
         self.asked.known_at = first(self.asked.known_at, counts.known);
         self.asked.ended_at = ended(self.asked.ended_at, ends, counts.now);
-        self.asked.outcome = outcome_after(self.asked.outcome, ends, self.failed);
+        self.asked.outcome = outcome_after(self.asked.outcome, ends, self.asked.failed);
     }
 }
 
@@ -251,47 +237,6 @@ fn carried(head: &RequestHead, payload: &Bytes) -> Result<Bytes, AllocError>
         return Ok(Bytes::none());
     }
     payload.share()
-}
-
-// The index of these pieces and one more, if any; where the reply ends it holds none.
-fn index_after(
-    alloc: Global,
-    index: SpanIndex,
-    pieces: &[Piece],
-    piece: Option<&Piece>,
-    ends: bool,
-) -> Result<SpanIndex, AllocError>
-    requires { Indexes index.sizes pieces.now }
-    ensures { IfOk result (λ after. Indexes after.sizes (pieces.now ++ chunk_piece (option_copied piece.entry))) }
-{
-    if ends {
-        return Ok(SpanIndex::new(alloc));
-    }
-    match piece {
-        Some(piece) => index.with(alloc, pieces, piece),
-        None => Ok(index),
-    }
-}
-
-// The piece, if any, after the others.
-fn push_if(pieces: &mut SmallVec<Piece, 1>, piece: Option<Piece>) -> Result<(), AllocError>
-    ensures { IfOk result (λ _. pieces.new.items ≡ pieces.old.items ++ chunk_piece piece) }
-{
-    if let Some(piece) = piece {
-        pieces.push(piece)?;
-    }
-    Ok(())
-}
-
-// The count after the others, unless the message gives no piece or ends the reply.
-fn count_if(shown: &mut Vec<u64>, gives: bool, ends: bool, count: u64) -> Result<(), AllocError>
-    ensures { OnOk result (shown.new.items ≡ shown.old.items
-        ++ (if gives && not ends then count ∷ [] else [])) }
-{
-    if gives && !ends {
-        shown.push(count)?;
-    }
-    Ok(())
 }
 
 // How many requests had completed when the reply ended, which it may do now.

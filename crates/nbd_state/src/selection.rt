@@ -1,14 +1,15 @@
 //! What SET_META_CONTEXT selects (proto.md, "Option types", "Metadata querying").
 
-ghost use Rattle.std.specs.Prelude.{ℕ, ◌≡◌, ◌==◌, [], List, Bool, false, OnOk, length};
+ghost use Rattle.std.specs.Prelude.{ℕ, ◌≡◌, ◌==◌, [], List, Bool, MatchOption, false, OnOk, length};
 ghost use Rattle.std.specs.BTreeSet.{contains};
 ghost use Rattle.std.specs.Ordering.{nat_cmp};
 ghost use Rattle.nbd_wire.specs.protocol.Contexts as contexts;
-ghost use Rattle.nbd_wire.specs.protocol.Contexts.{has_id, no_selection};
-ghost use Rattle.nbd_wire.specs.protocol.Options.{agrees, selection_after, selection_at, selection_told, with_context};
-ghost use Rattle.nbd_wire.specs.protocol.Payloads.{context_of};
+ghost use Rattle.nbd_wire.specs.protocol.Contexts.{no_selection};
+ghost use Rattle.nbd_wire.specs.Prelude.{has_id, agrees, selection_after, selection_at, context_of, are_settled, is_allocation};
+ghost use Rattle.nbd_wire.specs.protocol.Options.{selection_told, with_context};
 ghost use Rattle.nbd_wire.specs.protocol.States as definitions;
-ghost use Rattle.nbd_wire.specs.protocol.Statuses.{are_settled, is_allocation};
+ghost use Rattle.nbd_state.specs.Filters.{is_settled_by};
+ghost use Rattle.nbd_state.specs.declared.asking.Telling.{Telling};
 ghost use Rattle.nbd_state.specs.Shows.{HasSelection, TellsThese, phase_shown};
 
 use crate::asking::Telling;
@@ -70,8 +71,21 @@ impl Selection {
         self.ids.is_empty()
     }
 
-    /// Whether each of the contexts is settled, or is the one with this id.
-    pub(crate) fn are_told(&self, told: &Telling, id: Option<u32>) -> bool
+    /// Whether each of the contexts is settled, or is the one with this id; without a telling none is settled.
+    pub(crate) fn are_told(&self, told: Option<&Telling>, id: Option<u32>) -> bool
+        ensures { (selection : contexts.Selection) (settled : ℕ → Bool) (telling : Telling) →
+            HasSelection self.now selection →
+            MatchOption told.entry ((i : ℕ) → is_settled_by telling i ≡ false) (λ t. t.now ≡ telling) →
+            TellsThese settled selection.contexts telling id → result ≡ are_settled settled selection.contexts }
+    {
+        match told {
+            Some(told) => self.are_told_by(told, id),
+            None => self.are_told_by(&Telling::none(*self.export_name.allocator()), id),
+        }
+    }
+
+    // Whether each of the contexts is settled, or is the one with this id.
+    fn are_told_by(&self, told: &Telling, id: Option<u32>) -> bool
         ensures { (selection : contexts.Selection) (settled : ℕ → Bool) → HasSelection self.now selection →
             TellsThese settled selection.contexts told.now id → result ≡ are_settled settled selection.contexts }
     {

@@ -1,7 +1,6 @@
 //! What the completed messages of a session have led to.
 
 use crate::asked::Exchange;
-use crate::asking::Telling;
 use crate::outstanding::Outstanding;
 use crate::selection::Selection;
 use crate::transcript::Transcript;
@@ -75,10 +74,8 @@ pub struct State {
 }
 
 impl State {
-    ghost use Rattle.nbd_wire.specs.protocol.States.{Core, in_force, start, start_of};
+    ghost use Rattle.nbd_wire.specs.Prelude.{Core, in_force, start, start_of, has_id, are_settled, is_allocation};
     ghost use Rattle.std.specs.Prelude.{ℕ, Bool, ◌≡◌, ◌==◌, length, not};
-    ghost use Rattle.nbd_wire.specs.protocol.Contexts.{has_id};
-    ghost use Rattle.nbd_wire.specs.protocol.Statuses.{are_settled, is_allocation};
     ghost use Rattle.nbd_state.specs.Shows.{Shows, TellsThese};
     ghost use Rattle.nbd_laws.specs.Soundness.{IsSoundReport};
     ghost use Rattle.nbd_state.specs.Transcripts.{export_of, transcript_report};
@@ -134,11 +131,12 @@ impl State {
 
     /// Whether each metadata context in force is settled, or is the one with this id. The cost is the number of contexts
     /// that the request asks, times the logarithm of the number in force.
-    pub fn are_told(&self, told: &Telling, id: Option<u32>) -> bool
+    pub fn are_told(&self, exchange: &Exchange, id: Option<u32>) -> bool
         ensures { (core : Core) (settled : ℕ → Bool) → Shows self.now core →
-            TellsThese settled (in_force core) told.now id → result ≡ are_settled settled (in_force core) }
+            TellsThese settled (in_force core) exchange.now.asked.pieces.told id →
+            result ≡ are_settled settled (in_force core) }
     {
-        !self.brings_contexts || self.selection.are_told(told, id)
+        !self.brings_contexts || self.selection.are_told(exchange.asked.pieces.told(), id)
     }
 
     /// What a session that ends here states: its export, if it reached transmission, and its numbered

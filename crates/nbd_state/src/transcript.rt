@@ -2,7 +2,7 @@
 
 ghost use Rattle.std.specs.Prelude.{◌≡◌, length};
 ghost use Rattle.std.specs.Option.{option_copied};
-ghost use Rattle.nbd_wire.specs.protocol.Reports.{asked_at};
+ghost use Rattle.nbd_wire.specs.Prelude.{asked_at};
 ghost use Rattle.nbd_laws.specs.Soundness.{IsSoundReport};
 ghost use Rattle.nbd_state.specs.Transcripts.{size_and_flags, report_of_request_if};
 
@@ -20,7 +20,7 @@ pub struct Transcript {
 }
 
 impl Model for Transcript {
-    ghost use Rattle.nbd_wire.specs.protocol.Reports.{Report};
+    ghost use Rattle.nbd_wire.specs.Prelude.{Report};
     ghost use Rattle.nbd_laws.specs.Soundness.{IsSoundReport};
     ghost use Rattle.nbd_state.specs.Transcripts.{transcript_report};
 

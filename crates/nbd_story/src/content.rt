@@ -62,7 +62,7 @@ impl Text {
         self,
         number: u64,
         offset: u64,
-        compared: &Compared,
+        compared: &Compared<'_>,
         sources: &Sources<'_>,
     ) -> Text {
         let came = found_byte(number, offset, sources.story);
@@ -135,7 +135,7 @@ impl Text {
     }
 
     // The byte that the export held at an offset when an entry was reached, and whose change that was, where it is known.
-    fn expected(self, compared: &Compared, offset: u64, sources: &Sources<'_>) -> Text {
+    fn expected(self, compared: &Compared<'_>, offset: u64, sources: &Sources<'_>) -> Text {
         let Some(byte) = byte_at(&compared.held, offset) else {
             return self;
         };

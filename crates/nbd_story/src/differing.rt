@@ -1,9 +1,9 @@
 //! How many bytes of a READ are wrong, or of those that a BLOCK_STATUS called zero, and the first of them.
 
 use crate::explanation::Sources;
-use crate::layers::byte_at;
+use crate::layers::{Brought, byte_at, first_of};
 use crate::text::Text;
-use crate::told::{between, end_of};
+use crate::told::{between, end_of, has_offset};
 use nbd_export::{Contents, Extents, HeldPart};
 use nbd_wire::{Entry, Part};
 use std::alloc::AllocError;
@@ -13,20 +13,24 @@ const SHOWN: u64 = 16;
 
 /// What an entry of an order serves of a READ or a BLOCK_STATUS.
 #[derive(Drop)]
-pub struct Compared {
+pub struct Compared<'a> {
     /// The place of the entry.
     pub place: usize,
     is_status: bool,
     part: Part,
     /// What the export held of it before.
     pub held: Extents,
-    /// What the READ got, or the BLOCK_STATUS called zero.
-    got: Extents,
+    /// What the READ got of it, or the BLOCK_STATUS called zero.
+    got: Vec<Brought<'a>>,
 }
 
-impl Compared {
+impl<'a> Compared<'a> {
     /// What the entry at this place of the order serves.
-    pub fn of(place: usize, entry: &Entry, sources: &Sources<'_>) -> Result<Compared, AllocError> {
+    pub fn of(
+        place: usize,
+        entry: &Entry,
+        sources: &Sources<'a>,
+    ) -> Result<Compared<'a>, AllocError> {
         let request = sources.story.request(entry.request);
         let inside = request.inside(sources.story.export.size);
         let part = entry.part.unwrap_or(inside);
@@ -47,19 +51,20 @@ impl Compared {
             first: 0,
             last: 0,
         };
-        let end = end_of(self.part).min(self.held.size()).min(self.got.size());
-        let mut at = self.part.offset;
-        for _ in 0..self.part.length {
-            if at >= end {
-                break;
-            }
-            let (held, held_end) = self.held.part_at(at);
-            let (got, got_end) = self.got.part_at(at);
-            let next = held_end.min(got_end).min(end);
-            differing.compare(between(at, next), got, held);
-            at = next;
+        for one in &self.got {
+            differing.hold(one, &self.held);
         }
         differing
+    }
+
+    // The byte that came for an offset, if one did.
+    fn came_at(&self, offset: u64) -> Option<u8> {
+        for one in &self.got {
+            if has_offset(one.part, offset) {
+                return first_of(one.from(offset));
+            }
+        }
+        None
     }
 }
 
@@ -74,6 +79,21 @@ struct Differing {
 }
 
 impl Differing {
+    // Adds those of a part that came at which that is not what was held.
+    fn hold(&mut self, came: &Brought<'_>, held: &Extents) {
+        let end = end_of(came.part).min(held.size());
+        let mut at = came.part.offset;
+        for _ in 0..came.part.length {
+            if at >= end {
+                break;
+            }
+            let (there, next) = held.part_at(at);
+            let next = next.min(end);
+            self.compare(between(at, next), came.from(at), there);
+            at = next;
+        }
+    }
+
     // Adds those of a part at which what came is not what was held, where both are known.
     fn compare(&mut self, part: Part, got: HeldPart<'_>, held: HeldPart<'_>) {
         if let Some(bytes) = known(got, part) {
@@ -89,10 +109,13 @@ impl Differing {
         for index in 0..bytes.len().max(others.len()) {
             let byte = bytes.get(index).copied().unwrap_or(0);
             if byte != others.get(index).copied().unwrap_or(0) {
-                self.last = offset.saturating_add(index as u64);
-                if self.count == 0 {
-                    self.first = self.last;
-                }
+                let at = offset.saturating_add(index as u64);
+                self.first = if self.count == 0 {
+                    at
+                } else {
+                    at.min(self.first)
+                };
+                self.last = at.max(self.last);
                 self.count = self.count.saturating_add(1);
             }
         }
@@ -110,7 +133,7 @@ fn known(held: HeldPart<'_>, part: Part) -> Option<&[u8]> {
 
 impl Text {
     /// Adds how many bytes are wrong that a READ got, or that a BLOCK_STATUS called zero, and the first of them.
-    pub fn differing(self, compared: &Compared) -> Text {
+    pub fn differing(self, compared: &Compared<'_>) -> Text {
         let found = compared.differing();
         let rest = end_of(compared.part).saturating_sub(found.first);
         let shown = Part {
@@ -132,16 +155,21 @@ impl Text {
             .say(among)
             .fill(places, &[found.first, found.last, found.first])
             .say(came)
-            .row(shown, &compared.got)
+            .row(shown, compared, true)
             .say("  expected")
-            .row(shown, &compared.held)
+            .row(shown, compared, false)
     }
 
-    // The bytes of a part, and two points for one that is not known.
-    fn row(self, part: Part, contents: &Extents) -> Text {
+    // The bytes of a part that came, or those that were held, and two points for one that is not known.
+    fn row(self, part: Part, compared: &Compared<'_>, is_came: bool) -> Text {
         let mut text = self;
         for offset in part.offset..end_of(part) {
-            text = text.byte_or(byte_at(contents, offset), " {:02x}", " ..");
+            let byte = if is_came {
+                compared.came_at(offset)
+            } else {
+                byte_at(&compared.held, offset)
+            };
+            text = text.byte_or(byte, " {:02x}", " ..");
         }
         text.end()
     }

@@ -4,8 +4,7 @@ use crate::rules::{IMAGE_RULE, Rule};
 use crate::story::Story;
 use crate::text::Text;
 use nbd_export::Start;
-use nbd_judge::Verdict;
-use nbd_wire::{Entry, Profile};
+use nbd_wire::{Entry, Profile, Verdict};
 use std::alloc::{AllocError, Global};
 
 /// What an explanation looks at.

@@ -10,6 +10,26 @@ use nbd_wire::{Part, Side, commands};
 use std::alloc::AllocError;
 use std::rc::Rc;
 
+/// A part of the export, and what a request got of it.
+#[derive(Clone, Copy)]
+pub struct Brought<'a> {
+    pub part: Part,
+    held: HeldPart<'a>,
+}
+
+impl<'a> Brought<'a> {
+    /// The same from an offset of the part on.
+    pub fn from(&self, offset: u64) -> HeldPart<'a> {
+        match self.held {
+            HeldPart::Bytes(bytes) => {
+                let skipped = offset.saturating_sub(self.part.offset) as usize;
+                HeldPart::Bytes(bytes.get(skipped..).unwrap_or(&[]))
+            }
+            held => held,
+        }
+    }
+}
+
 impl Story {
     // An export of which nothing is known, as large as can be.
     fn unknown(&self) -> Result<Extents, AllocError> {
@@ -31,55 +51,50 @@ impl Story {
 
     /// The byte that a change left at an offset, where that is known.
     pub fn byte_by(&self, change: &Request, offset: u64) -> Option<u8> {
-        match self.left_in(Part { offset, length: 1 }, change) {
-            HeldPart::Unknown => None,
-            HeldPart::Zeroes => Some(0),
-            HeldPart::Bytes(bytes) => bytes.first().copied(),
-        }
+        first_of(self.left_in(Part { offset, length: 1 }, change))
     }
 
-    /// What the request with this number got for a part, or called zero of it.
-    pub fn got(&self, number: u64, part: Part) -> Result<Extents, AllocError> {
-        let mut got = self.unknown()?;
-        self.lay_reply(&mut got, number, part)?;
-        Ok(got)
+    // What a message brings of a part.
+    fn brought(&self, part: Part, told: &Told) -> Brought<'_> {
+        let part = common(told.part, part);
+        let before = told.before_last(end_of(told.part).saturating_sub(part.offset));
+        let held = if told.is_hole() {
+            HeldPart::Zeroes
+        } else {
+            HeldPart::Bytes(self.recording.bytes_at(Side::Server, before, part.length))
+        };
+        Brought { part, held }
     }
 
-    // Lays that over what is not known.
-    fn lay_reply(&self, got: &mut Extents, number: u64, part: Part) -> Result<(), AllocError> {
+    /// What the request with this number got of a part, or called zero of it, in the order of its reply.
+    pub fn got(&self, number: u64, part: Part) -> Result<Vec<Brought<'_>>, AllocError> {
+        let mut got = Vec::new(self.alloc());
         let status = self.zeroes_of(number);
         let mut one = NO_DESCRIPTOR;
         for _ in 0..status.count() {
             one = status.after(&one);
-            let zero = common(status.called_zero(&one), part);
-            lay(got, zero, HeldPart::Zeroes)?;
+            got.push(Brought {
+                part: common(status.called_zero(&one), part),
+                held: HeldPart::Zeroes,
+            })?;
         }
         for told in &self.told {
             if told.answers(number) {
-                self.lay_content(got, part, told)?;
+                got.push(self.brought(part, told))?;
             }
         }
-        Ok(())
-    }
-
-    // Lays what a message brings of a part over what came before.
-    fn lay_content(&self, got: &mut Extents, part: Part, told: &Told) -> Result<(), AllocError> {
-        let content = common(told.part, part);
-        if told.is_hole() {
-            return lay(got, content, HeldPart::Zeroes);
-        }
-        let before = told.before_last(end_of(told.part).saturating_sub(content.offset));
-        let bytes = self
-            .recording
-            .bytes_at(Side::Server, before, content.length);
-        lay(got, content, HeldPart::Bytes(bytes))
+        Ok(got)
     }
 
     /// The first bytes of a READ that its reply does not bring, with the refused chunk.
     pub fn unread(&self, chunk: &Told, read: &Request) -> Result<Part, AllocError> {
         let mut got = self.got(chunk.number, read.range())?;
-        let laid = self.lay_content(&mut got, read.range(), chunk);
-        laid.and(Ok(gap(&got, read.range())))
+        got.push(self.brought(read.range(), chunk))?;
+        let mut brought = self.unknown()?;
+        for one in &got {
+            lay(&mut brought, one.part, HeldPart::Zeroes)?;
+        }
+        Ok(gap(&brought, read.range()))
     }
 }
 
@@ -179,6 +194,15 @@ fn gap(contents: &Extents, part: Part) -> Part {
         at = next;
     }
     EMPTY
+}
+
+/// The first byte of what is held, where it is known.
+pub fn first_of(held: HeldPart<'_>) -> Option<u8> {
+    match held {
+        HeldPart::Unknown => None,
+        HeldPart::Zeroes => Some(0),
+        HeldPart::Bytes(bytes) => bytes.first().copied(),
+    }
 }
 
 /// The byte of contents at an offset, where it is known.

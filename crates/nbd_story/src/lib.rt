@@ -31,5 +31,5 @@ pub use recording::Recording;
 pub use refutation::Contest;
 pub use rules::{Breaker, Rule, order_rule, wire_rule};
 pub use story::Story;
-pub use text::{BEGUN, DIGITS, ENDED, NAMED, Text};
+pub use text::Text;
 pub use told::Told;

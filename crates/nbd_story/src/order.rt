@@ -5,8 +5,7 @@ use crate::rules::order_rule;
 use crate::story::Story;
 use crate::text::Text;
 use crate::told::{Request, common, has_offset, meet, outside, part_in};
-use nbd_judge::OrderFault;
-use nbd_wire::{Entry, Part, Profile};
+use nbd_wire::{Entry, OrderFault, Part, Profile};
 use std::alloc::AllocError;
 
 /// Where a fault may be none.

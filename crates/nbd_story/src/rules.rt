@@ -4,8 +4,7 @@ ghost use Rattle.std.specs.Prelude.{◌≡◌};
 ghost use Rattle.nbd_story.specs.Breakers.{breaker_of};
 ghost use Rattle.nbd_story.specs.declared.rules.Breaker.TheVariants.{Order};
 
-use nbd_judge::OrderFault;
-use nbd_wire::WireFault;
+use nbd_wire::{OrderFault, WireFault};
 
 /// Who broke a rule.
 #[derive(Clone, Copy, Drop)]

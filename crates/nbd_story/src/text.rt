@@ -1,20 +1,12 @@
 //! The text that is being written: words, numbers with their names, places and flags.
 
 use crate::recording::Recording;
+use nbd_json::{BEGUN, DIGITS, ENDED, NAMED};
 use nbd_wire::flags::has_wide;
 use nbd_wire::names::{ERRORS, Name, name_in};
 use nbd_wire::{Part, Side, flag_names, place_before};
 use std::alloc::{AllocError, Global};
 use std::fmt::Write;
-
-/// What stands before the name of a number, then where it is told in hexadecimal, behind the name, and behind the number.
-pub const BEGUN: &str = "\x01";
-
-pub const DIGITS: &str = "\x02";
-
-pub const NAMED: &str = "\x03";
-
-pub const ENDED: &str = "\x04";
 
 /// How many bytes are shown before a place, and behind it.
 const AROUND: u64 = 16;

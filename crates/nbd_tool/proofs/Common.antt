@@ -23,8 +23,8 @@ pub use Rattle.nbd_judge.proofs.verdicts.RefusalLemmas.{answers_exactly}
 pub use Rattle.nbd_judge.proofs.verdicts.UniqueLemmas.{one_answer}
 pub use Rattle.nbd_judge.specs.Captures.{IsChecked, IsFaultOf}
 pub use Rattle.nbd_judge.specs.Conclusions.{Answers, IsConclusion, IsReportOf}
-pub use Rattle.nbd_judge.specs.declared.verdict.Verdict.{Verdict}
-pub use Rattle.nbd_judge.specs.declared.verdict.Verdict.TheVariants.{Content, Order, Status, Yes}
+pub use Rattle.nbd_wire.specs.declared.verdict.Verdict.{Verdict}
+pub use Rattle.nbd_wire.specs.declared.verdict.Verdict.TheVariants.{Content, Order, Status, Yes}
 pub use Rattle.nbd_judge.specs.internal.Captures.{HasReport}
 pub use Rattle.nbd_session.proofs.judge.PieceLemmas.{kept_taken}
 pub use Rattle.nbd_session.specs.Following.{Follows, IsPushed, past_of}

@@ -1,6 +1,6 @@
 -- What a line that begins with `yes` says.
 use Rattle.nbd_tool.proofs.Common.{◌≡◌, ℕ, List, [], ◌∷◌, ◌++◌, refl, sym, ◌∙◌, ap, append_assoc, append-nil, codes, arith, Option, Some, None, ◌⊎◌, inl, inr, Bool, Result, Ok, Err, IfErr, IfOk, IsTrue, OnOk, ◌↔◌, append_cancel_left, Appends, Keeps, Chunk, IsCaptureText, IsOrderText, AppendsPrefix, Entry, Profile, IsExplainedOf, Start, Verdict, Yes, Order, Content, Status, answers_exactly, AnswersExactly, IsVerdictOn, SaysYes, Tells, flat_of, RunFault, Memory, Write, IsYes, line}
-use Rattle.nbd_judge.specs.declared.verdict.Verdict.TheVariants.{Wire, Image}
+use Rattle.nbd_wire.specs.declared.verdict.Verdict.TheVariants.{Wire, Image}
 use Rattle.nbd_judge.specs.Captures as judge
 
 abbrev IsExplainedOn : Profile → (text order_text : List ℕ) → Start → Type 0

@@ -1,7 +1,6 @@
 -- What of an image is kept.
 use Rattle.std.specs.Prelude.{ℕ, List, ◌≡◌, ◌<◌, Option, IfSome, Result, Ok, Err, length}
-use Rattle.nbd_wire.specs.protocol.Explains.{Start, image}
-use Rattle.nbd_wire.specs.protocol.Reports.{Report}
+use Rattle.nbd_wire.specs.Prelude.{Start, image, Report}
 use Rattle.nbd_session.specs.declared.fault.SessionFault.{SessionFault}
 use Rattle.nbd_judge.specs.Beginnings.{initial_of}
 use Rattle.nbd_judge.specs.Servable.{size_of}

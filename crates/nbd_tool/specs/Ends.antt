@@ -2,15 +2,14 @@
 use Rattle.std.specs.Prelude.{◌≡◌, ℕ, List, [], ◌++◌, Bool, true, false, Option, Some, None, IfSome, Result, IfOk, IfErr, codes}
 use Rattle.std.specs.Io.KnownBytes.{Keeps}
 use Rattle.nbd_wire.specs.declared.profile.Profile.{Profile}
-use Rattle.nbd_wire.specs.protocol.Captures.{Pair}
-use Rattle.nbd_wire.specs.protocol.Reports.{Report}
+use Rattle.nbd_wire.specs.Prelude.{Pair, Report}
 use Rattle.nbd_capture.specs.Capture.{Chunk, IsCaptureText}
 use Rattle.nbd_capture.specs.Writing.{AppendsPrefix}
 use Rattle.nbd_session.specs.declared.fault.SessionFault.{SessionFault}
 use Rattle.nbd_session.specs.declared.fault.SessionFault.TheVariants as session
 use Rattle.nbd_session.specs.Refusals.{EndsIn, Refuses}
 use Rattle.nbd_session.specs.Sessions.{IsReported, SessionView, bytes_taken, fault_at_end, fault_of, pairs_of}
-use Rattle.nbd_judge.specs.declared.verdict.Verdict.TheVariants.{Wire}
+use Rattle.nbd_wire.specs.declared.verdict.Verdict.TheVariants.{Wire}
 use Rattle.nbd_files.specs.declared.fault.RunFault.{RunFault}
 use Rattle.nbd_files.specs.declared.fault.RunFault.TheVariants.{Write, Memory}
 use Rattle.nbd_tool.specs.Runs.{flat_of}

@@ -2,15 +2,14 @@
 use Rattle.std.specs.Prelude.{◌≡◌, ◌↔◌, ℕ, List, ◌++◌, Option, Some, IfSome, IsTrue, Bool, codes, map}
 use Rattle.nbd_wire.specs.declared.entry.Entry.{Entry}
 use Rattle.nbd_wire.specs.declared.profile.Profile.{Profile}
-use Rattle.nbd_wire.specs.protocol.Explains.{IsExplainedOf, Start}
-use Rattle.nbd_wire.specs.protocol.Captures.{Pair, flat}
+use Rattle.nbd_wire.specs.Prelude.{IsExplainedOf, Start, Pair, flat}
 use Rattle.std.specs.Io.KnownBytes.{Appends, Keeps}
 use Rattle.nbd_capture.specs.Capture.{Chunk, IsCaptureText, IsFirstBadCaptureLine}
 use Rattle.nbd_capture.specs.Contents.{IsFirstBadContentsLine}
 use Rattle.nbd_capture.specs.Order.{IsOrderText, IsFirstBadOrderLine}
 use Rattle.nbd_files.specs.declared.fault.RunFault.{RunFault}
 use Rattle.nbd_files.specs.declared.fault.RunFault.TheVariants.{CaptureLine, CaptureRead, ContentsLine, ContentsRead, OrderLine, OrderRead, Write, Memory}
-use Rattle.nbd_judge.specs.declared.verdict.Verdict.{Verdict}
+use Rattle.nbd_wire.specs.declared.verdict.Verdict.{Verdict}
 use Rattle.nbd_judge.specs.Captures.{IsChecked}
 use Rattle.nbd_capture.specs.Writing.{AppendsPrefix}
 use Rattle.nbd_files.specs.declared.start.StartFrom.{StartFrom}

@@ -1,8 +1,8 @@
 -- Each run of `check` has one line to write.
 use Rattle.std.specs.Prelude.{◌≡◌, ℕ, List, Some}
 use Rattle.nbd_wire.specs.declared.profile.Profile.{Profile}
-use Rattle.nbd_wire.specs.protocol.Explains.{Start}
-use Rattle.nbd_judge.specs.declared.verdict.Verdict.{Verdict}
+use Rattle.nbd_wire.specs.Prelude.{Start}
+use Rattle.nbd_wire.specs.declared.verdict.Verdict.{Verdict}
 use Rattle.nbd_tool.specs.Runs.{IsVerdictOn}
 
 -- in a profile a capture text, an order text and a start have one verdict at most, and so one line

@@ -2,7 +2,7 @@
 
 ghost use Rattle.std.specs.Prelude.{◌≡◌, ◌+◌, ◌<◌, ◌^◌, ◌++◌, [], List, IfErr, IfOk, OnOk, length};
 ghost use Rattle.nbd_wire.specs.declared.profile.Profile.{Profile};
-ghost use Rattle.nbd_wire.specs.protocol.Captures.{Pair, side_pairs};
+ghost use Rattle.nbd_wire.specs.Prelude.{Pair, side_pairs};
 ghost use Rattle.nbd_capture.specs.Reading.{at_start};
 ghost use Rattle.nbd_files.specs.declared.input.TheConstants.{READ_LIMIT};
 ghost use Rattle.nbd_tool.specs.Runs.{IsCaptureCause};

@@ -5,7 +5,7 @@ ghost use Rattle.nbd_session.specs.declared.fault.SessionFault.TheVariants.{Memo
 ghost use Rattle.nbd_tool.specs.Ends.{IsOver};
 ghost use Rattle.nbd_tool.specs.internal.Intakes.{IsFollowing};
 ghost use Rattle.nbd_wire.specs.declared.profile.Profile.{Profile};
-ghost use Rattle.nbd_wire.specs.protocol.Captures.{Pair, side_pairs};
+ghost use Rattle.nbd_wire.specs.Prelude.{Pair, side_pairs};
 
 use nbd_session::{Monitor, Session, SessionFault};
 use nbd_wire::{Message, Side};

@@ -18,9 +18,9 @@ pub mod Options
 pub mod Tests
 pub mod Negotiation
 pub mod Transmission
+pub mod Decisions
 pub mod Rules
 pub mod Within
-pub mod Decisions
 pub mod Reading
 pub mod Places
 pub mod Reports

@@ -1,4 +1,5 @@
-//! The messages of the NBD protocol as bytes: their numbers, their heads and their payloads.
+//! The messages of the NBD protocol as bytes: their numbers, their heads and their payloads; and the entries of an order of service,
+//! faults and verdicts as values.
 //!
 //! Nothing here knows a session. Layouts are those of the NBD project's doc/proto.md.
 #![tactic(auto)]
@@ -35,6 +36,7 @@ pub mod sides;
 pub mod sizes;
 pub mod states;
 pub mod transmission;
+pub mod verdict;
 
 pub use bytes::Bytes;
 pub use chunk_payloads::{content_of, failure_of, first_extent, read_as, status_ext_of, status_of};
@@ -56,3 +58,4 @@ pub use places::{bytes_in, place_before};
 pub use profile::Profile;
 pub use sides::{carries_payload, fits, side_of};
 pub use sizes::{Sizes, Sizing, asks_sizes, breaks_sizes, sizes_for, sizes_of};
+pub use verdict::{OrderFault, Verdict};

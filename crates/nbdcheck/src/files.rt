@@ -1,12 +1,16 @@
 //! What is written of the files of a run.
 
+ghost use Rattle.std.specs.Prelude.{◌≡◌, ◌⊎◌, Err, IfErr, IfOk, Ok};
+ghost use Rattle.nbd_files.specs.declared.fault.RunFault.TheVariants.{Memory, Write};
+
 use nbd_explain::{
-    Answer, Lines, Objects, Ordered, run_arrival_of, run_contents, run_explain_of, run_lint,
-    run_names_of, run_order_of, run_show_of, write_rules,
+    Answer, Ordered, run_arrival_of, run_contents, run_explain_of, run_lint, run_names_of,
+    run_order_of, run_show_of, write_rules,
 };
 use nbd_files::{
     Files, FinalWriter, Opener, RunFault, StartFrom, open_inputs, open_start, terminal,
 };
+use nbd_json::{Lines, Objects};
 use nbd_lines::run_make;
 use nbd_search::Progress;
 use nbd_tool::check_files;
@@ -26,7 +30,7 @@ pub fn check_inputs(files: &mut Files<'_>, asked: &Asked<'_>) -> Result<bool, Ru
     if asked.is_json {
         let mut out = Objects::new(rt.alloc(), buffered(rt)?, Lines::Others);
         let answer = check_into(files, asked, &mut out);
-        out.end(answer)
+        ended(&mut out, answer)
     } else {
         check_into(files, asked, &mut io::writer(rt))
     }
@@ -39,6 +43,21 @@ fn check_into<W: Write>(
 ) -> Result<bool, RunFault> {
     let order = asked.order.unwrap_or("");
     check_files(files, asked.profile, asked.input, order, asked.start, out)
+}
+
+// The answer of what wrote the lines of objects, once all that is buffered is written; where memory was refused for an object, that.
+fn ended<W: Write, A: Drop>(
+    out: &mut Objects<W>,
+    answer: Result<A, RunFault>,
+) -> Result<A, RunFault>
+    ensures answer { IfOk result (λ given. answer ≡ Ok given) }
+    ensures fault { IfErr result (λ fault. (answer ≡ Err fault) ⊎ (fault ≡ Write) ⊎ (fault ≡ Memory)) }
+{
+    match answer {
+        Ok(_) if out.flush().is_err() => Err(RunFault::Write),
+        Err(_) if out.is_refused() => Err(RunFault::Memory),
+        answer => answer,
+    }
 }
 
 // Standard output, of which all is written when it is flushed.
@@ -86,7 +105,7 @@ fn explain_over(
     if asked.is_json {
         let mut out = Objects::new(rt.alloc(), buffered(rt)?, Lines::Others);
         let answer = explain_into(rt, asked, capture, order, start, &mut out);
-        out.end(answer)
+        ended(&mut out, answer)
     } else {
         explain_into(rt, asked, capture, order, start, &mut io::writer(rt))
     }
@@ -122,7 +141,7 @@ pub fn order_files(files: &mut Files<'_>, asked: &Asked<'_>) -> Result<Ordered, 
     if asked.is_json {
         let mut out = Objects::new(rt.alloc(), buffered(rt)?, Lines::Others);
         let answer = order_into(files, asked, &mut out);
-        out.end(answer)
+        ended(&mut out, answer)
     } else {
         order_into(files, asked, &mut io::writer(rt))
     }
@@ -153,7 +172,7 @@ pub fn contents_files(files: &mut Files<'_>, asked: &Asked<'_>) -> Result<bool, 
     if asked.is_json {
         let mut out = Objects::new(files.rt.alloc(), out, Lines::Others);
         let answer = contents_into(files, asked, &mut out);
-        return out.end(answer);
+        return ended(&mut out, answer);
     }
     let is_yes = contents_into(files, asked, &mut out)?;
     flushed(&mut out, is_yes)
@@ -243,7 +262,7 @@ fn write_buffered(
     if is_json {
         let mut out = Objects::new(rt.alloc(), out, lines_of(output));
         let answer = write_to(rt.alloc(), input, output, true, &mut out);
-        return out.end(answer);
+        return ended(&mut out, answer);
     }
     let is_accepted = write_to(rt.alloc(), input, output, false, &mut out)?;
     flushed(&mut out, is_accepted)

@@ -1,6 +1,6 @@
 -- How bytes compare with an image, step by step, on the way to the line of it.
 use Rattle.std.specs.Prelude.{◌≡◌, ℕ, List, Bool, true, false, Option, count_by, is_none, is_some, length}
-use Rattle.nbd_wire.specs.protocol.Orders.{IsFirst}
+use Rattle.nbd_wire.specs.Prelude.{IsFirst}
 use Rattle.nbd_export.specs.declared.extents.Extents.{Extents}
 use Rattle.nbd_export.specs.Extents.{byte_of}
 use Rattle.nbd_export.specs.Held.{Held}

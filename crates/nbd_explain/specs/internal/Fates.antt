@@ -6,8 +6,7 @@ use Rattle.std.specs.Ordering.{nat_cmp}
 use Rattle.nbd_wire.specs.declared.commands.TheConstants as commands
 use Rattle.nbd_wire.specs.declared.message.Message.{Message}
 use Rattle.nbd_wire.specs.declared.message.Message.TheVariants.{Request, ExtendedRequest}
-use Rattle.nbd_wire.specs.protocol.Operations.{any, ends_reply, is_failing}
-use Rattle.nbd_wire.specs.protocol.Rules.{cookie_of}
+use Rattle.nbd_wire.specs.Prelude.{any, ends_reply, is_failing, cookie_of}
 use Rattle.nbd_state.specs.Showing.{outcome_of}
 use Rattle.nbd_state.specs.declared.asked.Outcome.{Outcome}
 use Rattle.nbd_state.specs.declared.asked.Outcome.TheVariants.{Failure, Pending, Success}

@@ -5,14 +5,12 @@ use Rattle.std.specs.declared.alloc.Global.{Global}
 use Rattle.std.specs.declared.vec.Vec.{Vec}
 use Rattle.nbd_wire.specs.declared.entry.Entry.{Entry}
 use Rattle.nbd_wire.specs.declared.profile.Profile.{Profile}
-use Rattle.nbd_wire.specs.protocol.Captures.{Pair}
-use Rattle.nbd_wire.specs.protocol.Explains.{Start}
-use Rattle.nbd_wire.specs.protocol.Reports.{Report}
+use Rattle.nbd_wire.specs.Prelude.{Pair, Start, Report}
 use Rattle.nbd_capture.specs.Capture.{Chunk, IsCaptureText}
 use Rattle.nbd_export.specs.Held.{held}
 use Rattle.nbd_session.specs.declared.fault.SessionFault.{SessionFault}
 use Rattle.nbd_session.specs.declared.fault.SessionFault.TheVariants as session
-use Rattle.nbd_judge.specs.declared.verdict.Verdict.TheVariants.{Wire}
+use Rattle.nbd_wire.specs.declared.verdict.Verdict.TheVariants.{Wire}
 use Rattle.nbd_order.specs.Leaving.{IsLeft}
 use Rattle.nbd_order.specs.Sure.{IsLeftByEach}
 use Rattle.nbd_order.specs.declared.leaving.Left.{Left}

@@ -2,15 +2,12 @@
 use Rattle.std.specs.Prelude.{◌≡◌, ℕ, List, ◌++◌, Option, Some, None, Result, Ok, Err}
 use Rattle.std.specs.Io.KnownBytes.{Appends}
 use Rattle.nbd_wire.specs.declared.profile.Profile.{Profile}
-use Rattle.nbd_wire.specs.protocol.Explains.{Start}
-use Rattle.nbd_wire.specs.protocol.Marks.{Item, pairs}
-use Rattle.nbd_wire.specs.protocol.Reports.{Report, report}
-use Rattle.nbd_wire.specs.protocol.Rules.{IsRunOf}
+use Rattle.nbd_wire.specs.Prelude.{Start, Item, pairs, Report, report, IsRunOf}
 use Rattle.nbd_session.specs.declared.fault.SessionFault.{SessionFault}
 use Rattle.nbd_session.specs.declared.fault.SessionFault.TheVariants.{Memory, Wire}
 use Rattle.nbd_judge.specs.Conclusions.{Answers, IsConclusion, IsReportOf}
-use Rattle.nbd_judge.specs.declared.verdict.Verdict.{Verdict}
-use Rattle.nbd_judge.specs.declared.verdict.Verdict.TheVariants as verdict
+use Rattle.nbd_wire.specs.declared.verdict.Verdict.{Verdict}
+use Rattle.nbd_wire.specs.declared.verdict.Verdict.TheVariants as verdict
 use Rattle.nbd_judge.specs.Servable.{size_of}
 use Rattle.nbd_order.specs.Finding.{IsFound, IsWanted, Says}
 use Rattle.nbd_order.specs.declared.finding.Found.{Found}

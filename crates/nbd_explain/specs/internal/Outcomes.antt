@@ -2,14 +2,11 @@
 use Rattle.std.specs.Prelude.{◌≡◌, ℕ, List, Option, Result, Ok, Err}
 use Rattle.nbd_wire.specs.declared.fault.WireFault.{WireFault}
 use Rattle.nbd_wire.specs.declared.profile.Profile.{Profile}
-use Rattle.nbd_wire.specs.protocol.Explains.{Start}
-use Rattle.nbd_wire.specs.protocol.Marks.{Item}
-use Rattle.nbd_wire.specs.protocol.Reports.{Report, report}
-use Rattle.nbd_wire.specs.protocol.Rules.{IsRunOf}
+use Rattle.nbd_wire.specs.Prelude.{Start, Item, Report, report, IsRunOf}
 use Rattle.nbd_session.specs.declared.fault.SessionFault.{SessionFault}
 use Rattle.nbd_session.specs.declared.fault.SessionFault.TheVariants.{Wire}
 use Rattle.nbd_judge.specs.Servable.{size_of}
-use Rattle.nbd_judge.specs.declared.verdict.Verdict.TheVariants as verdict
+use Rattle.nbd_wire.specs.declared.verdict.Verdict.TheVariants as verdict
 use Rattle.nbd_order.specs.Finding.{IsFound, IsWanted, Says}
 use Rattle.nbd_order.specs.declared.finding.Found.{Found}
 use Rattle.nbd_order.specs.declared.finding.Wanted.{Wanted}

@@ -1,11 +1,11 @@
 -- A verdict depends on the bytes at first only below the export's size.
 use Rattle.nbd_judge.proofs.Common.{◌≡◌, ℕ, ◌+◌, ◌<◌, ◌≤◌, List, refl, sym, ◌∙◌, ap, arith, Option, Some, None, Result, Ok, Err, IfOk, take, subst, inl, inr, ◌⊎◌, and_parts, Profile, Entry, Part, in_part, is_in, Effect, IsWrong, IsWrongIn, effect, effect_if, effects, last_touch, byte_or_start, byte_before, FitsImage, Start, start_byte, Asked, Report, asked_at, Exporting, AreSameBelow, IsSoundReport, size_and_flags, Verdict, given_length, initial_of, size_of, HasWrongFrom, IsJudged, IsVerdict, FirstWrongFrom}
 use Rattle.nbd_wire.specs.declared.commands.TheConstants as commands
-use Rattle.nbd_wire.specs.protocol.Explains.{Held, known}
+use Rattle.nbd_wire.specs.Prelude.{Held, known}
 use Rattle.nbd_export.specs.Starts as contents
 use Rattle.nbd_export.specs.declared.start.Start as contents_start
 use Rattle.nbd_export.specs.declared.start.Start.TheVariants as contents_starts
-use Rattle.nbd_judge.specs.declared.verdict.Verdict.TheVariants as verdict
+use Rattle.nbd_wire.specs.declared.verdict.Verdict.TheVariants as verdict
 use Rattle.std.specs.Prelude.{[], ◌∷◌, zero, suc, map, slice_get}
 use Rattle.std.proofs.lemmas.List.{length-map}
 use Rattle.nbd_export.specs.Extents.{byte_of, size_of as extent_size}

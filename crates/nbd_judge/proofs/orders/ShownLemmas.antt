@@ -96,8 +96,8 @@ module _ (ws : List Shown) (span : Span) (i : ℕ) (least : Option ℕ) (before 
         (least_lesser (ShownBefore ws span i) (λ n. n ≡ s.count) least (Some s.count) before (refl, λ m l q. omega (arith, l, q)))
 
 -- what of a READ was shown
-pub read_shows : (a : Asked) → a.command ≡ commands.READ → with_counts a.pieces.items a.shown.items ≡ shown_in a
-read_shows a e = ap (λ c. if c == commands.READ then with_counts a.pieces.items a.shown.items else []) (sym e)
+pub read_shows : (a : Asked) → a.command ≡ commands.READ → with_counts a.pieces.items a.pieces.counts ≡ shown_in a
+read_shows a e = ap (λ c. if c == commands.READ then with_counts a.pieces.items a.pieces.counts else []) (sym e)
 
 -- what a lookup by index found
 pub looked_up : {A : Type 0} (xs : List A) (i : ℕ) (r : Option (Bor A)) → IsItemAt xs i r → option_copied r ≡ slice_get xs i

@@ -36,13 +36,13 @@ whole_other (d ∷ es) e k ne h = elim h [ inl q ↦ inl q | inr n ↦ inr (whol
 service_other : (s : Service) (span : Span) (before : List Entry) (e : Entry) (k : ℕ) → (e.request ≡ k → ⊥) → IsServiceOf s span before k → IsServiceOf s span (before ++ e ∷ []) k
 service_other Unnamed span before e k ne h = λ n. elim (Names-push_cases before e k n) [ inl a ↦ h a | inr q ↦ ne q ]
 service_other Whole span before e k ne h = NamesWhole-left before (e ∷ []) k h
-service_other (InParts spans left) span before e k ne h = (
+service_other (InParts parts) span before e k ne h = (
   Names-left before (e ∷ []) k h.0,
   record {
     in_parts = λ w. h.1.in_parts (whole_other before e k ne w);
-    index = subst (IsIndex (sizes_of spans)) (sym (parts_other before e k ne)) h.1.index;
+    index = subst (IsIndex (sizes_of parts.value.spans)) (sym (parts_other before e k ne)) h.1.index;
     laid = subst (LieApart span) (sym (parts_other before e k ne)) h.1.laid;
-    count = subst (λ ps. left ≡ span.size - total ps) (sym (parts_other before e k ne)) h.1.count;
+    count = subst (λ ps. parts.value.left ≡ span.size - total ps) (sym (parts_other before e k ne)) h.1.count;
   },
 )
 

@@ -29,11 +29,11 @@ module _ (passing : PassingIsExplained) (only : ExplainedPasses) (faultless : Or
   pub answers_runs : VerdictsAnswerRuns
   answers_runs profile items order initial (Yes a b c) run v = record {
     explained = passing profile items order initial run (record { faultless = v.1.0; fits_image = v.0; reads = v.1.1 });
-    counts = record {
-      requests_are = counted profile request_count items a run v.1.2;
-      answered_are = counted profile answered_count items b run v.1.3;
-      improper_are = counted profile (improper_count profile) items c run v.1.4;
-    };
+    counts = λ other run' e. (
+      counted profile request_count items a run v.1.2 other run' e,
+      counted profile answered_count items b run v.1.3 other run' e,
+      counted profile (improper_count profile) items c run v.1.4 other run' e,
+    );
   }
   answers_runs profile items order initial (Order e p) run v = (
     no_pass profile items order initial run (λ passes. has_fault profile (report items) order e p v.1 passes.faultless),

@@ -1,53 +1,7 @@
 -- A capture in which no answer of success on metadata contexts comes has the same verdict in both profiles.
-use Rattle.nbd_judge.proofs.Common.{◌≡◌, ℕ, zero, suc, ◌<◌, ◌/◌, ◌^◌, List, [], ◌∷◌, ◌++◌, length, replicate, if◌then◌else◌, Bool, true, false, refl, sym, ◌∙◌, ap, subst, inl, inr, arith, mod-lt, bytes_high_first, Entry, WireFault, Message, Greeting, ClientFlags, Choice, Answer, Exported, Request, Simple, Chunk, ExtendedRequest, ExtendedChunk, Side, Client, Server, Profile, ArePairs, Pair, AreBytes, enc, head, tail, Start, Item, pairs, without_service, Report, report, due_in, inside_in, IsRunOf, Obeys, IsSendable, IsPlaceOf, IsUnderWayOf, State, start_of, NothingParts, by_tests, Both, fresh_of, reads, Busy, Idle, Loose, Open, Walk, ended, final, loose, middle, opening, serving, dues_agree, nothing_before, places_agree, runs_agree, under_way_in, pairs_unserved, each_with, FirstLate, HasNoOrderFault, LeastMissing, LeastNotCovered, IsFaultless, improper_count, IsOrderFault, OrderFault, Late, Missing, NotCovered, but_last, places_begin_no_run, read_no_place, walk_of, explained_passes, passing_is_explained, orders_are_faultless, reports_ignore_service, same_reports, IsOpenEndOf, IsRefusalOf, IsWireFaultOf, LeavesOpen, CompletesExactlyOf, completes_exactly, Verdict, Yes, Wire, Image, Order, HasVerdict, Answers, AnswersAtOnceIn, NothingPartsIn, with_improper, VerdictsAgree, IsVerdict}
-use Rattle.std.specs.Int.{byte_at}
-use Rattle.nbd_wire.specs.declared.head_lengths.TheConstants as head_lengths
-use Rattle.nbd_wire.specs.declared.magics.TheConstants as magics
-use Rattle.nbd_wire.specs.protocol.Reading.{get}
+use Rattle.nbd_judge.proofs.Common.{◌≡◌, ℕ, List, [], ◌∷◌, length, refl, sym, ◌∙◌, ap, subst, inl, inr, Entry, WireFault, Message, Side, Client, Server, Profile, ArePairs, Pair, AreBytes, Start, Item, pairs, without_service, Report, report, due_in, inside_in, IsRunOf, Obeys, IsPlaceOf, IsUnderWayOf, State, start_of, NothingParts, Both, fresh_of, reads, Busy, Idle, Loose, Open, Walk, ended, final, loose, middle, opening, serving, dues_agree, nothing_before, places_agree, runs_agree, under_way_in, pairs_unserved, each_with, FirstLate, HasNoOrderFault, LeastMissing, LeastNotCovered, IsFaultless, improper_count, IsOrderFault, OrderFault, Late, Missing, NotCovered, but_last, places_begin_no_run, read_no_place, walk_of, explained_passes, passing_is_explained, orders_are_faultless, reports_ignore_service, same_reports, IsOpenEndOf, IsRefusalOf, IsWireFaultOf, LeavesOpen, CompletesExactlyOf, completes_exactly, Verdict, Yes, Wire, Image, Order, HasVerdict, Answers, AnswersAtOnceIn, NothingPartsIn, with_improper, VerdictsAgree, IsVerdict}
+use Rattle.nbd_wire.specs.Prelude.{get}
 use Rattle.nbd_judge.proofs.verdicts.AnswerLemmas.{answers_runs}
-
-both : (xs ys : List ℕ) → AreBytes xs → AreBytes ys → AreBytes (xs ++ ys)
-both [] ys h k = k
-both (x ∷ xs) ys h k = (h.0, both xs ys h.1 k)
-
-byte_below : (n x : ℕ) → byte_at n x < 256
-byte_below zero x = mod-lt x (omega arith)
-byte_below (suc n) x = mod-lt (x / 256 ^ suc n) (omega arith)
-
-number : (n x : ℕ) → AreBytes (bytes_high_first n x)
-number zero x = tt
-number (suc n) x = (byte_below n x, number n x)
-
-zeroes : (n : ℕ) → AreBytes (replicate n 0)
-zeroes zero = tt
-zeroes (suc n) = (omega arith, zeroes n)
-
-padding : (padded : Bool) (n : ℕ) → AreBytes (if padded then replicate n 0 else [])
-padding true n = zeroes n
-padding false n = tt
-
--- numbers of so many bytes each, and what stands after them
-abbrev laid : List (ℕ × ℕ) → List ℕ → List ℕ
-laid [] rest = rest
-laid (field ∷ fields) rest = bytes_high_first field.0 field.1 ++ laid fields rest
-
-laid_bytes : (fields : List (ℕ × ℕ)) (rest : List ℕ) → AreBytes rest → AreBytes (laid fields rest)
-laid_bytes [] rest h = h
-laid_bytes (field ∷ fields) rest h = both (bytes_high_first field.0 field.1) (laid fields rest) (number field.0 field.1) (laid_bytes fields rest h)
-
--- a message that may stand in a run is sent in bytes
-message_bytes : (m : Message) → IsSendable m → AreBytes (enc m)
-unfolding enc head tail IsSendable
-message_bytes (Greeting flags) h = laid_bytes ((8, magics.GREETING_MAGIC) ∷ (8, magics.OPTION_MAGIC) ∷ (2, flags) ∷ []) [] tt
-message_bytes (ClientFlags flags) h = laid_bytes ((4, flags) ∷ []) [] tt
-message_bytes (Choice id payload) h = laid_bytes ((8, magics.OPTION_MAGIC) ∷ (4, id) ∷ (4, length payload) ∷ []) payload h.1.1
-message_bytes (Answer option kind payload) h = laid_bytes ((8, magics.ANSWER_MAGIC) ∷ (4, option) ∷ (4, kind) ∷ (4, length payload) ∷ []) payload h.2.1
-message_bytes (Exported size flags padded) h = laid_bytes ((8, size) ∷ (2, flags) ∷ []) (tail (Exported size flags padded)) (padding padded head_lengths.PADDING)
-message_bytes (Request flags command cookie offset len payload) h = laid_bytes ((4, magics.REQUEST_MAGIC) ∷ (2, flags) ∷ (2, command) ∷ (8, cookie) ∷ (8, offset) ∷ (4, len) ∷ []) payload h.6
-message_bytes (Simple error cookie payload) h = laid_bytes ((4, magics.SIMPLE_MAGIC) ∷ (4, error) ∷ (8, cookie) ∷ []) payload h.2.1
-message_bytes (Chunk flags kind cookie payload) h = laid_bytes ((4, magics.CHUNK_MAGIC) ∷ (2, flags) ∷ (2, kind) ∷ (8, cookie) ∷ (4, length payload) ∷ []) payload h.3.1
-message_bytes (ExtendedRequest flags command cookie offset len payload) h = laid_bytes ((4, magics.EXTENDED_REQUEST_MAGIC) ∷ (2, flags) ∷ (2, command) ∷ (8, cookie) ∷ (8, offset) ∷ (8, len) ∷ []) payload h.6.1
-message_bytes (ExtendedChunk flags kind cookie offset payload) h = laid_bytes ((4, magics.EXTENDED_CHUNK_MAGIC) ∷ (2, flags) ∷ (2, kind) ∷ (8, cookie) ∷ (8, offset) ∷ (8, length payload) ∷ []) payload h.4.1
 
 -- what is left of an open message are bytes
 abbrev LeavesBytes : Side → Open → Type 0
@@ -59,7 +13,7 @@ walk_bytes : {o : Both Open} {items : List Item} → Walk ⊥ o items → (state
 walk_bytes (ended c d) state ob are = tt
 walk_bytes (serving k w) state ob are = walk_bytes w _ ob.1 are
 walk_bytes {o} (opening s m b left is g f w) state ob are =
-    let sent : AreBytes (b ∷ left) = subst AreBytes g (message_bytes m ob.0.1) in
+    let sent : AreBytes (b ∷ left) = subst AreBytes g ob.0.1 in
     (sent.0, walk_bytes w _ ob.1.1 (each_with LeavesBytes o s (Busy m left) are sent.1))
 walk_bytes {o} (middle s m b left is f w) state ob are =
     let sent : AreBytes (b ∷ left) = subst (LeavesBytes s) is (are s) in
@@ -135,7 +89,7 @@ module _ (p q : Profile) (capture : List Pair) (tells : NothingPartsIn capture) 
       record {
         accepted = record {
           under_way = v.0;
-          placeless = λ prefix rest more fault parts place. read_no_place prefix rest v.0.end (ap (reads by_tests (fresh_of q)) parts ∙ v.0.reads_it) more fault place;
+          placeless = λ prefix rest more fault parts place. read_no_place prefix rest v.0.end (ap (reads (fresh_of q)) parts ∙ v.0.reads_it) more fault place;
           all = completes_exactly capture v.0.end messages v.0.are_pairs v.0.reads_it v.0.has_messages;
         };
         leaves_open = subst LeavesOpen (sym v.1) e.leaves_open;

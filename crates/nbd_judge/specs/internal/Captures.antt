@@ -1,9 +1,6 @@
 use Rattle.std.specs.Prelude.{List, ◌≡◌}
 use Rattle.nbd_wire.specs.declared.profile.Profile.{Profile}
-use Rattle.nbd_wire.specs.protocol.Marks.{Item, pairs}
-use Rattle.nbd_wire.specs.protocol.Captures.{Pair}
-use Rattle.nbd_wire.specs.protocol.Reports.{Report, report}
-use Rattle.nbd_wire.specs.protocol.Rules.{IsRunOf}
+use Rattle.nbd_wire.specs.Prelude.{Item, pairs, Pair, Report, report, IsRunOf}
 
 -- some run of the profile has these bytes, and the report of each such run is this one
 pub record HasReport (profile : Profile) (capture : List Pair) (found : Report) : Type 0 where

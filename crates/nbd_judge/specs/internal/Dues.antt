@@ -4,9 +4,7 @@ use Rattle.nbd_export.specs.Ranges.{IsLeast}
 use Rattle.nbd_state.specs.declared.span.Span.{Span}
 use Rattle.nbd_wire.specs.declared.entry.Entry.{Entry}
 use Rattle.nbd_wire.specs.declared.entry.Part.{Part}
-use Rattle.nbd_wire.specs.protocol.Entries.{in_part}
-use Rattle.nbd_wire.specs.protocol.Pieces.{is_in}
-use Rattle.nbd_wire.specs.protocol.Reports.{Asked, Report, first_shown, inside_in}
+use Rattle.nbd_wire.specs.Prelude.{in_part, is_in, Asked, Report, first_shown, inside_in}
 
 -- an offset that the entry serves was due when so many requests had completed
 abbrev pub ServesDue : (due : ℕ → ℕ → Option ℕ) → Entry → ℕ → Type 0

@@ -6,8 +6,7 @@ use Rattle.std.specs.Ordering.{nat_cmp}
 use Rattle.std.specs.declared.vec.Vec.{Vec}
 use Rattle.nbd_wire.specs.declared.entry.Part.{Part}
 use Rattle.nbd_wire.specs.declared.payloads.Piece.{Piece}
-use Rattle.nbd_wire.specs.protocol.ExportBytes.{Differs}
-use Rattle.nbd_wire.specs.protocol.Pieces.{holds, is_in, piece_byte, piece_offset, piece_size}
+use Rattle.nbd_wire.specs.Prelude.{Differs, holds, is_in, piece_byte, piece_offset, piece_size}
 
 -- x lies in the piece, whose byte there is not the known one
 abbrev pub DiffersInPiece : (ℕ → Option ℕ) → Piece → ℕ → Type 0

@@ -2,9 +2,7 @@ use Rattle.std.specs.Prelude.{ℕ, Option, Some, None, ◌≡◌, ◌⊎◌, ◌
 use Rattle.nbd_wire.specs.declared.commands.TheConstants as commands
 use Rattle.nbd_wire.specs.declared.entry.Part.{Part}
 use Rattle.nbd_state.specs.declared.span.Span.{Span}
-use Rattle.nbd_wire.specs.protocol.ExportBytes.{is_success}
-use Rattle.nbd_wire.specs.protocol.Reports.{Asked}
-use Rattle.nbd_wire.specs.protocol.Pieces.{byte_at, is_in}
+use Rattle.nbd_wire.specs.Prelude.{is_success, Asked, byte_at, is_in}
 use Rattle.nbd_laws.specs.Soundness.{AreLaid}
 
 -- its bytes and its range fit an export of this size, as far as its service reads them

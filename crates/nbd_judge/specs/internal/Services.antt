@@ -5,22 +5,18 @@ use Rattle.nbd_wire.specs.declared.entry.Entry.{Entry}
 use Rattle.nbd_wire.specs.declared.entry.Part.{Part}
 use Rattle.nbd_wire.specs.declared.payloads.Piece.{Piece}
 use Rattle.nbd_wire.specs.declared.payloads.Piece.TheVariants.{Hole}
-use Rattle.nbd_wire.specs.protocol.Entries.{HasBadPart, IsServedAt, IsTwice, MayServe, Names, NamesWhole}
+use Rattle.nbd_wire.specs.protocol.Entries.{HasBadPart, IsTwice}
+use Rattle.nbd_wire.specs.Prelude.{IsServedAt, MayServe, Names, NamesWhole, Exporting, has_range, IsBad, IsBadPart, SharesNone, is_in, piece_offset, piece_size, Asked, Report, asked_at, due_in, first_shown, inside_in, Shown, total}
 use Rattle.nbd_wire.specs.declared.commands.TheConstants as commands
-use Rattle.nbd_wire.specs.protocol.Operations.{Exporting, has_range}
-use Rattle.nbd_wire.specs.protocol.Orders.{IsBad, IsBadPart, IsDue, IsMissing, IsNotCovered, IsUnserved, NamesAgain, NamesNone}
-use Rattle.nbd_wire.specs.protocol.Pieces.{SharesNone, is_in, piece_offset, piece_size}
-use Rattle.nbd_wire.specs.protocol.Reports.{Asked, Report, asked_at, due_in, first_shown, inside_in}
-use Rattle.nbd_wire.specs.protocol.States.{Shown}
+use Rattle.nbd_wire.specs.protocol.Orders.{IsDue, IsMissing, IsNotCovered, IsUnserved, NamesAgain, NamesNone}
 use Rattle.nbd_wire.specs.declared.profile.Profile.{Profile}
-use Rattle.nbd_wire.specs.protocol.Transmission.{total}
 use Rattle.nbd_state.specs.declared.span.Span.{Span}
 use Rattle.nbd_state.specs.Indexes.{IsIndex}
 use Rattle.nbd_state.specs.Sizes.{sizes_of}
 use Rattle.nbd_judge.specs.declared.service.Service.{Service}
 use Rattle.nbd_judge.specs.declared.service.Service.TheVariants.{Unnamed, Whole, InParts}
-use Rattle.nbd_judge.specs.declared.verdict.OrderFault.{OrderFault}
-use Rattle.nbd_judge.specs.declared.verdict.OrderFault.TheVariants.{NoSuchRequest, Twice, Missing, BadPart, NotCovered}
+use Rattle.nbd_wire.specs.declared.verdict.OrderFault.{OrderFault}
+use Rattle.nbd_wire.specs.declared.verdict.OrderFault.TheVariants.{NoSuchRequest, Twice, Missing, BadPart, NotCovered}
 
 -- an entry's part, as a hole
 abbrev pub part_pieces : Option Part → List Piece
@@ -52,7 +48,8 @@ pub record AreParts (sizes : ℕ → Option ℕ) (left : ℕ) (span : Span) (ent
 abbrev pub IsServiceOf : Service → Span → List Entry → ℕ → Type 0
 IsServiceOf Unnamed span entries k = Names entries k → ⊥
 IsServiceOf Whole span entries k = NamesWhole entries k
-IsServiceOf (InParts spans left) span entries k = Names entries k × AreParts (sizes_of spans) left span entries k
+IsServiceOf (InParts parts) span entries k =
+    Names entries k × AreParts (sizes_of parts.value.spans) parts.value.left span entries k
 
 -- the offsets in the span are those inside the request
 abbrev pub IsSpanOf : Span → (ℕ → Bool) → Type 0

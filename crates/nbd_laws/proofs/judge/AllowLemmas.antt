@@ -1,6 +1,7 @@
 -- What the lists of tests say, where none holds: in the words of relations.
 use Rattle.nbd_laws.proofs.requests.LaidLemmas.{AreApart, AreInside}
-use Rattle.nbd_laws.proofs.Common.{and_parts, not-false, not-true, or_cases, or_parts, ◌+◌, simple_length, piece_offset, piece_size, SharesNone, IsStatus, answer_fault, answer_head_fault, greeting_fault, abort_fault, answers_option, is_followed, info_fault, is_good_info, earlier_to, is_good_context, answer_last_fault, cookie_fault, extended_request_fault, request_fault, chunk_fault, content_fault, done_fault, fits_failure, fits_read, total, status_if, read_as, status_kind, Chunk, ExtendedChunk, Simple, ◌≡◌, ◌≢◌, ℕ, ◌≤◌, ◌⊎◌, ◌==◌, List, [], ◌∷◌, length, refl, sym, inl, inr, Option, Some, None, Bool, true, false, not, ◌&&◌, nat_le, nat_lt, eqb-true, arith, IsTrue, leb-true, leb-false, ltb-true, ne_eqb, is_error, is_proper_option, takes_contexts, info_of, context_of, content_of, failure_of, status_of, Exporting, Covers, Operation, has_failed, is_proper, pieces, has, Core, target, with_reply, NotFixedNewstyle, BadContent, OutOfProfile, Profile, Selection, Context, Status, are_settled, is_settled, Failure, Piece, MayReply, is_in}
+unfoldable use Rattle.nbd_laws.proofs.judge.WholeLemmas.{MayReply}
+use Rattle.nbd_laws.proofs.Common.{and_parts, not-false, or_cases, or_parts, ◌+◌, simple_length, piece_offset, piece_size, SharesNone, IsStatus, answer_fault, answer_head_fault, greeting_fault, abort_fault, answers_option, is_followed, info_fault, is_good_info, earlier_to, is_good_context, answer_last_fault, cookie_fault, extended_request_fault, request_fault, chunk_fault, content_fault, done_fault, fits_failure, total, status_if, read_as, status_kind, Chunk, ExtendedChunk, Simple, ◌≡◌, ◌≢◌, ℕ, ◌≤◌, ◌⊎◌, ◌==◌, List, [], ◌∷◌, length, refl, sym, Option, Some, None, Bool, true, false, ◌&&◌, nat_le, nat_lt, eqb-true, arith, IsTrue, leb-true, leb-false, ltb-true, ne_eqb, is_error, is_proper_option, takes_contexts, info_of, context_of, content_of, failure_of, status_of, Exporting, Covers, Operation, has_failed, is_proper, pieces, has, Core, target, with_reply, NotFixedNewstyle, OutOfProfile, Profile, Selection, Context, Status, are_settled, is_settled, Failure, Piece, is_in}
 use Rattle.std.proofs.lemmas.Bool.{eq-eqb}
 use Rattle.nbd_wire.specs.protocol.Operations.{asks_status}
 use Rattle.nbd_wire.specs.declared.answers.TheConstants as answers

@@ -1,22 +1,24 @@
 -- What the other side's messages leave as it was.
 use Rattle.nbd_laws.proofs.Common.{◌≡◌, ℕ, suc, ◌+◌, ◌⊎◌, ◌==◌, List, [], ◌∷◌, ◌++◌, refl, sym, ◌∙◌, ap, subst, inl, inr, Some, None, Bool, true, false, not, ◌&&◌, if◌then◌else◌, append-nil, append_assoc, arith, Side, Client, Server, Message, turn, Operation, Exporting, is_finished, MayComplete, complete, core_with_request, side, Phase, Transmission, Core, in_force, operation, is_awaiting, target, target_from}
 use Rattle.nbd_laws.proofs.reading.ReaderLemmas.{Later, at_once, behind}
+use Rattle.nbd_laws.proofs.judge.WholeLemmas.{allowed}
+unfoldable use Rattle.nbd_laws.proofs.judge.WholeLemmas.{IsAllowed}
 
 abbrev pub IsTransmitting : Phase → Type 0
 IsTransmitting phase = (export : Exporting) × (phase ≡ Transmission export)
 
 -- in the negotiation only the side whose turn it is completes a message
 pub completes_in_turn : (core : Core) (phase : Phase) (m : Message) → MayComplete core phase m → (turn phase ≡ Some (side m)) ⊎ IsTransmitting phase
-unfolding MayComplete
-completes_in_turn core phase m h = grind arith
+unfolding IsAllowed
+completes_in_turn core phase m h = grind (arith, allowed core phase m h)
 
 pub phase-requested : (b : Bool) (core : Core) (e : Operation) → (core_with_request b core e).phase ≡ core.phase
 phase-requested b core e = grind arith
 
 -- transmission does not end
 pub transmission_stays : (core : Core) (export : Exporting) (m : Message) → MayComplete core (Transmission export) m → (complete core m).phase ≡ core.phase
-unfolding MayComplete complete
-transmission_stays core export m h = grind (arith, phase-requested)
+unfolding IsAllowed complete
+transmission_stays core export m h = grind (arith, phase-requested, allowed core (Transmission export) m h)
 
 pub Later-transmission : {s : Side} {old now : Core} → Later s old now → (export : Exporting) → old.phase ≡ Transmission export → now.phase ≡ Transmission export
 Later-transmission at_once export e = e
@@ -25,18 +27,18 @@ Later-transmission (behind {c = c} m ne ok l) export e =
 
 -- in transmission the contexts in force stay
 pub in_force_stays : (core : Core) (export : Exporting) (m : Message) → MayComplete core (Transmission export) m → in_force (complete core m) ≡ in_force core
-unfolding MayComplete complete
-in_force_stays core export m h = grind (arith)
+unfolding IsAllowed complete
+in_force_stays core export m h = grind (arith, allowed core (Transmission export) m h)
 
 pub extended-requested : (b : Bool) (core : Core) (e : Operation) → (core_with_request b core e).extended ≡ core.extended
 extended-requested b core e = grind arith
 
 pub Later-extended : {s : Side} {old now : Core} → Later s old now → (export : Exporting) → old.phase ≡ Transmission export → now.extended ≡ old.extended
-unfolding MayComplete complete
+unfolding IsAllowed complete
 Later-extended at_once export e = refl
 Later-extended (behind {c = c} m ne ok l) export e =
     let may : MayComplete c (Transmission export) m = subst (λ p. MayComplete c p m) e ok in
-    Later-extended l export (transmission_stays c export m may ∙ e) ∙ (grind (arith, extended-requested))
+    Later-extended l export (transmission_stays c export m may ∙ e) ∙ (grind (arith, extended-requested, allowed c (Transmission export) m may))
 
 -- while a side is in a message of the negotiation, nothing completes
 pub Later-turn : {s : Side} {old now : Core} → Later s old now → turn old.phase ≡ Some s → old ≡ now
@@ -74,11 +76,11 @@ pub record IsAppended (old now : Core) : Type 0 where
 
 -- while the server is in a message, the client only adds requests
 pub Later-appended : {old now : Core} → Later Server old now → (export : Exporting) → old.phase ≡ Transmission export → IsAppended old now
-unfolding MayComplete complete
+unfolding IsAllowed complete
 Later-appended {old} at_once export t = record { more = []; entries_are = sym (append-nil old.entries); structured_is = refl; profile_is = refl; extended_is = refl }
 Later-appended {old} {now} (behind {c = c} m ne ok l) export t =
     let ok' : MayComplete c (Transmission export) m = subst (λ p. MayComplete c p m) t ok in
-    let a : IsAppended c (complete c m) = grind (arith, append-nil) in
+    let a : IsAppended c (complete c m) = grind (arith, append-nil, allowed c (Transmission export) m ok') in
     let b : IsAppended (complete c m) now = Later-appended l export (transmission_stays c export m ok' ∙ t) in
     record {
       more = a.more ++ b.more;

@@ -1,7 +1,9 @@
 -- What the judge takes for a request is one that the rules allow.
-use Rattle.nbd_laws.proofs.Common.{◌≡◌, ℕ, ◌<◌, ◌≤◌, ◌+◌, ◌^◌, ◌&&◌, if◌then◌else◌, IsTrue, None, List, length, drop, refl, Bool, true, false, arith, length-drop, ltb-false, OutOfProfile, EXTENDED_REQUEST_MAGIC, REQUEST_MAGIC, Client, Message, enc, head, tail, AreBytes, with_number, number_at-lt, AreBytes-drop, number_at, Exporting, MayComplete, is_extended, is_request, IsSendable, carries_payload, Transmission, Core, extended_request, extended_request_of, request_by, request_of, short_request, read_by, request_unless, reading_by_decision, Whole, extended_payload_length, extended_request_fault, is_too_large, request_payload_length}
+use Rattle.nbd_laws.proofs.Common.{◌≡◌, ℕ, ◌<◌, ◌≤◌, ◌+◌, ◌^◌, ◌&&◌, if◌then◌else◌, None, List, length, drop, refl, Bool, false, arith, length-drop, ltb-false, OutOfProfile, EXTENDED_REQUEST_MAGIC, REQUEST_MAGIC, Client, Message, enc, head, tail, AreBytes, with_number, number_at-lt, AreBytes-drop, number_at, is_extended, IsSendable, carries_payload, Core, reading_by_decision, Whole, extended_payload_length, extended_request_fault, is_too_large, request_payload_length}
+use Rattle.nbd_laws.proofs.judge.DecideLemmas.{request_of, extended_request_of, request_unless}
 use Rattle.nbd_laws.proofs.judge.BoolLemmas.{fault_none}
-use Rattle.nbd_laws.proofs.judge.SoundNegotiationLemmas.{IsFit, IsWhole, whole, magic_there}
+use Rattle.nbd_laws.proofs.judge.SoundNegotiationLemmas.{IsFit, magic_there}
+use Rattle.nbd_laws.proofs.judge.WholeLemmas.{IsRequest, as_long, as_short, request_read}
 
 request_is : (bytes : List ℕ) → AreBytes bytes → 28 ≤ length bytes → number_at 0 4 bytes ≡ REQUEST_MAGIC → bytes ≡ enc (request_of bytes)
 unfolding enc head tail
@@ -48,28 +50,17 @@ extended_sendable bytes a l clean =
       (not_large carries (is_too_large len) len (length (drop 32 bytes)) refl small p, AreBytes-drop 32 bytes a),
     )
 
-pub record IsAsked (now : Core) (export : Exporting) (bytes : List ℕ) (m : Message) : Type 0 where
-  pub fit : IsFit now (Transmission export) Client bytes m
-  pub asks : IsTrue (is_request m)
+pub record IsAsked (now : Core) (bytes : List ℕ) (m : Message) : Type 0 where
+  pub fit : IsFit Client bytes m
   pub headed : is_extended m ≡ now.extended
   pub open_still : now.disconnected ≡ false
 
-short_sound : (now : Core) (export : Exporting) (bytes : List ℕ) (m : Message) → now.disconnected ≡ false → now.extended ≡ false → AreBytes bytes → read_by (short_request now bytes) bytes ≡ Whole m → IsAsked now export bytes m
-unfolding MayComplete
-short_sound now export bytes m is_d x a e =
-    let w : IsWhole (short_request now bytes) bytes m = whole (short_request now bytes) bytes m e in
-    grind (arith, w, whole, magic_there, request_is, request_sendable)
-
-extended_sound : (now : Core) (export : Exporting) (bytes : List ℕ) (m : Message) → now.disconnected ≡ false → now.extended ≡ true → AreBytes bytes → read_by (extended_request now bytes) bytes ≡ Whole m → IsAsked now export bytes m
-unfolding MayComplete
-extended_sound now export bytes m is_d x a e =
-    let w : IsWhole (extended_request now bytes) bytes m = whole (extended_request now bytes) bytes m e in
-    grind (arith, w, whole, magic_there, extended_is, extended_sendable)
-
-pub request_sound : (now : Core) (export : Exporting) (d : Bool) (bytes : List ℕ) (m : Message) → now.disconnected ≡ d → AreBytes bytes → reading_by_decision (request_unless d now bytes) bytes ≡ Whole m → IsAsked now export bytes m
-request_sound now export true bytes m is_d a e = absurd (cc)
-request_sound now export false bytes m is_d a e = go now.extended refl e
+pub request_sound : (now : Core) (bytes : List ℕ) (m : Message) → AreBytes bytes → reading_by_decision (request_unless now.disconnected now bytes) bytes ≡ Whole m → IsAsked now bytes m
+request_sound now bytes m a e = go (request_read now bytes m e).1
   where
-    go : (x : Bool) → now.extended ≡ x → read_by (request_by x now bytes) bytes ≡ Whole m → IsAsked now export bytes m
-    go false x e = short_sound now export bytes m is_d x a e
-    go true x e = extended_sound now export bytes m is_d x a e
+    still : now.disconnected ≡ false
+    still = (request_read now bytes m e).0
+
+    go : IsRequest now bytes m → IsAsked now bytes m
+    go (as_short x w) = grind (arith, w, magic_there, request_is, request_sendable, still)
+    go (as_long x w) = grind (arith, w, magic_there, extended_is, extended_sendable, still)

@@ -1,24 +1,14 @@
 -- What the judge takes for a message of the negotiation is one that the rules allow.
-use Rattle.nbd_laws.proofs.Common.{and_parts, not-false, ◌≡◌, ℕ, ◌≤◌, ◌+◌, ◌==◌, List, [], length, drop, refl, sym, ap, subst, Option, Some, None, Bool, true, false, not, eqb-true, arith, length-drop, GREETING_MAGIC, OPTION_MAGIC, ANSWER_MAGIC, Side, Client, Server, Message, Greeting, ClientFlags, Choice, Exported, enc, head, tail, AreBytes, is_proper_option, turn, takes_contexts, with_number, number_at-lt, AreBytes-drop, number_at, Exporting, has, MayComplete, IsSendable, side, Phase, Greet, Flags, Choosing, Naming, Aborting, Answering, Core, WireFault, BadMagic, BadExport, Decision, greeting, client_flags, choice, export_answer, answer_of, abort_answer, answer, answer_head_fault, are_zeroes, read_by, judge_in, Whole, fault_if, nat_lt}
+use Rattle.nbd_laws.proofs.Common.{and_parts, not-false, ◌≡◌, ℕ, ◌≤◌, ◌+◌, ◌==◌, List, [], length, drop, refl, subst, Option, Some, None, Bool, true, false, not, eqb-true, arith, length-drop, GREETING_MAGIC, OPTION_MAGIC, ANSWER_MAGIC, Side, Client, Server, Message, Greeting, ClientFlags, Choice, Exported, enc, head, tail, AreBytes, is_proper_option, turn, takes_contexts, with_number, number_at-lt, AreBytes-drop, number_at, Exporting, has, IsSendable, side, Phase, Greet, Flags, Choosing, Naming, Aborting, Answering, Core, WireFault, BadMagic, BadExport, Decision, greeting, client_flags, choice, export_answer, answer_of, abort_answer, answer, are_zeroes, read_by, judge_in, Whole, fault_if}
 use Rattle.nbd_wire.specs.declared.handshake.TheConstants as handshake
 use Rattle.nbd_laws.proofs.judge.AllowLemmas.{no_length}
-use Rattle.nbd_laws.proofs.judge.BoolLemmas.{fault_none, ended_whole, are_zeroes-replicate}
+use Rattle.nbd_laws.proofs.judge.BoolLemmas.{fault_none, are_zeroes-replicate}
+use Rattle.nbd_laws.proofs.judge.WholeLemmas.{IsWhole, whole}
 
-pub record IsFit (now : Core) (phase : Phase) (s : Side) (bytes : List ℕ) (m : Message) : Type 0 where
+pub record IsFit (s : Side) (bytes : List ℕ) (m : Message) : Type 0 where
   pub encodes : bytes ≡ enc m
   pub sided : side m ≡ s
   pub sendable : IsSendable m
-  pub completes : MayComplete now phase m
-
--- what the judge calls whole has no fault
-pub record IsWhole (d : Decision) (bytes : List ℕ) (m : Message) : Type 0 where
-  pub long : length bytes ≡ d.head_length + d.payload_length
-  pub at_head : d.head_fault ≡ None
-  pub at_last : d.last_fault ≡ None
-  pub is : d.message ≡ m
-
-pub whole : (d : Decision) (bytes : List ℕ) (m : Message) → read_by d bytes ≡ Whole m → IsWhole d bytes m
-whole d bytes m e = grind (arith, nat_lt, eqb-true, ended_whole)
 
 pub drop_none : (n : ℕ) (xs : List ℕ) → length xs ≡ n → drop n xs ≡ []
 drop_none n xs e = no_length (drop n xs) (omega (arith, length-drop n xs))
@@ -32,8 +22,8 @@ greeting_is bytes a l m n =
     with_number 0 8 bytes GREETING_MAGIC _ a (omega arith) m (with_number 8 8 bytes OPTION_MAGIC _ a (omega (arith, length-drop 8 bytes)) n
     (with_number 16 2 bytes (number_at 16 2 bytes) [] a (omega (arith, length-drop 16 bytes)) refl (drop_none 18 bytes l)))
 
-greeting_sound : (now : Core) (bytes : List ℕ) (m : Message) → AreBytes bytes → read_by (greeting bytes) bytes ≡ Whole m → IsFit now Greet Server bytes m
-unfolding MayComplete IsSendable
+greeting_sound : (now : Core) (bytes : List ℕ) (m : Message) → AreBytes bytes → read_by (greeting bytes) bytes ≡ Whole m → IsFit Server bytes m
+unfolding IsSendable
 greeting_sound now bytes m a e =
     let w : IsWhole (greeting bytes) bytes m = whole (greeting bytes) bytes m e in
     grind (arith, w, whole, fault_none, and_parts, not-false, greeting_is, eqb-true, number_at-lt)
@@ -42,15 +32,14 @@ flags_is : (bytes : List ℕ) → AreBytes bytes → length bytes ≡ 4 → byte
 unfolding enc head tail
 flags_is bytes a l = with_number 0 4 bytes (number_at 0 4 bytes) [] a (omega arith) refl (drop_none 4 bytes l)
 
-flags_sound : (now : Core) (bytes : List ℕ) (m : Message) → AreBytes bytes → read_by (client_flags now.offered bytes) bytes ≡ Whole m → IsFit now Flags Client bytes m
-unfolding MayComplete IsSendable
+flags_sound : (now : Core) (bytes : List ℕ) (m : Message) → AreBytes bytes → read_by (client_flags now.offered bytes) bytes ≡ Whole m → IsFit Client bytes m
+unfolding IsSendable
 flags_sound now bytes m a e =
     let w : IsWhole (client_flags now.offered bytes) bytes m = whole (client_flags now.offered bytes) bytes m e in
-    subst (IsFit now Flags Client bytes) w.is (record {
+    subst (IsFit Client bytes) w.is (record {
       encodes = flags_is bytes a w.long;
       sided = refl;
       sendable = number_at-lt 0 4 bytes a;
-      completes = w.at_head;
     })
 
 choice_is : (bytes : List ℕ) → AreBytes bytes → length bytes ≡ 16 + number_at 12 4 bytes → number_at 0 8 bytes ≡ OPTION_MAGIC → bytes ≡ enc (Choice (number_at 8 4 bytes) (drop 16 bytes))
@@ -60,8 +49,8 @@ choice_is bytes a l m =
     with_number 0 8 bytes OPTION_MAGIC _ a (omega arith) m (with_number 8 4 bytes (number_at 8 4 bytes) _ a (omega (arith, length-drop 8 bytes)) refl
     (with_number 12 4 bytes (length (drop 16 bytes)) (drop 16 bytes) a (omega (arith, length-drop 12 bytes)) n refl))
 
-choice_sound : (now : Core) (bytes : List ℕ) (m : Message) → AreBytes bytes → read_by (choice bytes) bytes ≡ Whole m → IsFit now Choosing Client bytes m
-unfolding MayComplete IsSendable
+choice_sound : (now : Core) (bytes : List ℕ) (m : Message) → AreBytes bytes → read_by (choice bytes) bytes ≡ Whole m → IsFit Client bytes m
+unfolding IsSendable
 choice_sound now bytes m a e =
     let w : IsWhole (choice bytes) bytes m = whole (choice bytes) bytes m e in
     grind (arith, w, whole, number_at-lt, choice_is, magic_there, length-drop, AreBytes-drop)
@@ -70,26 +59,24 @@ exported_is : (bytes : List ℕ) (padded : Bool) → AreBytes bytes → 10 ≤ l
 unfolding enc head
 exported_is bytes padded a l t = grind (arith, with_number, length-drop)
 
-exported_sound : (now : Core) (c : Bool) (bytes : List ℕ) (m : Message) → has now.client_flags handshake.C_NO_ZEROES ≡ c → AreBytes bytes → read_by (export_answer c bytes) bytes ≡ Whole m → IsFit now Naming Server bytes m
-unfolding MayComplete IsSendable tail
+exported_sound : (now : Core) (c : Bool) (bytes : List ℕ) (m : Message) → has now.client_flags handshake.C_NO_ZEROES ≡ c → AreBytes bytes → read_by (export_answer c bytes) bytes ≡ Whole m → IsFit Server bytes m
+unfolding IsSendable tail
 exported_sound now true bytes m is_c a e =
     let w : IsWhole (export_answer true bytes) bytes m = whole (export_answer true bytes) bytes m e in
     let long : length bytes ≡ 10 = w.long in
-    subst (IsFit now Naming Server bytes) w.is (record {
+    subst (IsFit Server bytes) w.is (record {
       encodes = exported_is bytes false a (omega (arith, long)) (drop_none 10 bytes long);
       sided = refl;
       sendable = (number_at-lt 0 8 bytes a, number_at-lt 8 2 bytes a);
-      completes = (sym (ap not is_c), w.at_head);
     })
 exported_sound now false bytes m is_c a e =
     let w : IsWhole (export_answer false bytes) bytes m = whole (export_answer false bytes) bytes m e in
     let long : length bytes ≡ 10 + 124 = w.long in
     let g : (not (are_zeroes (drop 10 bytes)) ≡ false) × (None ≡ None) = fault_none _ BadExport None w.at_last in
-    subst (IsFit now Naming Server bytes) w.is (record {
+    subst (IsFit Server bytes) w.is (record {
       encodes = exported_is bytes true a (omega (arith, long)) (are_zeroes-replicate 124 (drop 10 bytes) (omega (arith, long, length-drop 10 bytes)) (not-false _ g.0));
       sided = refl;
       sendable = (number_at-lt 0 8 bytes a, number_at-lt 8 2 bytes a);
-      completes = (sym (ap not is_c), w.at_head);
     })
 
 answer_is : (bytes : List ℕ) → AreBytes bytes → length bytes ≡ 20 + number_at 16 4 bytes → number_at 0 8 bytes ≡ ANSWER_MAGIC → bytes ≡ enc (answer_of bytes)
@@ -100,37 +87,30 @@ answer_is bytes a l m =
     (with_number 12 4 bytes (number_at 12 4 bytes) _ a (omega (arith, length-drop 12 bytes)) refl
     (with_number 16 4 bytes (length (drop 20 bytes)) (drop 20 bytes) a (omega (arith, length-drop 16 bytes)) n refl)))
 
--- an answer's payload is as long as its head states
-stated : (bytes : List ℕ) → length bytes ≡ 20 + number_at 16 4 bytes → number_at 16 4 bytes ≡ length (drop 20 bytes)
-stated bytes l = omega (arith, length-drop 20 bytes, l)
-
 answer_sendable : (bytes : List ℕ) → AreBytes bytes → length bytes ≡ 20 + number_at 16 4 bytes → IsSendable (answer_of bytes)
 unfolding IsSendable
 answer_sendable bytes a l = grind (arith, number_at-lt, length-drop)
 
-abort_sound : (now : Core) (bytes : List ℕ) (m : Message) → AreBytes bytes → read_by (abort_answer bytes) bytes ≡ Whole m → IsFit now Aborting Server bytes m
-unfolding MayComplete
+abort_sound : (now : Core) (bytes : List ℕ) (m : Message) → AreBytes bytes → read_by (abort_answer bytes) bytes ≡ Whole m → IsFit Server bytes m
 abort_sound now bytes m a e =
     let w : IsWhole (abort_answer bytes) bytes m = whole (abort_answer bytes) bytes m e in
-    grind (arith, w, whole, magic_there, answer_is, answer_sendable, stated)
+    grind (arith, w, whole, magic_there, answer_is, answer_sendable)
 
-answer_sound : (now : Core) (option : ℕ) (given : List ℕ) (info : Option Exporting) (bytes : List ℕ) (m : Message) → AreBytes bytes → read_by (answer now.profile option (is_proper_option option given) (takes_contexts option given) info now.selection bytes) bytes ≡ Whole m → IsFit now (Answering option given info) Server bytes m
-unfolding MayComplete
+answer_sound : (now : Core) (option : ℕ) (given : List ℕ) (info : Option Exporting) (bytes : List ℕ) (m : Message) → AreBytes bytes → read_by (answer now.profile option (is_proper_option option given) (takes_contexts option given) info now.selection bytes) bytes ≡ Whole m → IsFit Server bytes m
 answer_sound now option given info bytes m a e =
     let proper : Bool = is_proper_option option given in
     let takes : Bool = takes_contexts option given in
     let d : Decision = answer now.profile option proper takes info now.selection bytes in
     let w : IsWhole d bytes m = whole d bytes m e in
     let mg = magic_there (number_at 0 8 bytes) ANSWER_MAGIC _ w.at_head in
-    subst (IsFit now (Answering option given info) Server bytes) w.is (record {
+    subst (IsFit Server bytes) w.is (record {
       encodes = answer_is bytes a w.long mg.0;
       sided = refl;
       sendable = answer_sendable bytes a w.long;
-      completes = (subst (λ n. answer_head_fault now.profile option proper takes info (number_at 8 4 bytes) (number_at 12 4 bytes) n ≡ None) (stated bytes w.long) mg.1, w.at_last);
     })
 
 -- in its turn a side's whole message is one that the phase allows
-pub negotiation_sound : (phase : Phase) (now : Core) (s : Side) (bytes : List ℕ) (m : Message) → AreBytes bytes → turn phase ≡ Some s → judge_in phase now now s bytes ≡ Whole m → IsFit now phase s bytes m
+pub negotiation_sound : (phase : Phase) (now : Core) (s : Side) (bytes : List ℕ) (m : Message) → AreBytes bytes → turn phase ≡ Some s → judge_in phase now now s bytes ≡ Whole m → IsFit s bytes m
 negotiation_sound Greet now Server bytes m a t e = greeting_sound now bytes m a e
 negotiation_sound Flags now Client bytes m a t e = flags_sound now bytes m a e
 negotiation_sound Choosing now Client bytes m a t e = choice_sound now bytes m a e

@@ -1,9 +1,10 @@
 -- What is decided of a message does not change as its bytes come, nor where the other side's
 -- messages complete meanwhile.
-use Rattle.nbd_laws.proofs.Common.{and_from, not, ◌≡◌, ℕ, zero, suc, ◌+◌, ◌<◌, ◌≤◌, ◌==◌, List, [], ◌∷◌, ◌++◌, length, refl, sym, ◌∙◌, ap, subst, Option, Some, None, Bool, true, false, ◌&&◌, eq-eqb, nat_le, arith, length-append, le-leb, lt-leb, SIMPLE_MAGIC, CHUNK_MAGIC, EXTENDED_CHUNK_MAGIC, EXTENDED_REQUEST_MAGIC, GREETING_MAGIC, OPTION_MAGIC, ANSWER_MAGIC, REQUEST_MAGIC, Side, Client, Server, number_at-append, is_proper_option, turn, takes_contexts, number_at, Operation, Exporting, has, Phase, Greet, Flags, Choosing, Naming, Aborting, Answering, Transmission, Core, operation, BadMagic, Decision, abort_answer, answer, choice, client_flags, export_answer, greeting, begins, chunk_to, operation_of, no_reply, reply_by, reply_in, extended_reply_by, extended_chunk_to, short_request, extended_request, request_by, simple_to, answer_head_fault, abort_fault, answer_fault, client_flags_fault, export_fault, greeting_fault, decision, request_unless, fault_if, request_fault, request_payload_length, extended_head_fault, extended_payload_length, extended_request_fault, Selection, Profile}
+use Rattle.nbd_laws.proofs.Common.{magic_fault, WireFault, if◌then◌else◌, and_from, ◌≡◌, ℕ, zero, suc, ◌+◌, ◌<◌, ◌≤◌, ◌==◌, List, [], ◌∷◌, ◌++◌, length, refl, sym, ◌∙◌, ap, subst, Option, Some, None, Bool, true, false, ◌&&◌, eq-eqb, nat_le, arith, length-append, le-leb, lt-leb, SIMPLE_MAGIC, CHUNK_MAGIC, EXTENDED_CHUNK_MAGIC, EXTENDED_REQUEST_MAGIC, GREETING_MAGIC, OPTION_MAGIC, ANSWER_MAGIC, REQUEST_MAGIC, Side, Client, Server, number_at-append, is_proper_option, turn, takes_contexts, number_at, Operation, Exporting, has, Phase, Greet, Flags, Choosing, Naming, Aborting, Answering, Transmission, Core, operation, BadMagic, Decision, abort_answer, answer, choice, client_flags, export_answer, greeting, begins, chunk_to, operation_of, no_reply, reply_in, extended_chunk_to, request_by, simple_to, answer_head_fault, abort_fault, answer_fault, client_flags_fault, export_fault, greeting_fault, decision, request_fault, request_payload_length, extended_head_fault, extended_payload_length, extended_request_fault, Selection, Profile}
+use Rattle.nbd_laws.proofs.judge.DecideLemmas.{reply_by, extended_reply_by, short_request, extended_request, request_unless}
 use Rattle.nbd_wire.specs.declared.handshake.TheConstants as handshake
 use Rattle.nbd_laws.proofs.reading.ReaderLemmas.{Later}
-use Rattle.nbd_laws.proofs.judge.SoundServerLemmas.{magic_of}
+use Rattle.nbd_laws.proofs.judge.WholeLemmas.{magic_of}
 use Rattle.nbd_laws.proofs.judge.PhaseLemmas.{IsAppended, Later-appended, Later-extended, Later-disconnected, Later-transmission, Later-turn, target_entry}
 
 -- the same of a message's head and length
@@ -44,68 +45,36 @@ in_negotiation s old h G t d two is same = record {
 at : (p n h : ℕ) (bytes more : List ℕ) → h ≤ length bytes → p + n ≤ h → number_at p n (bytes ++ more) ≡ number_at p n bytes
 at p n h bytes more long fits = number_at-append p n bytes more (omega (arith, long, fits))
 
+-- what a decision says of the head
+abbrev of_head : Decision → ℕ × Option WireFault × ℕ
+of_head d = (d.head_length, d.head_fault, d.payload_length)
+
+same_by : (c d : Decision) → of_head d ≡ of_head c → IsSameHead c d
+same_by c d e = record { head_length_is = ap (λ x. x.0) e; head_fault_is = ap (λ x. x.1) e; payload_length_is = ap (λ x. x.2) e }
+
 greeting_same : (bytes more : List ℕ) → 18 ≤ length bytes → IsSameHead (greeting bytes) (greeting (bytes ++ more))
-greeting_same bytes more l = record {
-  head_length_is = refl;
-  head_fault_is = λ i. fault_if (not ((at 0 8 18 bytes more l (omega arith) i == GREETING_MAGIC) && (at 8 8 18 bytes more l (omega arith) i == OPTION_MAGIC))) BadMagic (greeting_fault (at 16 2 18 bytes more l (omega arith) i));
-  payload_length_is = refl;
-}
+greeting_same bytes more l = same_by _ _ (λ i. (18, magic_fault ((at 0 8 18 bytes more l (omega arith) i == GREETING_MAGIC) && (at 8 8 18 bytes more l (omega arith) i == OPTION_MAGIC)) (greeting_fault (at 16 2 18 bytes more l (omega arith) i)), 0))
 
 client_flags_same : (offered : ℕ) (bytes more : List ℕ) → 4 ≤ length bytes → IsSameHead (client_flags offered bytes) (client_flags offered (bytes ++ more))
-client_flags_same offered bytes more l = record {
-  head_length_is = refl;
-  head_fault_is = λ i. client_flags_fault offered (at 0 4 4 bytes more l (omega arith) i);
-  payload_length_is = refl;
-}
+client_flags_same offered bytes more l = same_by _ _ (λ i. (4, magic_fault (true) (client_flags_fault offered (at 0 4 4 bytes more l (omega arith) i)), 0))
 
 choice_same : (bytes more : List ℕ) → 16 ≤ length bytes → IsSameHead (choice bytes) (choice (bytes ++ more))
-choice_same bytes more l = record {
-  head_length_is = refl;
-  head_fault_is = λ i. fault_if (not (at 0 8 16 bytes more l (omega arith) i == OPTION_MAGIC)) BadMagic None;
-  payload_length_is = at 12 4 16 bytes more l (omega arith);
-}
+choice_same bytes more l = same_by _ _ (λ i. (16, magic_fault (at 0 8 16 bytes more l (omega arith) i == OPTION_MAGIC) (None), at 12 4 16 bytes more l (omega arith) i))
 
 exported_same : (no_zeroes : Bool) (bytes more : List ℕ) → 10 ≤ length bytes → IsSameHead (export_answer no_zeroes bytes) (export_answer no_zeroes (bytes ++ more))
-exported_same true bytes more l = record {
-  head_length_is = refl;
-  head_fault_is = λ i. export_fault (at 0 8 10 bytes more l (omega arith) i) (at 8 2 10 bytes more l (omega arith) i);
-  payload_length_is = refl;
-}
-exported_same false bytes more l = record {
-  head_length_is = refl;
-  head_fault_is = λ i. export_fault (at 0 8 10 bytes more l (omega arith) i) (at 8 2 10 bytes more l (omega arith) i);
-  payload_length_is = refl;
-}
+exported_same no_zeroes bytes more l = same_by _ _ (λ i. (10, magic_fault true (export_fault (at 0 8 10 bytes more l (omega arith) i) (at 8 2 10 bytes more l (omega arith) i)), if no_zeroes then 0 else 124))
 
 abort_same : (bytes more : List ℕ) → 20 ≤ length bytes → IsSameHead (abort_answer bytes) (abort_answer (bytes ++ more))
-abort_same bytes more l = record {
-  head_length_is = refl;
-  head_fault_is = λ i. fault_if (not (at 0 8 20 bytes more l (omega arith) i == ANSWER_MAGIC)) BadMagic (answer_fault 2 (at 8 4 20 bytes more l (omega arith) i) (abort_fault (at 12 4 20 bytes more l (omega arith) i) (at 16 4 20 bytes more l (omega arith) i)));
-  payload_length_is = at 16 4 20 bytes more l (omega arith);
-}
+abort_same bytes more l = same_by _ _ (λ i. (20, magic_fault (at 0 8 20 bytes more l (omega arith) i == ANSWER_MAGIC) (answer_fault 2 (at 8 4 20 bytes more l (omega arith) i) (abort_fault (at 12 4 20 bytes more l (omega arith) i) (at 16 4 20 bytes more l (omega arith) i))), at 16 4 20 bytes more l (omega arith) i))
 
 answer_same : (profile : Profile) (option : ℕ) (proper takes : Bool) (info : Option Exporting) (selection : Selection) (bytes more : List ℕ) → 20 ≤ length bytes → IsSameHead (answer profile option proper takes info selection bytes) (answer profile option proper takes info selection (bytes ++ more))
-answer_same profile option proper takes info selection bytes more l = record {
-  head_length_is = refl;
-  head_fault_is = λ i. fault_if (not (at 0 8 20 bytes more l (omega arith) i == ANSWER_MAGIC)) BadMagic
-      (answer_head_fault profile option proper takes info (at 8 4 20 bytes more l (omega arith) i) (at 12 4 20 bytes more l (omega arith) i) (at 16 4 20 bytes more l (omega arith) i));
-  payload_length_is = at 16 4 20 bytes more l (omega arith);
-}
+answer_same profile option proper takes info selection bytes more l = same_by _ _ (λ i. (20, magic_fault (at 0 8 20 bytes more l (omega arith) i == ANSWER_MAGIC) (answer_head_fault profile option proper takes info (at 8 4 20 bytes more l (omega arith) i) (at 12 4 20 bytes more l (omega arith) i) (at 16 4 20 bytes more l (omega arith) i)), at 16 4 20 bytes more l (omega arith) i))
 
 request_same : (c d : Core) (bytes more : List ℕ) → 28 ≤ length bytes → IsSameHead (short_request c bytes) (short_request d (bytes ++ more))
-request_same c d bytes more l = record {
-  head_length_is = refl;
-  head_fault_is = λ i. fault_if (not (at 0 4 28 bytes more l (omega arith) i == REQUEST_MAGIC)) BadMagic (request_fault (at 6 2 28 bytes more l (omega arith) i) (at 16 8 28 bytes more l (omega arith) i) (at 24 4 28 bytes more l (omega arith) i));
-  payload_length_is = λ i. request_payload_length (at 6 2 28 bytes more l (omega arith) i) (at 24 4 28 bytes more l (omega arith) i);
-}
+request_same c d bytes more l = same_by _ _ (λ i. (28, magic_fault (at 0 4 28 bytes more l (omega arith) i == REQUEST_MAGIC) (request_fault (at 6 2 28 bytes more l (omega arith) i) (at 16 8 28 bytes more l (omega arith) i) (at 24 4 28 bytes more l (omega arith) i)), request_payload_length (at 6 2 28 bytes more l (omega arith) i) (at 24 4 28 bytes more l (omega arith) i)))
 
 extended_same : (c d : Core) (bytes more : List ℕ) → 32 ≤ length bytes → IsSameHead (extended_request c bytes) (extended_request d (bytes ++ more))
-extended_same c d bytes more l = record {
-  head_length_is = refl;
-  head_fault_is = λ i. fault_if (not (at 0 4 32 bytes more l (omega arith) i == EXTENDED_REQUEST_MAGIC)) BadMagic
-      (extended_request_fault (at 4 2 32 bytes more l (omega arith) i) (at 6 2 32 bytes more l (omega arith) i) (at 16 8 32 bytes more l (omega arith) i) (at 24 8 32 bytes more l (omega arith) i));
-  payload_length_is = λ i. extended_payload_length (at 4 2 32 bytes more l (omega arith) i) (at 6 2 32 bytes more l (omega arith) i) (at 24 8 32 bytes more l (omega arith) i);
-}
+extended_same c d bytes more l = same_by _ _ (λ i. (32, magic_fault (at 0 4 32 bytes more l (omega arith) i == EXTENDED_REQUEST_MAGIC) (extended_request_fault (at 4 2 32 bytes more l (omega arith) i) (at 6 2 32 bytes more l (omega arith) i) (at 16 8 32 bytes more l (omega arith) i) (at 24 8 32 bytes more l (omega arith) i)), extended_payload_length (at 4 2 32 bytes more l (omega arith) i) (at 6 2 32 bytes more l (omega arith) i) (at 24 8 32 bytes more l (omega arith) i)))
 
 -- where no DISC has come, by whether extended headers are in force
 requests_are : {old now : Core} (export : Exporting) → Later Client old now → old.phase ≡ Transmission export → old.disconnected ≡ false → (bytes : List ℕ) → decision now.phase old now Client bytes ≡ Some (request_by old.extended now bytes)

@@ -1,5 +1,5 @@
 -- What a reader has read states the report of any run with its bytes.
-use Rattle.nbd_laws.proofs.Common.{arith, ◌≡◌, ℕ, suc, List, [], ◌∷◌, length, refl, sym, ◌∙◌, ap, subst, Option, Ok, Some, None, Bool, false, if◌then◌else◌, Profile, Base, Client, Server, Side, Message, Item, Byte, Starts, Completes, Serves, pairs, Pair, ArePairs, Report, report, asked_list, asked_of, known_from, noted, Operation, is_reply_to, is_this, MayComplete, request_of_reply, complete, ends_at, IsRunOf, side, Core, start, start_of, export_in, Both, Reader, Rest, IsFilled, fresh_of, get, put, reads, by_tests, rest_with, old_of, with_message, with_profile}
+use Rattle.nbd_laws.proofs.Common.{arith, ◌≡◌, ℕ, suc, List, [], ◌∷◌, length, refl, sym, ◌∙◌, ap, subst, Option, Ok, Some, None, Bool, false, if◌then◌else◌, Profile, Base, Client, Server, Side, Message, Item, Byte, Starts, Completes, Serves, pairs, Pair, ArePairs, Report, report, asked_list, asked_of, known_from, noted, Operation, is_reply_to, is_this, MayComplete, request_of_reply, complete, ends_at, IsRunOf, side, Core, start, start_of, export_in, Both, Reader, Rest, IsFilled, fresh_of, get, put, reads, rest_with, old_of, with_message, with_profile}
 use Rattle.nbd_laws.proofs.judge.SoundLemmas.{sound}
 use Rattle.nbd_laws.proofs.reading.ReaderLemmas.{Busy, Idle, IsFilled-snoc, IsNotBusy, Later, Later-trans, Loose, Open, Walk, at_once, behind, ended, final, led, loose, middle, old-empty, old-filled, opening, put_both, serving, with_byte}
 use Rattle.nbd_laws.proofs.runs.BegunLemmas.{AreBegun, BegunOpen, answers_same, asks_only, begun_completed}
@@ -138,8 +138,8 @@ led_report {profile} items end run leads =
     grind (arith, first, core_same, at_base, core_end-ends_at, core_led, known_at_base, known_of_run, stated_in)
 
 -- of any run with the pairs that the reader has read to their end
-pub read_report : {profile : Profile} (ps : List Pair) (end : Reader) → ArePairs ps → reads by_tests (fresh_of profile) ps ≡ Ok end → ((s : Side) → (get end.rests s).bytes ≡ []) →
+pub read_report : {profile : Profile} (ps : List Pair) (end : Reader) → ArePairs ps → reads (fresh_of profile) ps ≡ Ok end → ((s : Side) → (get end.rests s).bytes ≡ []) →
     (items : List Item) → IsRunOf profile items → pairs items ≡ ps → report items ≡ report_by end.core end.known
 read_report {profile} ps end lt e none items run has =
-    let r = run_law by_tests sound ps end lt e none in
+    let r = run_law sound ps end lt e none in
     same_reports profile items r.0 run r.1 (has ∙ sym r.2) ∙ led_report r.0 end r.1 r.3

@@ -1,5 +1,7 @@
 -- The metadata contexts that each request was asked with.
-use Rattle.nbd_laws.proofs.Common.{arith, ◌≡◌, ℕ, zero, suc, ◌==◌, List, [], ◌∷◌, ◌++◌, refl, sym, ◌∙◌, ap, Option, Some, None, Bool, Message, Greeting, ClientFlags, Choice, Answer, Exported, Request, Context, Item, Completes, Serves, Operation, Exporting, MayComplete, Obeys, after, complete, core_with_request, ends_at, reply_to, Core, Phase, State, Greet, Flags, Choosing, Naming, Aborting, Answering, Transmission, export_in, in_force, operation, with_reply_at, start_of, AreAskedWith, ContextsStay}
+use Rattle.nbd_laws.proofs.Common.{arith, ◌≡◌, ℕ, zero, suc, ◌==◌, List, [], ◌∷◌, ◌++◌, refl, sym, ◌∙◌, ap, Option, Some, None, Bool, Message, Greeting, ClientFlags, Choice, Answer, Exported, Request, Context, Item, Completes, Serves, Operation, Exporting, Obeys, after, complete, core_with_request, ends_at, reply_to, Core, Phase, State, Greet, Flags, Choosing, Naming, Aborting, Answering, Transmission, export_in, in_force, operation, with_reply_at, start_of, AreAskedWith, ContextsStay}
+use Rattle.nbd_laws.proofs.judge.WholeLemmas.{allowed}
+unfoldable use Rattle.nbd_laws.proofs.judge.WholeLemmas.{IsAllowed}
 use Rattle.nbd_wire.specs.declared.commands.TheConstants as commands
 
 pub asked_snoc : (contexts : List Context) (es : List Operation) (e : Operation) → AreAskedWith contexts es → e.contexts ≡ contexts → AreAskedWith contexts (es ++ e ∷ [])
@@ -33,8 +35,8 @@ requested b core e export q same s = grind (arith, asked_snoc)
 replied : (o : Option ℕ) (core : Core) (m : Message) (export : Exporting) → core.phase ≡ Transmission export → IsSteady core → IsSteady (reply_to o core m)
 replied o core m export q s = grind (arith, asked_answered)
 
-completed : (core : Core) (phase : Phase) (m : Message) → core.phase ≡ phase → MayComplete core phase m → IsSteady core → IsSteady (complete core m)
-unfolding MayComplete complete
+completed : (core : Core) (phase : Phase) (m : Message) → core.phase ≡ phase → IsAllowed core phase m → IsSteady core → IsSteady (complete core m)
+unfolding IsAllowed complete
 completed core Greet (Greeting flags) q ok s = idle core (complete core (Greeting flags)) (ap export_in q) refl s
 completed core Flags (ClientFlags flags) q ok s = idle core (complete core (ClientFlags flags)) (ap export_in q) refl s
 completed core Choosing (Choice id p) q ok s = idle core (complete core (Choice id p)) (ap export_in q) refl s
@@ -46,7 +48,7 @@ completed core phase m q ok s = search (requested, replied)
 
 steady : (state : State) (items : List Item) → Obeys state items → IsSteady state.core → IsSteady (ends_at state items).core
 steady state [] ob s = s
-steady state (Completes side m ∷ items) ob s = steady (after state (Completes side m)) items ob.1 (completed state.core state.core.phase m refl ob.0.0 s)
+steady state (Completes side m ∷ items) ob s = steady (after state (Completes side m)) items ob.1 (completed state.core state.core.phase m refl (allowed state.core state.core.phase m ob.0.0) s)
 steady state (Serves e ∷ items) ob s = steady (after state (Serves e)) items ob.1 (record { none = s.none; asked = s.asked })
 steady state (item ∷ items) ob s = steady state items ob.1 s
 

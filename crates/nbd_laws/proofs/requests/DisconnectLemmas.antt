@@ -1,8 +1,10 @@
 -- Nothing of the client comes after a DISC.
-use Rattle.nbd_laws.proofs.Common.{arith, ◌≡◌, ℕ, List, [], ◌∷◌, ◌++◌, ◌∙◌, subst, Option, true, Client, Message, Request, ExtendedRequest, Item, Starts, Completes, Serves, Exporting, MayComplete, MayStartIn, Obeys, after, complete, ends_at, reply_to, Core, Phase, State, Transmission, start_of, DisconnectsAreEmpty, IsDisconnect, NothingAfterDisconnect}
+use Rattle.nbd_laws.proofs.Common.{arith, ◌≡◌, ℕ, List, [], ◌∷◌, ◌++◌, ◌∙◌, true, Client, Message, Request, ExtendedRequest, Item, Starts, Completes, Serves, Exporting, MayComplete, MayStartIn, Obeys, after, complete, ends_at, Core, Phase, State, Transmission, start_of, DisconnectsAreEmpty, IsDisconnect, NothingAfterDisconnect}
+use Rattle.nbd_laws.proofs.judge.WholeLemmas.{allowed}
+unfoldable use Rattle.nbd_laws.proofs.judge.WholeLemmas.{IsAllowed}
 use Rattle.nbd_laws.proofs.judge.AllowLemmas.{MayAsk, ask_allow, extended_ask_allow}
 use Rattle.nbd_wire.specs.declared.commands.TheConstants as commands
-use Rattle.nbd_laws.proofs.runs.PrefixLemmas.{InTransmission, asks, phase-complete, transmission_row}
+use Rattle.nbd_laws.proofs.runs.PrefixLemmas.{InTransmission, asks, in_transmission, phase-complete}
 use Rattle.nbd_laws.proofs.runs.PartLemmas.{obeys_back, obeys_prefix}
 
 -- a DISC completes in transmission alone
@@ -12,12 +14,12 @@ record IsAsked (core : Core) (phase : Phase) (cookie offset len : ℕ) : Type 0 
   asks_it : MayAsk true core cookie offset len
 
 short_row : (core : Core) (phase : Phase) (flags cookie offset len : ℕ) (p : List ℕ) → MayComplete core phase (Request flags commands.DISC cookie offset len p) → IsAsked core phase cookie offset len
-unfolding MayComplete
-short_row core phase flags cookie offset len p ok = grind (arith, ask_allow)
+unfolding IsAllowed
+short_row core phase flags cookie offset len p ok = grind (arith, ask_allow, allowed core phase (Request flags commands.DISC cookie offset len p) ok)
 
 extended_row : (core : Core) (phase : Phase) (flags cookie offset len : ℕ) (p : List ℕ) → MayComplete core phase (ExtendedRequest flags commands.DISC cookie offset len p) → IsAsked core phase cookie offset len
-unfolding MayComplete
-extended_row core phase flags cookie offset len p ok = grind (arith, extended_ask_allow)
+unfolding IsAllowed
+extended_row core phase flags cookie offset len p ok = grind (arith, extended_ask_allow, allowed core phase (ExtendedRequest flags commands.DISC cookie offset len p) ok)
 
 -- in transmission, with the client gone
 record IsGone (core : Core) : Type 0 where
@@ -29,7 +31,7 @@ stays_gone : (items : List Item) (state : State) → Obeys state items → IsGon
 unfolding complete
 stays_gone [] state ob g = g
 stays_gone (Completes s m ∷ items) state ob g =
-    let i : InTransmission state.core g.export m = transmission_row state.core g.export m (subst (λ phase. MayComplete state.core phase m) g.phase_is ob.0.0) in
+    let i : InTransmission state.core g.export m = in_transmission g.phase_is ob.0.0 in
     stays_gone items (after state (Completes s m)) ob.1 (record {
       export = g.export;
       phase_is = phase-complete state.core g.export m i ∙ g.phase_is;

@@ -1,5 +1,6 @@
 -- What holds of each request goes on to hold as messages complete, where it holds of each new request and stays with each reply.
-use Rattle.nbd_laws.proofs.Common.{◌≡◌, ℕ, zero, suc, ◌==◌, List, [], ◌∷◌, ◌++◌, refl, sym, subst, Option, Some, None, Bool, true, false, arith, Message, Request, Simple, Chunk, ExtendedRequest, ExtendedChunk, Operation, Exporting, MayComplete, MayReply, complete, core_with_request, filter_in, has_contexts, operation_asked, reply_to, request_of_reply, written, Core, Phase, Transmission, operation, target, with_reply, with_reply_at}
+use Rattle.nbd_laws.proofs.Common.{◌≡◌, ℕ, zero, suc, ◌==◌, List, [], ◌∷◌, ◌++◌, refl, sym, subst, Option, Some, None, Bool, true, false, arith, Message, Request, Simple, Chunk, ExtendedRequest, ExtendedChunk, Operation, Exporting, complete, core_with_request, filter_in, has_contexts, operation_asked, reply_to, request_of_reply, written, Core, Phase, Transmission, operation, target, with_reply, with_reply_at}
+unfoldable use Rattle.nbd_laws.proofs.judge.WholeLemmas.{IsAllowed, MayReply}
 use Rattle.nbd_wire.specs.declared.commands.TheConstants as commands
 
 abbrev pub Each : (Operation → Type 0) → List Operation → Type 0
@@ -45,8 +46,8 @@ abbrev pub Replies : (Operation → Type 0) → Core → Phase → Message → T
 Replies P core phase m = (export : Exporting) (k : ℕ) (e : Operation) → phase ≡ Transmission export → request_of_reply core m ≡ Some k → operation k core.entries ≡ Some e
     → MayReply core.profile core.structured export e m → P e → P (with_reply e m)
 
-pub each_complete : (P : Operation → Type 0) (core : Core) (phase : Phase) (m : Message) → MayComplete core phase m → Each P core.entries → Asks P core m → Replies P core phase m → Each P (complete core m).entries
-unfolding MayComplete complete
+pub each_complete : (P : Operation → Type 0) (core : Core) (phase : Phase) (m : Message) → IsAllowed core phase m → Each P core.entries → Asks P core m → Replies P core phase m → Each P (complete core m).entries
+unfolding IsAllowed complete
 each_complete P core phase (Request flags command cookie offset len p) ok t a r = each_requested P (command == commands.DISC) core _ t a
 each_complete P core phase (ExtendedRequest flags command cookie offset len p) ok t a r = each_requested P (command == commands.DISC) core _ t a
 each_complete P core (Transmission export) (Simple error cookie p) (k, e, found, is, h) t a r = each_replied P (target cookie core.entries) core _ k e found is t (r export k e refl found is h)

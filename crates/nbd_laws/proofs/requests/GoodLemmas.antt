@@ -1,5 +1,6 @@
 -- What a request keeps as replies to it complete.
-use Rattle.nbd_laws.proofs.Common.{and_from, and_parts, ◌≡◌, Option, ℕ, ◌≤◌, ◌==◌, List, [], ◌∷◌, ◌++◌, length, refl, sym, ◌∙◌, ap, subst, inl, inr, None, Bool, true, false, ◌&&◌, if◌then◌else◌, eqb-true, eq-eqb, arith, IsTrue, append-nil, nat_le, nat_lt, le_refl, leb-true, ltb-true, Profile, read_as, done_fault, simple_length, Message, Simple, Chunk, ExtendedRequest, ExtendedChunk, Piece, Sizes, Context, length_by, content_of, MayReply, filter_in, written, Covers, Operation, Exporting, Success, any, ends_reply, has_failed, is_failing, is_finished, is_proper, outcome, pieces, chunk_piece, piece_of, simple_piece, has, IsSendable, with_reply}
+use Rattle.nbd_laws.proofs.Common.{and_from, and_parts, ◌≡◌, Option, ℕ, ◌≤◌, ◌==◌, List, [], ◌∷◌, ◌++◌, length, refl, sym, ◌∙◌, ap, subst, inl, inr, None, Bool, true, false, ◌&&◌, if◌then◌else◌, eqb-true, eq-eqb, arith, IsTrue, append-nil, nat_le, nat_lt, le_refl, leb-true, ltb-true, Profile, read_as, done_fault, simple_length, Message, Simple, Chunk, ExtendedRequest, ExtendedChunk, Piece, Sizes, Context, length_by, content_of, filter_in, written, Covers, Operation, Exporting, Success, any, ends_reply, has_failed, is_failing, is_finished, is_proper, outcome, pieces, chunk_piece, piece_of, simple_piece, has, IsSendable, with_reply}
+unfoldable use Rattle.nbd_laws.proofs.judge.WholeLemmas.{MayReply}
 use Rattle.nbd_laws.proofs.judge.AllowLemmas.{IsChunk, chunk_allow, extended_allow, finish_allow, simple_allow, total_covers}
 use Rattle.nbd_laws.proofs.judge.KindLemmas.{kind_content, no_content, none_content, status_content}
 use Rattle.nbd_wire.specs.declared.chunks.TheConstants as chunks

@@ -1,5 +1,7 @@
 -- The outstanding requests of a core have distinct cookies.
 use Rattle.nbd_laws.proofs.Common.{and_parts, not-true, ◌≡◌, ℕ, zero, suc, ◌==◌, List, [], ◌∷◌, ◌++◌, refl, ◌∙◌, ap, subst, Option, Some, None, Bool, false, arith, eqb-true, eq-eqb, IsTrue, is_some, IsServedAt, Server, Message, Request, ExtendedRequest, Profile, operations_of, report, Item, Starts, Completes, Serves, service_order, Operation, Exporting, any, ends_reply, is_finished, MayComplete, MayStartIn, Obeys, after, request_of_reply, complete, cookie_of, ends_at, inside_at, makes_due, core_with_request, target_of, Core, Phase, State, Transmission, with_reply_at, operation, is_awaiting, start, start_of, target, target_from, export_in, AnswersRequest, CookiesAreDistinct, EachReplyAnswersOne, EmptyIsExplained, ServedOnceAfterCompletion}
+use Rattle.nbd_laws.proofs.judge.WholeLemmas.{allowed}
+unfoldable use Rattle.nbd_laws.proofs.judge.WholeLemmas.{IsAllowed}
 use Rattle.nbd_laws.proofs.judge.PhaseLemmas.{IsFound, find}
 use Rattle.nbd_laws.proofs.judge.AllowLemmas.{MayAsk, ask_allow, extended_ask_allow}
 use Rattle.nbd_wire.specs.declared.commands.TheConstants as commands
@@ -49,11 +51,14 @@ distinct_requested : (b : Bool) (core : Core) (e : Operation) (offset len : ℕ)
 unfolding target
 distinct_requested b core e offset len h d = grind (arith, distinct-snoc, free_of)
 
+distinct_allowed : (core : Core) (phase : Phase) (m : Message) → IsAllowed core phase m → AreDistinct core.entries → AreDistinct (complete core m).entries
+unfolding IsAllowed complete
+distinct_allowed core (Transmission export) (Request flags command cookie offset len p) ok d = distinct_requested (command == commands.DISC) core _ offset len (ask_allow core command cookie offset len ok.0 ok.1) d
+distinct_allowed core (Transmission export) (ExtendedRequest flags command cookie offset len p) ok d = distinct_requested (command == commands.DISC) core _ offset len (extended_ask_allow core flags command cookie offset len ok.0 ok.1) d
+distinct_allowed core phase m ok d = grind (arith, distinct_requested, ask_allow, extended_ask_allow, distinct_answered)
+
 pub distinct_complete : (core : Core) (phase : Phase) (m : Message) → MayComplete core phase m → AreDistinct core.entries → AreDistinct (complete core m).entries
-unfolding MayComplete complete
-distinct_complete core (Transmission export) (Request flags command cookie offset len p) ok d = distinct_requested (command == commands.DISC) core _ offset len (ask_allow core command cookie offset len ok.0 ok.1) d
-distinct_complete core (Transmission export) (ExtendedRequest flags command cookie offset len p) ok d = distinct_requested (command == commands.DISC) core _ offset len (extended_ask_allow core flags command cookie offset len ok.0 ok.1) d
-distinct_complete core phase m ok d = grind (arith, distinct_requested, ask_allow, extended_ask_allow, distinct_answered)
+distinct_complete core phase m ok d = distinct_allowed core phase m (allowed core phase m ok) d
 
 pub distinct : (state : State) (items : List Item) → Obeys state items → AreDistinct state.core.entries → AreDistinct (ends_at state items).core.entries
 distinct state [] ob d = d

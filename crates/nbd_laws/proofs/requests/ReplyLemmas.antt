@@ -1,5 +1,7 @@
 -- The replies to a request are one simple reply, or chunks of which the last and only the last ends the reply.
-use Rattle.nbd_laws.proofs.Common.{and_parts, request_of_reply, target_of, arith, ◌≡◌, ℕ, ◌||◌, List, [], ◌∷◌, ◌++◌, refl, sym, ◌∙◌, ap, subst, Option, Some, None, Bool, true, false, eqb-true, Message, Request, Simple, Chunk, ExtendedRequest, ExtendedChunk, MayReply, MayComplete, complete, cookie_of, ends_at, operations_of, Operation, Exporting, any, ends_reply, is_finished, Core, Phase, Transmission, operation, start, target, with_reply, IsReached, at_start, after_message, IsReplyAfter, IsReplyBetween, RepliesAreWhole, Profile}
+use Rattle.nbd_laws.proofs.Common.{and_parts, request_of_reply, target_of, arith, ◌≡◌, ℕ, ◌||◌, List, [], ◌∷◌, ◌++◌, refl, sym, ◌∙◌, ap, subst, Option, Some, None, Bool, false, eqb-true, Message, Request, Simple, Chunk, ExtendedRequest, ExtendedChunk, complete, cookie_of, ends_at, operations_of, Operation, Exporting, any, ends_reply, is_finished, Core, Phase, Transmission, operation, start, target, with_reply, IsReached, at_start, after_message, IsReplyAfter, IsReplyBetween, RepliesAreWhole, Profile}
+use Rattle.nbd_laws.proofs.judge.WholeLemmas.{allowed}
+unfoldable use Rattle.nbd_laws.proofs.judge.WholeLemmas.{IsAllowed, MayReply}
 use Rattle.nbd_laws.proofs.judge.AllowLemmas.{chunk_allow, extended_allow, finish_allow, simple_allow}
 use Rattle.nbd_laws.proofs.judge.PhaseLemmas.{IsFound, find}
 use Rattle.nbd_laws.proofs.runs.ProfileLemmas.{at_base, profile_end, profile_stays}
@@ -89,13 +91,13 @@ whole_reply core export m k e q is h w prefix back n at = go (cookie_of m) refl 
         let b = whole_snoc core.profile core.structured e m (open_target core cookie k e q is) w (c ∙ ap Some (sym (found_cookie core cookie k e q is))) (behind_it core.profile core.structured export e m h) prefix back n at in
         record { cookie = b.cookie; ends = b.ends; fits = (grind arith) }
 
-none_there : (core : Core) (phase : Phase) (m : Message) → MayComplete core phase m → (P : Operation → Type 0) → ((export : Exporting) → phase ≡ Transmission export → ⊥) → InPhase phase core.entries → Each P (complete core m).entries
-unfolding MayComplete complete
+none_there : (core : Core) (phase : Phase) (m : Message) → IsAllowed core phase m → (P : Operation → Type 0) → ((export : Exporting) → phase ≡ Transmission export → ⊥) → InPhase phase core.entries → Each P (complete core m).entries
+unfolding IsAllowed complete
 none_there core phase m ok P out g = grind arith
 
 -- in negotiation there is no request, and in transmission structured replies stay as they are
-whole_complete : (core : Core) (phase : Phase) (m : Message) → core.phase ≡ phase → MayComplete core phase m → Each (IsWhole core.profile core.structured) core.entries → InPhase phase core.entries → Each (IsWhole core.profile (complete core m).structured) (complete core m).entries
-unfolding MayComplete complete
+whole_complete : (core : Core) (phase : Phase) (m : Message) → core.phase ≡ phase → IsAllowed core phase m → Each (IsWhole core.profile core.structured) core.entries → InPhase phase core.entries → Each (IsWhole core.profile (complete core m).structured) (complete core m).entries
+unfolding IsAllowed complete
 whole_complete core (Transmission export) m q ok w g =
     subst (λ b. Each (IsWhole core.profile b) (complete core m).entries) (sym ((grind arith)))
     (each_complete (IsWhole core.profile core.structured) core (Transmission export) m ok w (whole_asks core.profile core.structured core m) (λ export' k e p q is h. whole_reply core export' m k e q is h))
@@ -103,7 +105,7 @@ whole_complete core phase m q ok w g = none_there core phase m ok (IsWhole core.
 
 whole : {core : Core} → IsReached core → Each (IsWhole core.profile core.structured) core.entries
 whole at_start = tt
-whole (after_message {c = c} m r sn ok) = subst (λ p. Each (IsWhole p (complete c m).structured) (complete c m).entries) (sym (profile_stays c m)) (whole_complete c c.phase m refl ok (whole r) (sound r))
+whole (after_message {c = c} m r sn ok) = subst (λ p. Each (IsWhole p (complete c m).structured) (complete c m).entries) (sym (profile_stays c m)) (whole_complete c c.phase m refl (allowed c c.phase m ok) (whole r) (sound r))
 
 pub replies_are_whole : RepliesAreWhole
 replies_are_whole profile items run k e prefix back m is q =

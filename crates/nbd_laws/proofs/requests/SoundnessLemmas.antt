@@ -1,5 +1,7 @@
 -- What holds of each request of a core that completed messages lead to, and of every report.
-use Rattle.nbd_laws.proofs.Common.{and_parts, not-true, or_cases, Simple, Chunk, ExtendedChunk, MayReply, request_of_reply, is_error, nat_lt, ltb-false, ◌≡◌, ℕ, ◌≤◌, ◌+◌, List, [], ◌∷◌, length, refl, sym, ◌∙◌, ap, subst, Option, Some, None, false, eqb-true, arith, IsTrue, nat_le, ◌⊎◌, append-nil, leb-true, EXPORT_SIZE, Message, Item, Starts, Completes, Profile, reply_phase, next_phase, Asked, operations_of, export_of, known_count, known_from, report, asked_of, Operation, Exporting, has_range, is_finished, is_outside, is_proper, pieces, has, MayComplete, complete, ends_at, IsSendable, Core, Phase, Answering, Transmission, operation, start, target, with_reply, export_in, IsAfter, IsSoundAsked, IsSoundReport, ReportsAreSound, IsReached, at_start, after_message, Selection, eq-eqb, not-false}
+use Rattle.nbd_laws.proofs.Common.{and_parts, not-true, or_cases, Simple, Chunk, ExtendedChunk, request_of_reply, is_error, nat_lt, ltb-false, ◌≡◌, ℕ, ◌≤◌, ◌+◌, List, [], ◌∷◌, length, refl, sym, ◌∙◌, ap, subst, Option, Some, None, false, eqb-true, arith, IsTrue, nat_le, ◌⊎◌, append-nil, leb-true, EXPORT_SIZE, Message, Item, Starts, Completes, Profile, reply_phase, next_phase, Asked, operations_of, export_of, known_count, known_from, report, asked_of, Operation, Exporting, has_range, is_finished, is_outside, is_proper, pieces, has, complete, ends_at, IsSendable, Core, Phase, Answering, Transmission, operation, start, target, with_reply, export_in, IsAfter, IsSoundAsked, IsSoundReport, ReportsAreSound, IsReached, at_start, after_message, Selection, eq-eqb, not-false}
+use Rattle.nbd_laws.proofs.judge.WholeLemmas.{allowed}
+unfoldable use Rattle.nbd_laws.proofs.judge.WholeLemmas.{IsAllowed, MayReply}
 use Rattle.nbd_laws.proofs.judge.AllowLemmas.{IsSuccess, answer_allow}
 use Rattle.nbd_laws.proofs.judge.BoolLemmas.{fault_none}
 use Rattle.nbd_wire.specs.declared.commands.TheConstants as commands
@@ -35,7 +37,7 @@ good_reply core export (Chunk flags kind cookie p) k e q is h g = good_chunk cor
 good_reply core export (ExtendedChunk flags kind cookie at p) k e q is h g = good_extended core.profile core.structured export e flags kind cookie at p g (open_target core cookie k e q is) h
 good_reply core export m k e q is h g = absurd h
 
-good_transmitted : (core : Core) (export : Exporting) (m : Message) → MayComplete core (Transmission export) m → IsSendable m → Each (IsGood export) core.entries → Each (IsGood export) (complete core m).entries
+good_transmitted : (core : Core) (export : Exporting) (m : Message) → IsAllowed core (Transmission export) m → IsSendable m → Each (IsGood export) core.entries → Each (IsGood export) (complete core m).entries
 unfolding IsSendable
 good_transmitted core export m ok sn g = each_complete (IsGood export) core (Transmission export) m ok g ((grind (arith, eq-eqb, good_asked)))
     (λ export' k e p q is h. good_reply core export m k e q is (let same : export' ≡ export = cc in subst (λ x. MayReply core.profile core.structured x e m) same h))
@@ -47,9 +49,9 @@ module _ (asked : ℕ) (asked_with : List ℕ) (info : Option Exporting) (es : L
   answered_in selection kind p ok = grind (arith, eqb-true, or_cases, and_parts, fault_none, nat_lt, ltb-false)
 
 pub sound : {core : Core} → IsReached core → InPhase core.phase core.entries
-unfolding MayComplete complete next_phase
+unfolding IsAllowed complete next_phase
 sound at_start = refl
-sound (after_message {c = c} m r sn ok) = grind (arith, nat_lt, fault_none, not-false, ltb-false, answered_in, answer_allow, phase-complete, good_transmitted, transmission_row, c.phase, sound r)
+sound (after_message {c = c} m r sn ok) = grind (arith, nat_lt, fault_none, not-false, ltb-false, answered_in, answer_allow, phase-complete, good_transmitted, transmission_row, c.phase, allowed c c.phase m ok, sound r)
 
 -- known counts lie between a request's own number and the number of all requests
 known_between : (core : Core) (items : List Item) (k n : ℕ) → known_from core k items ≡ Some n → (k ≤ n) × (n ≤ length (core_end core items).entries)

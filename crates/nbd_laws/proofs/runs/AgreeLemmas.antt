@@ -1,5 +1,6 @@
 -- What a session that is held to one profile may do, it may do under the other too, but for answers of success to the options on metadata contexts.
-use Rattle.nbd_laws.proofs.Common.{not-false, or_parts, ◌≡◌, ℕ, ◌==◌, Bool, true, false, List, [], ◌∷◌, length, refl, sym, ◌∙◌, ap, subst, Option, Some, All, not, if◌then◌else◌, Result, Ok, Err, inl, inr, nat_lt, drop, ◌+◌, append_assoc, arith, ◌≢◌, ◌++◌, ◌<◌, None, ◌||◌, eqb-true, All-head, All-tail, eqb-false, ltb-false, DuesAgree, RunsAgree, AnnouncesAllowed, BaseIsWide, IsParting, NothingFrom, NothingParts, PlacesAgree, UnderWayAgrees, with_profile, IsUnderWayOf, ArePairs, Pair, answer, answer_of, begins, chunk_last_fault, chunk_of, chunk_to, extended_chunk_of, extended_chunk_to, extended_last_fault, extended_reply_by, operation_of, reply_by, answer_fault, is_wide, earlier_to, is_bad_payload, is_good_info, payload_fault, success_fault, Both, by_tests, judge_in, last_reading, read_by, staged_reading_by, Reader, Reading, Rest, Whole, fresh_of, get, on_ok, reads, rest_with, settle, step, fault_if, IsExplainedOf, pairs, without_service, Item, Byte, Starts, Completes, Serves, completed_messages, report, Passes, Selection, Context, ANSWER_MAGIC, CHUNK_MAGIC, EXTENDED_CHUNK_MAGIC, WireFault, BadMagic, SuccessOfImproper, BadReplyPayload, WrongOption, number_at, info_of, Ended, Core, Phase, Greet, Flags, Choosing, Naming, Aborting, Answering, Transmission, start_of, with_reply, Info, BlockSize, Export, Other, is_proper_option, takes_contexts, is_error, Entry, Message, Greeting, ClientFlags, Choice, Answer, Exported, Chunk, ExtendedChunk, Side, Client, Server, Profile, Base, Wide, Exporting, Operation, is_error_chunk, chunk_fault, chunk_head_fault, extended_head_fault, offset_fault, read_as, Sizes, are_allowed, sizes_of, IsRunOf, MayComplete, MayReply, MayStartIn, Obeys, complete}
+use Rattle.nbd_laws.proofs.Common.{SIMPLE_MAGIC, reply_in, answer_head_fault, ◌&&◌, ne_eqb, enc, or_cases, side, IsTrue, not-false, ◌≡◌, ℕ, ◌==◌, Bool, true, false, List, [], ◌∷◌, length, refl, sym, ◌∙◌, ap, subst, Option, Some, All, not, if◌then◌else◌, Result, Ok, Err, inl, inr, nat_lt, drop, ◌+◌, append_assoc, arith, ◌≢◌, ◌++◌, ◌<◌, None, ◌||◌, eqb-true, All-head, All-tail, eqb-false, ltb-false, DuesAgree, RunsAgree, AnnouncesAllowed, BaseIsWide, IsParting, NothingFrom, NothingParts, PlacesAgree, UnderWayAgrees, with_profile, IsUnderWayOf, ArePairs, Pair, answer, answer_of, begins, chunk_last_fault, chunk_of, chunk_to, extended_chunk_of, extended_chunk_to, extended_last_fault, operation_of, answer_fault, is_wide, earlier_to, is_bad_payload, is_good_info, payload_fault, success_fault, Both, judge, judge_in, read_by, Reader, Reading, Rest, Whole, fresh_of, get, on_ok, reads, rest_with, settle, step, fault_if, IsExplainedOf, pairs, without_service, Item, Byte, Starts, Completes, Serves, completed_messages, report, Passes, Selection, Context, ANSWER_MAGIC, CHUNK_MAGIC, EXTENDED_CHUNK_MAGIC, WireFault, BadMagic, SuccessOfImproper, BadReplyPayload, number_at, info_of, Ended, Core, Phase, Greet, Flags, Choosing, Naming, Aborting, Answering, Transmission, start_of, with_reply, Info, BlockSize, Export, Other, is_proper_option, takes_contexts, is_error, Entry, Message, Answer, Side, Client, Server, Profile, Base, Wide, Exporting, Operation, is_error_chunk, chunk_fault, chunk_head_fault, extended_head_fault, offset_fault, read_as, Sizes, are_allowed, sizes_of, IsRunOf, MayComplete, MayStartIn, Obeys, complete}
+use Rattle.nbd_laws.proofs.judge.DecideLemmas.{extended_reply_by, reply_by, last_reading, staged_reading_by}
 use Rattle.std.proofs.lemmas.Bool.{eq-eqb}
 use Rattle.nbd_laws.proofs.judge.BlockLemmas.{reads-append}
 use Rattle.nbd_laws.proofs.judge.ExactLemmas.{exact}
@@ -12,10 +13,12 @@ use Rattle.nbd_laws.proofs.service.DueProfileLemmas.{due_at_once, faultless_wide
 use Rattle.nbd_laws.proofs.service.ExplainingLemmas.{explained_passes, passing_is_explained}
 use Rattle.nbd_laws.proofs.service.ServiceLemmas.{reports_ignore_service}
 use Rattle.nbd_laws.proofs.runs.RunLemmas.{fresh_held, walk_of}
-use Rattle.nbd_laws.proofs.judge.BoolLemmas.{and_false, fault_none}
-use Rattle.nbd_laws.proofs.judge.ExactNegotiationLemmas.{no_fault_if}
+use Rattle.nbd_laws.proofs.judge.BoolLemmas.{fault_none}
+use Rattle.nbd_laws.proofs.judge.WholeLemmas.{IsReply, as_chunk, as_extended, as_simple, magic_of, no_offset_fault, reply_read, whole}
+use Rattle.nbd_wire.specs.protocol.Negotiation.{extends}
+use Rattle.nbd_laws.specs.Profiles.{IsUnknownError}
 use Rattle.nbd_wire.specs.declared.chunks.TheConstants as chunks
-use Rattle.nbd_laws.proofs.judge.AllowLemmas.{IsChunk, chunk_allow, extended_allow}
+use Rattle.nbd_laws.proofs.judge.AllowLemmas.{IsChunk, form_of}
 use Rattle.nbd_laws.proofs.judge.KindLemmas.{error_content, failure_kind, no_other, read_kind}
 use Rattle.nbd_wire.specs.declared.answers.TheConstants as answers
 use Rattle.nbd_laws.proofs.runs.ProfileLemmas.{complete_with}
@@ -25,62 +28,9 @@ abbrev pub IsFalse : Message → Type 0
 IsFalse (Answer answered kind given) = (kind ≡ answers.INFO) × ((sizes : Sizes) × (sizes_of (info_of given) ≡ Some sizes) × (are_allowed sizes ≡ false))
 IsFalse m = ⊥
 
-info_wide : (profile : Profile) (o : Option Info) → ((sizes : Sizes) → sizes_of o ≡ Some sizes → are_allowed sizes ≡ false → ⊥) → is_good_info profile o ≡ true → is_good_info Wide o ≡ true
-info_wide profile None fair e = e
-info_wide profile (Some (BlockSize a b c)) fair e = go (are_allowed (record { least = a; preferred = b; largest = c })) refl
-  where
-    go : (x : Bool) → are_allowed (record { least = a; preferred = b; largest = c }) ≡ x → x ≡ true
-    go true q = refl
-    go false q = absurd (fair (record { least = a; preferred = b; largest = c }) refl q)
-info_wide profile o fair e = e
-
-last_wide : (profile : Profile) (earlier : List Context) (proper : Bool) (kind : ℕ) (payload : List ℕ) → (kind ≡ answers.INFO → (sizes : Sizes) → sizes_of (info_of payload) ≡ Some sizes → are_allowed sizes ≡ false → ⊥) →
-    payload_fault profile earlier proper kind payload ≡ None → payload_fault Wide earlier proper kind payload ≡ None
-last_wide profile earlier proper kind payload fair e = grind (arith, fault_none, no_fault_if, or_parts, info_wide, eqb-true, not-false, and_false)
-
 -- in Base a chunk is of a type that Wide reads as it is
 known_kind : (extended : Bool) (export : Exporting) (e : Operation) (flags kind : ℕ) (payload : List ℕ) → IsChunk Base extended export e flags kind payload → read_as Wide kind ≡ kind
 known_kind extended export e flags kind payload h = grind (arith, read_kind, error_content, failure_kind, eq-eqb, no_other)
-
-chunk_wide : (profile : Profile) (structured : Bool) (export : Exporting) (e : Operation) (flags kind cookie : ℕ) (payload : List ℕ) → MayReply profile structured export e (Chunk flags kind cookie payload) →
-    MayReply Wide structured export e (Chunk flags kind cookie payload)
-unfolding MayReply
-chunk_wide Wide structured export e flags kind cookie payload may = may
-chunk_wide Base structured export e flags kind cookie payload may = (
-  may.0,
-  ap (λ k. chunk_fault false (kind == chunks.NONE) export e (with_reply e (Chunk flags kind cookie payload)) flags k payload) (known_kind false export e flags kind payload (chunk_allow Base structured export e flags kind cookie payload may).1) ∙ may.1,
-)
-
-extended_wide : (profile : Profile) (structured : Bool) (export : Exporting) (e : Operation) (flags kind cookie at : ℕ) (payload : List ℕ) → MayReply profile structured export e (ExtendedChunk flags kind cookie at payload) →
-    MayReply Wide structured export e (ExtendedChunk flags kind cookie at payload)
-unfolding MayReply
-extended_wide Wide structured export e flags kind cookie at payload may = may
-extended_wide Base structured export e flags kind cookie at payload may = (
-  may.0,
-  ap (λ k. chunk_fault true (kind == chunks.NONE) export e (with_reply e (ExtendedChunk flags kind cookie at payload)) flags k payload) (known_kind true export e flags kind payload (extended_allow Base structured export e flags kind cookie at payload may).1) ∙ may.1,
-  may.2,
-)
-
--- what may complete may do so in Wide, but for false announcements
-may_wide : (core : Core) (phase : Phase) (m : Message) → (IsFalse m → ⊥) → MayComplete core phase m → MayComplete (with_profile Wide core) phase m
-unfolding MayComplete MayReply
-may_wide core Greet (Greeting flags) fair ok = ok
-may_wide core Flags (ClientFlags flags) fair ok = ok
-may_wide core Choosing (Choice id payload) fair ok = ok
-may_wide core Naming (Exported size flags padded) fair ok = ok
-may_wide core Aborting (Answer option kind payload) fair ok = ok
-may_wide core (Answering asked given info) (Answer option kind payload) fair (at_head, at_last) = (
-  no_fault_if _ WrongOption _ (fault_none _ WrongOption _ at_head).0 (head (is_error kind) (fault_none _ WrongOption _ at_head).1),
-  last (is_error kind) at_last,
-)
-  where
-    head : (b : Bool) → (if b then None else (success_fault core.profile asked (is_proper_option asked given) (takes_contexts asked given) info kind (length payload))) ≡ None → (if b then None else (success_fault Wide asked (is_proper_option asked given) (takes_contexts asked given) info kind (length payload))) ≡ None
-    head b e = grind (arith, fault_none, no_fault_if)
-
-    last : (b : Bool) → (if b then None else (payload_fault core.profile (earlier_to asked core.selection) (is_proper_option asked given) kind payload)) ≡ None → (if b then None else (payload_fault Wide (earlier_to asked core.selection) (is_proper_option asked given) kind payload)) ≡ None
-    last true e = refl
-    last false e = last_wide core.profile _ _ kind payload (λ k sizes h e. fair (k, (sizes, h, e))) e
-may_wide core phase m fair ok = grind (arith, no_fault_if, fault_none, last_wide, extended_wide, chunk_wide)
 
 -- each message that completes may do so in the profile
 abbrev pub Carries : Profile → Core → List Item → Type 0
@@ -94,35 +44,9 @@ Carries q core (Serves k ∷ items) = Carries q core items
 follows_with : (q : Profile) (items : List Item) (core : Core) → Follows core items → Carries q core items → Follows (with_profile q core) items
 unfolding MayStartIn
 follows_with q [] core f c = tt
-follows_with q (Starts s m ∷ items) core f c = (record { sided = f.0.sided; sendable = f.0.sendable; starts = (grind arith) }, follows_with q items core f.1 c)
+follows_with q (Starts s m ∷ items) core f c = (record { sided = f.0.sided; are_bytes = f.0.are_bytes; starts = (grind arith) }, follows_with q items core f.1 c)
 follows_with q (Completes s m ∷ items) core f c = (c.0, subst (λ x. Follows x items) (sym (complete_with q core m)) (follows_with q items (complete core m) f.1 c.1))
 follows_with q (item ∷ items) core f c = follows_with q items core f c
-
-allowed_is_no_false : (m : Message) → AnnouncesAllowed m → IsFalse m → ⊥
-allowed_is_no_false m a f = grind arith
-
--- in Wide each message may that may in the profile of the core
-carries_wide : (items : List Item) (core : Core) (js : List Entry) → All AnnouncesAllowed (completed_messages items) → Obeys (record { core = core; served = js }) items → Carries Wide core items
-carries_wide [] core js all ob = tt
-carries_wide (Completes s m ∷ items) core js all ob = (
-  may_wide core core.phase m (allowed_is_no_false m (All-head AnnouncesAllowed m (completed_messages items) all)) ob.0.0,
-  carries_wide items (complete core m) js (All-tail AnnouncesAllowed m (completed_messages items) all) ob.1,
-)
-carries_wide (Serves k ∷ items) core js all ob = carries_wide items core _ all ob.1
-carries_wide (item ∷ items) core js all ob = carries_wide items core js all ob.1
-
-pub base_is_wide : BaseIsWide
-base_is_wide capture order initial ex all =
-    let first : Core = (start_of Base).core in
-    let items : List Item = canon (start_of Wide).core ex.items in
-    let run : IsRunOf Wide items = canonical_run Wide ex.items (walk_of ex.is_run) (follows_with Wide ex.items first (follows ex.items (start_of Base) ex.is_run.obeys) (carries_wide ex.items first [] all ex.is_run.obeys)) in
-    let unserved : without_service items ≡ without_service ex.items = unserved_canon (start_of Wide).core ex.items in
-    let same : report items ≡ report ex.items = reports_ignore_service items ex.items unserved in
-    let of_items : pairs items ≡ pairs ex.items = sym (pairs_unserved items) ∙ ap pairs unserved ∙ pairs_unserved ex.items in
-    let passes : Passes Base (report ex.items) order initial = explained_passes Base ex.items order initial ex.is_run (subst (λ c. IsExplainedOf Base c order initial) (sym ex.has_pairs) ex) in
-    subst (λ c. IsExplainedOf Wide c order initial) (of_items ∙ ex.has_pairs)
-    (passing_is_explained Wide items order initial run (subst (λ r. Passes Wide r order initial) (sym same)
-    (record { faultless = faultless_wide ex.items order ex.is_run passes.faultless; fits_image = passes.fits_image; reads = passes.reads })))
 
 abbrev Quiet : Phase → Side → List ℕ → Type 0
 Quiet phase s bytes = s ≡ Server → IsParting phase bytes → ⊥
@@ -223,14 +147,92 @@ reading_in q Naming since now Client bytes none = refl
 reading_in q Aborting since now Client bytes none = refl
 reading_in q Ended since now Client bytes none = refl
 reading_in q (Transmission export) since now Client bytes none = grind arith
-reading_in q (Transmission export) since now Server bytes none = grind (arith, replied, wide)
+reading_in q (Transmission export) since now Server bytes none = go now.extended
   where
     wide : (c : Bool) → begins EXTENDED_CHUNK_MAGIC bytes ≡ c → read_by (extended_reply_by c export (with_profile q now) (operation_of since now (number_at 8 8 bytes)) bytes) bytes ≡ read_by (extended_reply_by c export now (operation_of since now (number_at 8 8 bytes)) bytes) bytes
     wide c magic = grind (arith, extended_either)
 
     replied : (c : Bool) → begins CHUNK_MAGIC bytes ≡ c → (s : Bool) → read_by (reply_by c s export (with_profile q now) (operation_of since now (number_at 8 8 bytes)) bytes) bytes ≡ read_by (reply_by c s export now (operation_of since now (number_at 8 8 bytes)) bytes) bytes
     replied c magic s = grind (arith, chunk_either)
+
+    go : (x : Bool) → read_by (reply_in x export (with_profile q now) (operation_of since now (number_at 8 8 bytes)) bytes) bytes ≡ read_by (reply_in x export now (operation_of since now (number_at 8 8 bytes)) bytes) bytes
+    go false = replied (begins CHUNK_MAGIC bytes) refl (begins SIMPLE_MAGIC bytes)
+    go true = wide (begins EXTENDED_CHUNK_MAGIC bytes) refl
 reading_in q phase since now s bytes none = refl
+
+-- what Base reads to its end parts the profiles by a false announcement alone
+base_answers : (option : ℕ) (proper takes : Bool) (info : Option Exporting) (answered kind len : ℕ) → answer_head_fault Base option proper takes info answered kind len ≡ None → IsTrue (extends option) → is_error kind ≡ false → ⊥
+base_answers option proper takes info answered kind len e x n = grind (arith, fault_none, not-false, eqb-true, or_cases)
+
+unknown_type : (extended : Bool) (export : Exporting) (e f : Operation) (flags kind : ℕ) (payload : List ℕ) → chunk_fault extended (kind == chunks.NONE) export e f flags (read_as Base kind) payload ≡ None →
+    is_error_chunk kind ≡ true → kind ≢ chunks.ERROR → kind ≢ chunks.ERROR_OFFSET → ⊥
+unknown_type extended export e f flags kind payload h is n m =
+    let k : read_as Wide kind ≡ kind = known_kind extended export e flags kind payload (form_of extended Base export e f flags kind payload (kind == chunks.NONE) refl h).0 in
+    let q : (kind == chunks.ERROR_OFFSET) ≡ false = ne_eqb kind chunks.ERROR_OFFSET m in
+    n (sym k ∙ (λ i. if is i && not (q i) then chunks.ERROR else kind))
+
+known_chunk : (export : Exporting) (core : Core) (bytes : List ℕ) (m : Message) → core.profile ≡ Base → IsReply export (operation_of core core) core bytes m → IsUnknownError (Transmission export) bytes → ⊥
+known_chunk export core bytes m base (as_chunk e is x mg w) (inl (b, l, err, n, k)) =
+    unknown_type false export e (with_reply e (chunk_of bytes)) (number_at 4 2 bytes) (number_at 6 2 bytes) (drop 20 bytes) (subst (λ p. chunk_last_fault p export (Some e) bytes ≡ None) base w.at_last) err n k
+known_chunk export core bytes m base (as_extended e is x mg w) (inr (b, l, err, n, k)) =
+    unknown_type true export e (with_reply e (extended_chunk_of bytes)) (number_at 4 2 bytes) (number_at 6 2 bytes) (drop 32 bytes)
+    (no_offset_fault _ e (number_at 16 8 bytes) (subst (λ p. extended_last_fault p export (Some e) bytes ≡ None) base w.at_last)).0 err n k
+known_chunk export core bytes m base (as_simple e is x mg w) (inl u) = let q = (magic_of _ bytes u.0).1 in omega (arith, q, mg)
+known_chunk export core bytes m base (as_simple e is x mg w) (inr u) = let q = (magic_of _ bytes u.0).1 in omega (arith, q, mg)
+known_chunk export core bytes m base (as_chunk e is x mg w) (inr u) = let q = (magic_of _ bytes u.0).1 in omega (arith, q, mg)
+known_chunk export core bytes m base (as_extended e is x mg w) (inl u) = let q = (magic_of _ bytes u.0).1 in omega (arith, q, mg)
+
+quiet_read : (core : Core) (phase : Phase) (s : Side) (bytes : List ℕ) (m : Message) → core.profile ≡ Base → (IsFalse m → ⊥) → judge_in phase core core s bytes ≡ Whole m → Quiet phase s bytes
+quiet_read core (Answering option given info) Server bytes m base fair e q parts =
+    let proper : Bool = is_proper_option option given in
+    let takes : Bool = takes_contexts option given in
+    let at_head : Profile → Option WireFault = λ p. answer_head_fault p option proper takes info (number_at 8 4 bytes) (number_at 12 4 bytes) (number_at 16 4 bytes) in
+    let w = whole (answer core.profile option proper takes info core.selection bytes) bytes m e in
+    let clean : at_head core.profile ≡ None = (fault_none (not (number_at 0 8 bytes == ANSWER_MAGIC)) BadMagic (at_head core.profile) w.at_head).1 in
+    elim parts [
+      | inl x ↦ base_answers option proper takes info (number_at 8 4 bytes) (number_at 12 4 bytes) (number_at 16 4 bytes) (subst (λ p. at_head p ≡ None) base clean) x.0 x.2
+      | inr y ↦ elim y [ inl f ↦ fair (subst IsFalse w.is (f.1, f.2)) | inr u ↦ u ]
+    ]
+quiet_read core (Transmission export) Server bytes m base fair e q parts = elim parts [
+  | inl x ↦ x
+  | inr y ↦ elim y [ inl f ↦ f | inr u ↦ known_chunk export core bytes m base (reply_read export (operation_of core core) core bytes m e) u ]
+]
+quiet_read core phase s bytes m base fair e q parts = grind arith
+
+-- what may complete may do so in Wide, but for false announcements
+may_wide : (core : Core) (phase : Phase) (m : Message) → (IsFalse m → ⊥) → MayComplete core phase m → MayComplete (with_profile Wide core) phase m
+unfolding MayComplete
+may_wide core phase m fair ok = go core.profile refl
+  where
+    go : (p : Profile) → core.profile ≡ p → MayComplete (with_profile Wide core) phase m
+    go Base b = reading_in Wide phase core core (side m) (enc m) (quiet_read core phase (side m) (enc m) m b fair ok) ∙ ok
+    go Wide w = subst (λ c. MayComplete c phase m) (λ i. record core { profile = w i }) ok
+
+allowed_is_no_false : (m : Message) → AnnouncesAllowed m → IsFalse m → ⊥
+allowed_is_no_false m a f = grind arith
+
+-- in Wide each message may that may in the profile of the core
+carries_wide : (items : List Item) (core : Core) (js : List Entry) → All AnnouncesAllowed (completed_messages items) → Obeys (record { core = core; served = js }) items → Carries Wide core items
+carries_wide [] core js all ob = tt
+carries_wide (Completes s m ∷ items) core js all ob = (
+  may_wide core core.phase m (allowed_is_no_false m (All-head AnnouncesAllowed m (completed_messages items) all)) ob.0.0,
+  carries_wide items (complete core m) js (All-tail AnnouncesAllowed m (completed_messages items) all) ob.1,
+)
+carries_wide (Serves k ∷ items) core js all ob = carries_wide items core _ all ob.1
+carries_wide (item ∷ items) core js all ob = carries_wide items core js all ob.1
+
+pub base_is_wide : BaseIsWide
+base_is_wide capture order initial ex all =
+    let first : Core = (start_of Base).core in
+    let items : List Item = canon (start_of Wide).core ex.items in
+    let run : IsRunOf Wide items = canonical_run Wide ex.items (walk_of ex.is_run) (follows_with Wide ex.items first (follows ex.items (start_of Base) ex.is_run.obeys) (carries_wide ex.items first [] all ex.is_run.obeys)) in
+    let unserved : without_service items ≡ without_service ex.items = unserved_canon (start_of Wide).core ex.items in
+    let same : report items ≡ report ex.items = reports_ignore_service items ex.items unserved in
+    let of_items : pairs items ≡ pairs ex.items = sym (pairs_unserved items) ∙ ap pairs unserved ∙ pairs_unserved ex.items in
+    let passes : Passes Base (report ex.items) order initial = explained_passes Base ex.items order initial ex.is_run (subst (λ c. IsExplainedOf Base c order initial) (sym ex.has_pairs) ex) in
+    subst (λ c. IsExplainedOf Wide c order initial) (of_items ∙ ex.has_pairs)
+    (passing_is_explained Wide items order initial run (subst (λ r. Passes Wide r order initial) (sym same)
+    (record { faultless = faultless_wide ex.items order ex.is_run passes.faultless; fits_image = passes.fits_image; reads = passes.reads })))
 
 -- a reader, held to the profile
 abbrev pub rest_in : Profile → Rest → Rest
@@ -255,28 +257,28 @@ settle_in q reader s rest r = grind (arith, complete_with)
 abbrev grown : Reader → Side → ℕ → Rest
 grown reader s b = rest_with reader.core (get reader.rests s) b
 
-pub step_in : (q : Profile) (reader : Reader) (s : Side) (b : ℕ) → Quiet reader.core.phase s (grown reader s b).bytes → step by_tests (reader_in q reader) s b ≡ result_in q (step by_tests reader s b)
+pub step_in : (q : Profile) (reader : Reader) (s : Side) (b : ℕ) → Quiet reader.core.phase s (grown reader s b).bytes → step (reader_in q reader) s b ≡ result_in q (step reader s b)
 step_in q reader s b none =
     let same : grown (reader_in q reader) s b ≡ rest_in q (grown reader s b) = ap (λ r. rest_with (with_profile q reader.core) r b) (get_in q reader s) ∙ grown_in q reader.core (get reader.rests s) b in
-    ap (λ (r : Rest). settle (reader_in q reader) s r (by_tests r.since (with_profile q reader.core) s r.bytes)) same
+    ap (λ (r : Rest). settle (reader_in q reader) s r (judge r.since (with_profile q reader.core) s r.bytes)) same
     ∙ ap (settle (reader_in q reader) s (rest_in q (grown reader s b))) (reading_in q reader.core.phase (grown reader s b).since reader.core s (grown reader s b).bytes none)
-    ∙ settle_in q reader s (grown reader s b) (by_tests (grown reader s b).since reader.core s (grown reader s b).bytes)
+    ∙ settle_in q reader s (grown reader s b) (judge (grown reader s b).since reader.core s (grown reader s b).bytes)
 
 quiet_here : (reader : Reader) (p : Pair) (ps : List Pair) → NothingFrom reader (p ∷ ps) → Quiet reader.core.phase p.from (grown reader p.from p.byte).bytes
 quiet_here reader p ps none e h =
     none [] ps p.byte reader (λ i. record { from = e i; byte = p.byte } ∷ ps) refl (subst (λ u. IsParting reader.core.phase (grown reader u p.byte).bytes) e h)
 
-nothing_on : (reader next : Reader) (p : Pair) (ps : List Pair) → step by_tests reader p.from p.byte ≡ Ok next → NothingFrom reader (p ∷ ps) → NothingFrom next ps
+nothing_on : (reader next : Reader) (p : Pair) (ps : List Pair) → step reader p.from p.byte ≡ Ok next → NothingFrom reader (p ∷ ps) → NothingFrom next ps
 nothing_on reader next p ps e none before more b mid is read =
-    none (p ∷ before) more b mid (ap (λ l. p ∷ l) is) (ap (λ o. on_ok o (λ next. reads by_tests next before)) e ∙ read)
+    none (p ∷ before) more b mid (ap (λ l. p ∷ l) is) (ap (λ o. on_ok o (λ next. reads next before)) e ∙ read)
 
-reads_in : (q : Profile) (ps : List Pair) (reader : Reader) → NothingFrom reader ps → reads by_tests (reader_in q reader) ps ≡ result_in q (reads by_tests reader ps)
+reads_in : (q : Profile) (ps : List Pair) (reader : Reader) → NothingFrom reader ps → reads (reader_in q reader) ps ≡ result_in q (reads reader ps)
 reads_in q [] reader none = refl
-reads_in q (p ∷ ps) reader none = ap (λ o. on_ok o (λ next. reads by_tests next ps)) (step_in q reader p.from p.byte (quiet_here reader p ps none))
-    ∙ go (step by_tests reader p.from p.byte) (λ next e. reads_in q ps next (nothing_on reader next p ps e none))
+reads_in q (p ∷ ps) reader none = ap (λ o. on_ok o (λ next. reads next ps)) (step_in q reader p.from p.byte (quiet_here reader p ps none))
+    ∙ go (step reader p.from p.byte) (λ next e. reads_in q ps next (nothing_on reader next p ps e none))
   where
-    go : (r : Result Reader WireFault) → ((next : Reader) → r ≡ Ok next → reads by_tests (reader_in q next) ps ≡ result_in q (reads by_tests next ps)) →
-        on_ok (result_in q r) (λ next. reads by_tests next ps) ≡ result_in q (on_ok r (λ next. reads by_tests next ps))
+    go : (r : Result Reader WireFault) → ((next : Reader) → r ≡ Ok next → reads (reader_in q next) ps ≡ result_in q (reads next ps)) →
+        on_ok (result_in q r) (λ next. reads next ps) ≡ result_in q (on_ok r (λ next. reads next ps))
     go r h = grind arith
 
 pub nothing_before : (reader : Reader) (ps more : List Pair) → NothingFrom reader (ps ++ more) → NothingFrom reader ps
@@ -313,43 +315,43 @@ places_agree p q ps messages fault none place =
 -- what completes in a run of the one profile may do so in the other
 module _ (p q : Profile) where
   -- one more byte, and what the reader makes of it
-  read_more : (done : List Pair) (s : Side) (b : ℕ) (reader next : Reader) → reads by_tests (fresh_of p) done ≡ Ok reader → step by_tests reader s b ≡ Ok next → reads by_tests (fresh_of p) (done ++ record { from = s; byte = b } ∷ []) ≡ Ok next
-  read_more done s b reader next e f = reads-append by_tests (fresh_of p) done _ ∙ ap (λ o. on_ok o (λ next. reads by_tests next (record { from = s; byte = b } ∷ []))) e ∙ ap (λ o. on_ok o (λ next. Ok next)) f
+  read_more : (done : List Pair) (s : Side) (b : ℕ) (reader next : Reader) → reads (fresh_of p) done ≡ Ok reader → step reader s b ≡ Ok next → reads (fresh_of p) (done ++ record { from = s; byte = b } ∷ []) ≡ Ok next
+  read_more done s b reader next e f = reads-append (fresh_of p) done _ ∙ ap (λ o. on_ok o (λ next. reads next (record { from = s; byte = b } ∷ []))) e ∙ ap (λ o. on_ok o (λ next. Ok next)) f
 
   are_more : (done : List Pair) (s : Side) (b : ℕ) → ArePairs done → b < 256 → ArePairs (done ++ record { from = s; byte = b } ∷ [])
   are_more [] s b are l = (l, tt)
   are_more (x ∷ done) s b are l = (are.0, are_more done s b are.1 l)
 
-  carries : {o : Both Open} {items : List Item} (w : Walk ⊥ o items) (reader : Reader) (js : List Entry) (done : List Pair) → reads by_tests (fresh_of p) done ≡ Ok reader → ArePairs done → ArePairs (pairs items) →
+  carries : {o : Both Open} {items : List Item} (w : Walk ⊥ o items) (reader : Reader) (js : List Entry) (done : List Pair) → reads (fresh_of p) done ≡ Ok reader → ArePairs done → ArePairs (pairs items) →
       NothingFrom (fresh_of p) (done ++ pairs items) → Obeys (record { core = reader.core; served = js }) items → AreInStep reader o → Carries q reader.core items
   carries (ended c d) reader js done e are lt none ob st = tt
   carries (serving k w) reader js done e are lt none ob st = carries w reader _ done e are lt none ob.1 st
   carries {o} (opening s m b left {items = items} is f g w) reader js done e are lt none ob st =
       let i : InStep reader.core (grown reader s b) s (Busy m left) = within_opening reader.core (get reader.rests s) s m b left (subst (InStep reader.core (get reader.rests s) s) is (st s)) f g ob.0.0 ob.0.1 ob.0.2 in
       let end = completes_later w reader.core (follows items (record { core = reader.core; served = js }) ob.1.1) (each_with IsSidedOpen o s (Busy m left) (in_step_sided reader o st) ob.0.0) s m left (get-put_same o s (Busy m left)) in
-      let j = judged_more by_tests exact reader.core (grown reader s b) s m left i end (kept_next by_tests reader.core s (get reader.rests s) b lt.0 (reads_held by_tests sound done (fresh_of p) reader are (fresh_held by_tests) e s)) in
+      let j = judged_more exact reader.core (grown reader s b) s m left i end (kept_next reader.core s (get reader.rests s) b lt.0 (reads_held sound done (fresh_of p) reader are (fresh_held) e s)) in
       carries w (with_byte reader s b) js (done ++ record { from = s; byte = b } ∷ []) (read_more done s b reader (with_byte reader s b) e (ap (settle reader s (grown reader s b)) j)) (are_more done s b are lt.0) lt.1
       (subst (NothingFrom (fresh_of p)) (sym (append_assoc done (record { from = s; byte = b } ∷ []) (pairs items))) none) ob.1.1 (in_step_with reader o s (grown reader s b) (Busy m left) st i)
   carries {o} (middle s m b left {items = items} is g w) reader js done e are lt none ob st =
       let i0 : InStep reader.core (get reader.rests s) s (Busy m (b ∷ left)) = subst (InStep reader.core (get reader.rests s) s) is (st s) in
       let i : InStep reader.core (grown reader s b) s (Busy m left) = within_middle reader.core (get reader.rests s) s m b left i0 g in
       let end = completes_later w reader.core (follows items (record { core = reader.core; served = js }) ob.1) (each_with IsSidedOpen o s (Busy m left) (in_step_sided reader o st) i0.0.sided) s m left (get-put_same o s (Busy m left)) in
-      let j = judged_more by_tests exact reader.core (grown reader s b) s m left i end (kept_next by_tests reader.core s (get reader.rests s) b lt.0 (reads_held by_tests sound done (fresh_of p) reader are (fresh_held by_tests) e s)) in
+      let j = judged_more exact reader.core (grown reader s b) s m left i end (kept_next reader.core s (get reader.rests s) b lt.0 (reads_held sound done (fresh_of p) reader are (fresh_held) e s)) in
       carries w (with_byte reader s b) js (done ++ record { from = s; byte = b } ∷ []) (read_more done s b reader (with_byte reader s b) e (ap (settle reader s (grown reader s b)) j)) (are_more done s b are lt.0) lt.1
       (subst (NothingFrom (fresh_of p)) (sym (append_assoc done (record { from = s; byte = b } ∷ []) (pairs items))) none) ob.1 (in_step_with reader o s (grown reader s b) (Busy m left) st i)
   carries {o} (final s m b {items = items} is w) reader js done e are lt none ob st =
       let i0 : InStep reader.core (get reader.rests s) s (Busy m (b ∷ [])) = subst (InStep reader.core (get reader.rests s) s) is (st s) in
-      let k = kept_next by_tests reader.core s (get reader.rests s) b lt.0 (reads_held by_tests sound done (fresh_of p) reader are (fresh_held by_tests) e s) in
-      let j = judged_whole by_tests exact reader.core (get reader.rests s) s m b i0 ob.1.0.0 k in
+      let k = kept_next reader.core s (get reader.rests s) b lt.0 (reads_held sound done (fresh_of p) reader are (fresh_held) e s) in
+      let j = judged_whole exact reader.core (get reader.rests s) s m b i0 ob.1.0.0 k in
       let r : Rest = grown (reader_in q reader) s b in
       let same : r ≡ rest_in q (grown reader s b) = ap (λ x. rest_with (with_profile q reader.core) x b) (get_in q reader s) ∙ grown_in q reader.core (get reader.rests s) b in
       let quiet : Quiet reader.core.phase s (grown reader s b).bytes =
       λ t h. none done (pairs items) b reader (λ i. done ++ record { from = t i; byte = b } ∷ pairs items) e (subst (λ u. IsParting reader.core.phase (grown reader u b).bytes) t h) in
-      let jq : by_tests r.since (with_profile q reader.core) s r.bytes ≡ Whole m =
-      ap (λ (x : Rest). by_tests x.since (with_profile q reader.core) s x.bytes) same ∙ reading_in q reader.core.phase (grown reader s b).since reader.core s (grown reader s b).bytes quiet ∙ j in
+      let jq : judge r.since (with_profile q reader.core) s r.bytes ≡ Whole m =
+      ap (λ (x : Rest). judge x.since (with_profile q reader.core) s x.bytes) same ∙ reading_in q reader.core.phase (grown reader s b).since reader.core s (grown reader s b).bytes quiet ∙ j in
       let before : NothingFrom (fresh_of p) done = nothing_before (fresh_of p) done (record { from = s; byte = b } ∷ pairs items) none in
-      let held = reads_held by_tests sound done (fresh_of q) (reader_in q reader) are (fresh_held by_tests) (reads_in q done (fresh_of p) before ∙ ap (result_in q) e) in
-      let fit = sound r.since (with_profile q reader.core) s r.bytes m (kept_next by_tests (with_profile q reader.core) s (get (reader_in q reader).rests s) b lt.0 (held s)) jq in (
+      let held = reads_held sound done (fresh_of q) (reader_in q reader) are (fresh_held) (reads_in q done (fresh_of p) before ∙ ap (result_in q) e) in
+      let fit = sound r.since (with_profile q reader.core) s r.bytes m (kept_next (with_profile q reader.core) s (get (reader_in q reader).rests s) b lt.0 (held s)) jq in (
         fit.completes,
         carries w _ js (done ++ record { from = s; byte = b } ∷ []) (read_more done s b reader _ e (ap (settle reader s (grown reader s b)) j)) (are_more done s b are lt.0) lt.1
             (subst (NothingFrom (fresh_of p)) (sym (append_assoc done (record { from = s; byte = b } ∷ []) (pairs items))) none) ob.1.1 (in_step_completed reader o s m (grown reader s b) st i0.0.sided ob.1.0.0),

@@ -1,5 +1,5 @@
 -- The block sizes that a client has to keep are those that came last.
-use Rattle.nbd_laws.proofs.Common.{arith, ◌≡◌, ◌≢◌, ℕ, List, [], ◌∷◌, ◌++◌, refl, ◌∙◌, ap, Option, None, All-head, All-tail, Message, Choice, Answer, Sizes, Sizing, Item, Completes, Serves, completed_messages, after, complete, ends_at, reply_to, last_sizes, sizing_after, sizing_at, Core, State, SizesAreAnnounced, announced, last_announced, ChooseNone}
+use Rattle.nbd_laws.proofs.Common.{arith, ◌≡◌, ◌≢◌, ℕ, List, [], ◌∷◌, ◌++◌, refl, ◌∙◌, ap, Option, None, All-head, All-tail, Message, Choice, Answer, Sizes, Sizing, Item, Completes, Serves, completed_messages, after, complete, ends_at, last_sizes, sizing_after, sizing_at, State, SizesAreAnnounced, announced, last_announced, ChooseNone}
 
 -- what a message makes of what was asked and told
 abbrev sizing_by : Message → Sizing → Sizing

@@ -17,7 +17,7 @@ canon core (Serves e ∷ items) = canon core items
 obeys_canon : (items : List Item) (core : Core) (js : List Entry) → IsCanonical (record { core = core; served = js }) → Follows core items → Obeys (record { core = core; served = js }) (canon core items)
 obeys_canon [] core js c f = tt
 obeys_canon (Byte s b ∷ items) core js c f = (tt, obeys_canon items core js c f)
-obeys_canon (Starts s m ∷ items) core js c f = ((f.0.sided, f.0.sendable, f.0.starts, canonical_serves _ c (Starts s m)), obeys_canon items core js c f.1)
+obeys_canon (Starts s m ∷ items) core js c f = ((f.0.sided, f.0.are_bytes, f.0.starts, canonical_serves _ c (Starts s m)), obeys_canon items core js c f.1)
 obeys_canon (Completes s m ∷ items) core js c f =
     let next : Core = complete core m in
     let grown : IsGrown core next = length-complete core m in (

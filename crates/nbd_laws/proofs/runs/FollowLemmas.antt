@@ -1,11 +1,11 @@
 -- The rules on messages alone, whatever was served.
-use Rattle.nbd_laws.proofs.Common.{◌≡◌, ℕ, List, [], ◌∷◌, refl, sym, ◌∙◌, ap, subst, inl, inr, Side, Client, Server, Message, Item, Byte, Starts, Completes, Serves, without_service, pairs, MayStart, MayComplete, Obeys, complete, IsSendable, side, Core, State, Both, get, put}
+use Rattle.nbd_laws.proofs.Common.{enc, AreBytes, ◌≡◌, ℕ, List, [], ◌∷◌, refl, sym, ◌∙◌, ap, subst, inl, inr, Side, Client, Server, Message, Item, Byte, Starts, Completes, Serves, without_service, pairs, MayStart, MayComplete, Obeys, complete, side, Core, State, Both, get, put}
 use Rattle.nbd_laws.proofs.reading.ReaderLemmas.{put_both, get-put_same, get-put_other, same_or_not, Open, Idle, Busy, Loose, IsNotBusy, Walk, ended, serving, opening, middle, final, loose, Later, at_once, behind}
 
 -- what a side needs to begin a message
 pub record IsBegun (old : Core) (s : Side) (m : Message) : Type 0 where
   pub sided : side m ≡ s
-  pub sendable : IsSendable m
+  pub are_bytes : AreBytes (enc m)
   pub starts : MayStart old s m
 
 -- each mark of a message is allowed where it stands
@@ -19,7 +19,7 @@ Follows core (Serves k ∷ items) = Follows core items
 pub follows : (items : List Item) (state : State) → Obeys state items → Follows state.core items
 follows [] state ob = tt
 follows (Byte s b ∷ items) state ob = follows items state ob.1
-follows (Starts s m ∷ items) state ob = (record { sided = ob.0.0; sendable = ob.0.1; starts = ob.0.2 }, follows items state ob.1)
+follows (Starts s m ∷ items) state ob = (record { sided = ob.0.0; are_bytes = ob.0.1; starts = ob.0.2 }, follows items state ob.1)
 follows (Completes s m ∷ items) state ob = (ob.0.0, follows items _ ob.1)
 follows (Serves k ∷ items) state ob = follows items _ ob.1
 

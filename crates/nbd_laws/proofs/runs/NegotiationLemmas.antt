@@ -1,5 +1,7 @@
 -- A session begins with a greeting and flags, and each answer follows a choice.
-use Rattle.nbd_laws.proofs.Common.{and_parts, not-false, not-true, or_cases, or_parts, client_flags_fault, is_error, eq-eqb, ◌≡◌, ℕ, zero, suc, ◌⊎◌, ◌==◌, List, [], ◌∷◌, refl, sym, ◌∙◌, ap, subst, inl, Option, Some, None, if◌then◌else◌, IsTrue, arith, eqb-true, and_le_r, Server, Message, Greeting, ClientFlags, Choice, Answer, Exported, Completes, completed_messages, selection_after, is_proper_option, last_info, next_phase, info_of, context_of, Exporting, has, has_only, MayComplete, complete, Core, Phase, Greet, Flags, Choosing, Naming, Aborting, Answering, Transmission, start_of, AnswersFollowChoices, AreFairFlags, BeginsWithFlags, Chosen, HandshakesAreFair, IsAnswer, choice_after, contexts_after, contexts_with, info_after, Context, Selection, Profile, eqb-false}
+use Rattle.nbd_laws.proofs.Common.{and_parts, not-false, not-true, or_cases, or_parts, client_flags_fault, is_error, eq-eqb, ◌≡◌, ℕ, zero, suc, ◌⊎◌, ◌==◌, List, [], ◌∷◌, refl, sym, ◌∙◌, ap, subst, inl, Option, Some, None, if◌then◌else◌, IsTrue, arith, eqb-true, and_le_r, Server, Message, Greeting, ClientFlags, Choice, Answer, Exported, Completes, completed_messages, selection_after, is_proper_option, last_info, next_phase, info_of, context_of, Exporting, has, has_only, complete, Core, Phase, Greet, Flags, Choosing, Naming, Aborting, Answering, Transmission, start_of, AnswersFollowChoices, AreFairFlags, BeginsWithFlags, Chosen, HandshakesAreFair, IsAnswer, choice_after, contexts_after, contexts_with, info_after, Context, Selection, Profile, eqb-false}
+use Rattle.nbd_laws.proofs.judge.WholeLemmas.{allowed}
+unfoldable use Rattle.nbd_laws.proofs.judge.WholeLemmas.{IsAllowed}
 use Rattle.std.proofs.Common.{bit_and}
 use Rattle.nbd_laws.proofs.judge.AllowLemmas.{IsSuccess, abort_allow, answer_allow, greeting_allow}
 use Rattle.nbd_wire.specs.declared.answers.TheConstants as answers
@@ -18,17 +20,17 @@ fair offered (suc (suc (suc (suc n)))) e = grind (arith, bit_and, eqb-true, faul
 fair offered flags e = grind (arith, fault_none, or_parts, not-false)
 
 flags_first : (ms : List Message) (core : Core) → Passes core ms → core.phase ≡ Flags → BeginsWithFlags core.offered ms
-unfolding MayComplete
+unfolding IsAllowed
 flags_first [] core f p = inl refl
-flags_first (m ∷ ms) core f p = grind (arith, fair)
+flags_first (m ∷ ms) core f p = grind (arith, fair, allowed core core.phase m f.1)
 
 abbrev BeginsFairly : List Message → Type 0
 BeginsFairly messages = (messages ≡ []) ⊎ ((flags : ℕ) × (rest : List Message) × (messages ≡ Greeting flags ∷ rest) × IsTrue (has flags handshake.FIXED_NEWSTYLE) × BeginsWithFlags flags rest)
 
 greeting_first : (ms : List Message) (core : Core) → Passes core ms → core.phase ≡ Greet → BeginsFairly ms
-unfolding complete next_phase MayComplete
+unfolding complete next_phase IsAllowed
 greeting_first [] core f p = inl refl
-greeting_first (m ∷ ms) core f p = grind (arith, greeting_allow, flags_first)
+greeting_first (m ∷ ms) core f p = grind (arith, greeting_allow, flags_first, allowed core core.phase m f.1)
 
 pub handshakes_are_fair : HandshakesAreFair
 handshakes_are_fair profile items run = greeting_first (completed_messages items) (start_of profile).core (run_passes items run) refl
@@ -66,9 +68,9 @@ told_step told (Choice id p) = []
 told_step told (Answer option kind p) = told_then kind p told
 told_step told m = told
 
-knows_complete : (core : Core) (phase : Phase) (m : Message) (choice : Option Chosen) (last : Option Exporting) (told : List Context) → core.phase ≡ phase → MayComplete core phase m → Knows phase core.selection choice last told →
+knows_complete : (core : Core) (phase : Phase) (m : Message) (choice : Option Chosen) (last : Option Exporting) (told : List Context) → core.phase ≡ phase → IsAllowed core phase m → Knows phase core.selection choice last told →
     Knows (complete core m).phase (complete core m).selection (choice_step choice m) (info_step last m) (told_step told m)
-unfolding MayComplete complete next_phase
+unfolding IsAllowed complete next_phase
 knows_complete core (Transmission export) m choice last told q ok k = grind (arith, phase-complete, transmission_row)
 knows_complete core Greet (Greeting flags) choice last told q ok k = subst (λ phase. Knows (next_phase phase (Greeting flags)) core.selection choice last told) (sym q) tt
 knows_complete core Flags (ClientFlags flags) choice last told q ok k = subst (λ phase. Knows (next_phase phase (ClientFlags flags)) core.selection choice last told) (sym q) tt
@@ -82,7 +84,7 @@ knows_complete core phase m choice last told q ok k = absurd ok
 knows_led : (ms : List Message) (core : Core) (choice : Option Chosen) (last : Option Exporting) (told : List Context) → Passes core ms → Knows core.phase core.selection choice last told →
     Knows (led core ms).phase (led core ms).selection (choice_after choice ms) (info_after last ms) (contexts_after told ms)
 knows_led [] core choice last told f k = k
-knows_led (m ∷ ms) core choice last told f k = grind (arith, knows_complete, knows_led ms (complete core m) (choice_step choice m) (info_step last m) (told_step told m) f.2 (knows_complete core core.phase m choice last told refl f.1 k))
+knows_led (m ∷ ms) core choice last told f k = grind (arith, knows_complete, allowed, knows_led ms (complete core m) (choice_step choice m) (info_step last m) (told_step told m) f.2 (knows_complete core core.phase m choice last told refl (allowed core core.phase m f.1) k))
 
 -- an answer to the option that was chosen last
 abbrev IsFollowing : Profile → (choice : Option Chosen) (last : Option Exporting) (told : List Context) (option kind : ℕ) (p : List ℕ) → Type 0
@@ -95,9 +97,9 @@ module _ (profile : Profile) (asked : ℕ) (asked_with : List ℕ) (info : Optio
   is_answer : (selection : Selection) → (asked ≡ options.SET_META_CONTEXT → selection.contexts ≡ told) → IsTrue (is_error kind) ⊎ IsSuccess profile asked asked_with info selection kind p → IsOne
   is_answer selection same ok = grind (arith, or_cases, eqb-true, and_parts, fault_none, eq-eqb, not-true)
 
-follow : (core : Core) (phase : Phase) (option kind : ℕ) (p : List ℕ) (choice : Option Chosen) (last : Option Exporting) (told : List Context) → MayComplete core phase (Answer option kind p) → Knows phase core.selection choice last told →
+follow : (core : Core) (phase : Phase) (option kind : ℕ) (p : List ℕ) (choice : Option Chosen) (last : Option Exporting) (told : List Context) → IsAllowed core phase (Answer option kind p) → Knows phase core.selection choice last told →
     IsFollowing core.profile choice last told option kind p
-unfolding MayComplete is_proper_option
+unfolding IsAllowed is_proper_option
 follow core Aborting option kind p choice last told ok k = grind (arith, abort_allow)
 follow core (Answering asked asked_with info) option kind p choice last told ok k =
     let a = answer_allow core.profile asked asked_with info core.selection option kind p ok.0 ok.1 in
@@ -111,4 +113,4 @@ answers_follow_choices profile prefix back option kind p run =
     let ms : List Message = completed_messages prefix in
     let f = parts_pass prefix (Completes Server (Answer option kind p) ∷ back) run in
     subst (λ v. IsFollowing v (choice_after None ms) (info_after None ms) (contexts_after [] ms) option kind p) (ap (λ (c : Core). c.profile) (run_leads profile prefix) ∙ profile_end profile prefix)
-    (follow (led first ms) (led first ms).phase option kind p (choice_after None ms) (info_after None ms) (contexts_after [] ms) f.1.1 (knows_led ms first None None [] f.0 tt))
+    (follow (led first ms) (led first ms).phase option kind p (choice_after None ms) (info_after None ms) (contexts_after [] ms) (allowed (led first ms) (led first ms).phase (Answer option kind p) f.1.1) (knows_led ms first None None [] f.0 tt))

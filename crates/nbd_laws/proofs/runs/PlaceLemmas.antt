@@ -1,5 +1,5 @@
 -- Reading is a function, and takes what a run begins with: so bytes have one place at most, and no run begins with it.
-use Rattle.nbd_laws.proofs.Common.{arith, ◌≡◌, List, [], ◌∷◌, ◌++◌, length, refl, sym, ◌∙◌, ap, Ok, Err, append_assoc, WireFault, Message, Profile, Pair, by_tests, Reader, fresh_of, reads, IsPlaceOf, within, BeginningsAreUnderWay, HaveOnePlace, PlacesBeginNoRun, PrefixesHaveNoPlace, UnderWayAgree}
+use Rattle.nbd_laws.proofs.Common.{arith, ◌≡◌, List, [], ◌∷◌, ◌++◌, length, refl, sym, ◌∙◌, ap, Ok, Err, append_assoc, WireFault, Message, Profile, Pair, Reader, fresh_of, reads, IsPlaceOf, within, BeginningsAreUnderWay, HaveOnePlace, PlacesBeginNoRun, PrefixesHaveNoPlace, UnderWayAgree}
 use Rattle.nbd_laws.proofs.judge.BlockLemmas.{reads-append}
 use Rattle.nbd_laws.proofs.judge.ExactLemmas.{exact, none_refused}
 use Rattle.nbd_laws.proofs.reading.MarkLemmas.{IsRead}
@@ -16,11 +16,11 @@ but_last (x ∷ ps) (y ∷ qs) p q e =
 but_last ps qs p q e = absurd (cc)
 
 -- a place is refused
-pub place_refused : {profile : Profile} (ps : List Pair) (messages : List Message) (fault : WireFault) → IsPlaceOf profile ps messages fault → reads by_tests (fresh_of profile) ps ≡ Err fault
+pub place_refused : {profile : Profile} (ps : List Pair) (messages : List Message) (fault : WireFault) → IsPlaceOf profile ps messages fault → reads (fresh_of profile) ps ≡ Err fault
 place_refused {profile} ps messages fault place = grind (arith, reads-append)
 
 -- what was read has no place, nor has a prefix of it
-pub read_no_place : {profile : Profile} (ps more : List Pair) (end : Reader) → reads by_tests (fresh_of profile) (ps ++ more) ≡ Ok end → (messages : List Message) (fault : WireFault) → IsPlaceOf profile ps messages fault → ⊥
+pub read_no_place : {profile : Profile} (ps more : List Pair) (end : Reader) → reads (fresh_of profile) (ps ++ more) ≡ Ok end → (messages : List Message) (fault : WireFault) → IsPlaceOf profile ps messages fault → ⊥
 read_no_place {profile} ps more end e messages fault place = grind (arith, place_refused, reads-append)
 
 pub under_way_agree : UnderWayAgree
@@ -38,7 +38,7 @@ prefixes_have_no_place profile prefix (p ∷ rest) messages more fault other pla
     let l = last_of p rest in
     let parts : place.prefix ++ place.last ∷ [] ≡ (prefix ++ l.0) ++ l.1 ∷ [] = sym place.parts ∙ ap (λ qs. prefix ++ qs) l.2 ∙ sym (append_assoc prefix l.0 (l.1 ∷ [])) in
     let same = but_last place.prefix (prefix ++ l.0) place.last l.1 parts in
-    absurd (read_no_place prefix l.0 place.before.end (ap (reads by_tests (fresh_of profile)) (sym same.0) ∙ place.before.reads_it) more other first)
+    absurd (read_no_place prefix l.0 place.before.end (ap (reads (fresh_of profile)) (sym same.0) ∙ place.before.reads_it) more other first)
   where
     last_of : (p : Pair) (ps : List Pair) → (init : List Pair) × (last : Pair) × (p ∷ ps ≡ init ++ last ∷ [])
     last_of p [] = ([], p, refl)
@@ -46,7 +46,7 @@ prefixes_have_no_place profile prefix (p ∷ rest) messages more fault other pla
 
 pub beginnings_are_under_way : BeginningsAreUnderWay
 beginnings_are_under_way profile items ps run are begins =
-    let r : IsRead by_tests (fresh_of profile) ps (within (length ps) items) = marks_law by_tests exact items run ps begins.0 are begins.1 in
+    let r : IsRead (fresh_of profile) ps (within (length ps) items) = marks_law exact items run ps begins.0 are begins.1 in
     record { are_pairs = are; end = r.end; reads_it = r.reads_it; has_messages = r.messages_are }
 
 pub ruleset places = (beginnings_are_under_way, one_place, under_way_agree)

@@ -1,5 +1,5 @@
 -- What messages lead to does not hang on the profile that a session is held to.
-use Rattle.nbd_laws.proofs.Common.{arith, ◌≡◌, ℕ, List, [], ◌∷◌, ◌++◌, refl, sym, ◌∙◌, ap, Option, Some, Entry, Message, Profile, Base, Item, Starts, Completes, Serves, known_count, known_from, complete, ends_at, reply_to, request_of_reply, Core, start, start_of, EndsAgree, with_profile, if◌then◌else◌, is_reply_to, length}
+use Rattle.nbd_laws.proofs.Common.{arith, ◌≡◌, ℕ, List, [], ◌∷◌, ◌++◌, refl, sym, ◌∙◌, ap, Some, Entry, Message, Profile, Base, Item, Starts, Completes, Serves, known_count, known_from, complete, ends_at, request_of_reply, Core, start, start_of, EndsAgree, with_profile, if◌then◌else◌, is_reply_to, length}
 
 pub complete_with : (q : Profile) (core : Core) (m : Message) → complete (with_profile q core) m ≡ with_profile q (complete core m)
 unfolding complete

@@ -1,15 +1,16 @@
 -- What a run leads to is reached by messages that may complete and have an encoding.
-use Rattle.nbd_laws.proofs.Common.{◌≡◌, List, [], ◌∷◌, ◌++◌, refl, sym, ◌∙◌, ap, subst, Message, Profile, Side, Client, Server, Item, Completes, completed_messages, IsRunOf, MayComplete, complete, ends_at, IsSendable, Core, start_of, Both, get, IsReached, at_start, after_message}
+use Rattle.nbd_laws.proofs.Common.{enc, AreBytes, ◌≡◌, List, [], ◌∷◌, ◌++◌, refl, sym, ◌∙◌, ap, subst, Message, Profile, Side, Client, Server, Item, Completes, completed_messages, IsRunOf, MayComplete, complete, ends_at, IsSendable, Core, start_of, Both, get, IsReached, at_start, after_message}
+use Rattle.nbd_laws.proofs.judge.SoundLemmas.{sendable_of}
 use Rattle.nbd_laws.proofs.runs.FollowLemmas.{Follows, each_with, follows}
 use Rattle.nbd_laws.proofs.service.InsideLemmas.{core_end}
 use Rattle.nbd_laws.proofs.reading.ReaderLemmas.{Open, Idle, Busy, Loose, Walk, ended, serving, opening, middle, final, loose}
 use Rattle.nbd_laws.proofs.runs.RunLemmas.{core_end-ends_at, walk_of}
 
--- an open message has an encoding
-abbrev pub IsSendableOpen : Side → Open → Type 0
-IsSendableOpen s Idle = Unit {0}
-IsSendableOpen s (Busy m left) = IsSendable m
-IsSendableOpen s Loose = Unit {0}
+-- an open message is of bytes
+abbrev pub IsSentOpen : Side → Open → Type 0
+IsSentOpen s Idle = Unit {0}
+IsSentOpen s (Busy m left) = AreBytes (enc m)
+IsSentOpen s Loose = Unit {0}
 
 -- messages that may complete one after the other, each with an encoding
 abbrev pub Passes : Core → List Message → Type 0
@@ -21,13 +22,15 @@ abbrev pub led : Core → List Message → Core
 led core [] = core
 led core (m ∷ ms) = led (complete core m) ms
 
-passing : {P : Type 0} {o : Both Open} {items : List Item} → Walk P o items → (core : Core) → Follows core items → ((u : Side) → IsSendableOpen u (get o u)) → Passes core (completed_messages items)
-passing (ended c d) core f h = tt
-passing (serving k w) core f h = passing w core f h
-passing {P} {o} (opening s m b left i e g w) core f h = passing w core f.1 (each_with IsSendableOpen o s (Busy m left) h f.0.sendable)
-passing {P} {o} (middle s m b left i g w) core f h = passing w core f (each_with IsSendableOpen o s (Busy m left) h (subst (IsSendableOpen s) i (h s)))
-passing {P} {o} (final s m b i w) core f h = (subst (IsSendableOpen s) i (h s), f.0, passing w (complete core m) f.1 (each_with IsSendableOpen o s Idle h tt))
-passing {P} {o} (loose s b p e w) core f h = passing w core f (each_with IsSendableOpen o s _ h tt)
+passing : {P : Type 0} {o : Both Open} {items : List Item} → Walk P o items → (core : Core) → IsReached core → Follows core items → ((u : Side) → IsSentOpen u (get o u)) → Passes core (completed_messages items)
+passing (ended c d) core r f h = tt
+passing (serving k w) core r f h = passing w core r f h
+passing {P} {o} (opening s m b left i e g w) core r f h = passing w core r f.1 (each_with IsSentOpen o s (Busy m left) h f.0.are_bytes)
+passing {P} {o} (middle s m b left i g w) core r f h = passing w core r f (each_with IsSentOpen o s (Busy m left) h (subst (IsSentOpen s) i (h s)))
+passing {P} {o} (final s m b i w) core r f h =
+    let sn : IsSendable m = sendable_of m r f.0 (subst (IsSentOpen s) i (h s)) in
+    (sn, f.0, passing w (complete core m) (after_message m r sn f.0) f.1 (each_with IsSentOpen o s Idle h tt))
+passing {P} {o} (loose s b p e w) core r f h = passing w core r f (each_with IsSentOpen o s _ h tt)
 
 led_end : (core : Core) (items : List Item) → core_end core items ≡ led core (completed_messages items)
 led_end core [] = refl
@@ -49,7 +52,7 @@ completed-append (item ∷ items) more = completed-append items more
 
 -- those of a run, and what they lead to
 pub run_passes : {profile : Profile} (items : List Item) → IsRunOf profile items → Passes (start_of profile).core (completed_messages items)
-run_passes {profile} items run = passing (walk_of run) (start_of profile).core (follows items (start_of profile) run.obeys) (elim [ Client ↦ tt | Server ↦ tt ])
+run_passes {profile} items run = passing (walk_of run) (start_of profile).core at_start (follows items (start_of profile) run.obeys) (elim [ Client ↦ tt | Server ↦ tt ])
 
 pub run_leads : (profile : Profile) (items : List Item) → led (start_of profile).core (completed_messages items) ≡ (ends_at (start_of profile) items).core
 run_leads profile items = sym (led_end (start_of profile).core items) ∙ core_end-ends_at (start_of profile).core [] items

@@ -1,5 +1,5 @@
 -- The laws over runs.
-use Rattle.nbd_laws.proofs.Common.{◌≡◌, ℕ, List, [], ◌∷◌, ◌++◌, length, refl, sym, subst, inr, Option, Ok, Err, arith, Profile, Entry, Side, Client, Server, Item, Completes, Serves, pairs, completed_messages, service_order, Pair, ArePairs, Core, start, start_of, IsRunOf, IsRunBut, Obeys, complete, ends_at, inside_at, operations_of, WireFault, fresh_of, Both, get, IsFilled, Rest, Reader, Judge, reads, at_start, within}
+use Rattle.nbd_laws.proofs.Common.{◌≡◌, ℕ, List, [], ◌∷◌, ◌++◌, length, refl, sym, subst, inr, Option, Ok, Err, arith, Profile, Entry, Side, Client, Server, Item, Completes, Serves, pairs, completed_messages, service_order, Pair, ArePairs, Core, start, start_of, IsRunOf, IsRunBut, Obeys, complete, ends_at, inside_at, operations_of, WireFault, fresh_of, Both, get, IsFilled, Rest, Reader, reads, at_start, within}
 use Rattle.nbd_laws.proofs.service.DueLemmas.{due_from}
 use Rattle.nbd_laws.proofs.service.EntryLemmas.{HasNoFault}
 use Rattle.nbd_laws.proofs.reading.ReaderLemmas.{AreHeld, none_held, Walk, Open, Idle, IsSound, IsExact, led}
@@ -45,13 +45,13 @@ latest {profile} items order run κ due deep_at_base at_base_fit =
       served_placed (start_of profile).core order items,
     )
 
-pub fresh_held : {profile : Profile} (judge : Judge) → AreHeld judge (fresh_of profile)
-fresh_held judge = elim [ Client ↦ none_held at_start refl | Server ↦ none_held at_start refl ]
+pub fresh_held : {profile : Profile} → AreHeld (fresh_of profile)
+fresh_held = elim [ Client ↦ none_held at_start refl | Server ↦ none_held at_start refl ]
 
 -- the run's messages within a list that its pairs begin with are those that the reader reads
-pub marks_law : {profile : Profile} (judge : Judge) → IsExact judge → (items : List Item) → IsRunOf profile items → (ps more : List Pair) → ArePairs ps → pairs items ≡ ps ++ more → IsRead judge (fresh_of profile) ps (within (length ps) items)
-marks_law {profile} judge exact items run ps more lt e =
-    marks judge exact (walk_of run) (fresh_of profile) [] run.obeys (elim [ Client ↦ refl | Server ↦ refl ]) (fresh_held judge) ps more lt e
+pub marks_law : {profile : Profile} → IsExact → (items : List Item) → IsRunOf profile items → (ps more : List Pair) → ArePairs ps → pairs items ≡ ps ++ more → IsRead (fresh_of profile) ps (within (length ps) items)
+marks_law {profile} exact items run ps more lt e =
+    marks exact (walk_of run) (fresh_of profile) [] run.obeys (elim [ Client ↦ refl | Server ↦ refl ]) (fresh_held) ps more lt e
 
 pub idle_at : (profile : Profile) (s : Side) (end : Rest) (o : Open) → Guess (record { bytes = []; since = (start_of profile).core }) end s o → o ≡ Idle
 idle_at profile s end o g = grind arith
@@ -63,23 +63,23 @@ pub fresh_canonical : {profile : Profile} → IsCanonical (start_of profile)
 fresh_canonical = record { all = λ k p h. absurd (omega arith); only = λ k h. absurd h }
 
 -- what the reader reads to its end is a run with exactly these pairs, which leads it there
-pub run_law : {profile : Profile} (judge : Judge) → IsSound judge → (ps : List Pair) (end : Reader) → ArePairs ps → reads judge (fresh_of profile) ps ≡ Ok end → ((s : Side) → (get end.rests s).bytes ≡ []) →
+pub run_law : {profile : Profile} → IsSound → (ps : List Pair) (end : Reader) → ArePairs ps → reads (fresh_of profile) ps ≡ Ok end → ((s : Side) → (get end.rests s).bytes ≡ []) →
     (items : List Item) × IsRunOf profile items × (pairs items ≡ ps) × (led (fresh_of profile) items ≡ end)
-run_law {profile} judge sound ps end lt e none =
-    let t : IsTrace judge (fresh_of profile) end (start_of profile) ps = trace judge sound ps (fresh_of profile) end [] lt (fresh_held judge) fresh_canonical e in
+run_law {profile} sound ps end lt e none =
+    let t : IsTrace (fresh_of profile) end (start_of profile) ps = trace sound ps (fresh_of profile) end [] lt (fresh_held) fresh_canonical e in
     let idle : t.open_ ≡ Idles = both_idle t.open_ (idle_at profile Client (get end.rests Client) (get t.open_ Client) (t.guess Client)) (idle_at profile Server (get end.rests Server) (get t.open_ Server) (t.guess Server)) in
     (t.items, run_of (λ p. not_empty (get end.rests p.0).bytes p.1 (none p.0)) (subst (λ o. Walk (IsStray end) o t.items) idle t.walk) t.obeys, t.has_pairs, t.leads)
 
 -- what the reader reads without a fault is a run with exactly these pairs and messages, but for loose bytes of a side
 -- that is within a message
-pub run_but_law : {profile : Profile} (judge : Judge) → IsSound judge → (ps : List Pair) (end : Reader) → ArePairs ps → reads judge (fresh_of profile) ps ≡ Ok end →
+pub run_but_law : {profile : Profile} → IsSound → (ps : List Pair) (end : Reader) → ArePairs ps → reads (fresh_of profile) ps ≡ Ok end →
     (items : List Item) × (client : List ℕ) × (server : List ℕ) × IsRunBut profile items client server × (pairs items ≡ ps) × (completed_messages items ≡ end.messages)
     × (IsFilled client → IsStray end) × (IsFilled server → IsStray end)
-run_but_law {profile} judge sound ps end lt e =
-    let t : IsTrace judge (fresh_of profile) end (start_of profile) ps = trace judge sound ps (fresh_of profile) end [] lt (fresh_held judge) fresh_canonical e in
+run_but_law {profile} sound ps end lt e =
+    let t : IsTrace (fresh_of profile) end (start_of profile) ps = trace sound ps (fresh_of profile) end [] lt (fresh_held) fresh_canonical e in
     let idle : t.open_ ≡ Idles = both_idle t.open_ (idle_at profile Client (get end.rests Client) (get t.open_ Client) (t.guess Client)) (idle_at profile Server (get end.rests Server) (get t.open_ Server) (t.guess Server)) in
     grind (arith, t, idle, trace, fresh_held, fresh_canonical, both_idle, idle_at, walk_is_marked)
 
 -- no run's pairs begin with a list that the reader refuses
-pub no_run : {profile : Profile} (judge : Judge) → IsExact judge → (items : List Item) → IsRunOf profile items → (ps more : List Pair) → ArePairs ps → pairs items ≡ ps ++ more → (fault : WireFault) → reads judge (fresh_of profile) ps ≡ Err fault → ⊥
-no_run {profile} judge exact items run ps more lt e fault refused = grind (arith, marks_law judge exact items run ps more lt e)
+pub no_run : {profile : Profile} → IsExact → (items : List Item) → IsRunOf profile items → (ps more : List Pair) → ArePairs ps → pairs items ≡ ps ++ more → (fault : WireFault) → reads (fresh_of profile) ps ≡ Err fault → ⊥
+no_run {profile} exact items run ps more lt e fault refused = grind (arith, marks_law exact items run ps more lt e)

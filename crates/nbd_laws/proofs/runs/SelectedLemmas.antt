@@ -1,5 +1,7 @@
 -- The contexts in force are those that one sees looking back over the completed messages.
 use Rattle.nbd_laws.proofs.Common.{and_parts, or_cases, ◌≡◌, ◌≢◌, ℕ, ◌⊎◌, ◌<◌, ◌^◌, ◌==◌, ◌&&◌, ◌||◌, List, [], ◌∷◌, ◌++◌, map, refl, sym, ◌∙◌, ap, subst, inl, inr, Option, Some, None, Bool, true, false, if◌then◌else◌, IsTrue, arith, append_assoc, append-nil, eqb-true, list_any, big_bytes, Message, Choice, Answer, Context, Selection, AreBytes, has, HasContextForm, HasGoForm, completed_messages, Exporting, ack_phase, agrees, choice_phase, is_error, is_proper_option, last_info, next_phase, reply_phase, selection_after, selection_at, selection_told, with_context, context_of, info_of, is_go, name_in, queries_of, MayComplete, complete, ends_at, grants_structured, IsSendable, Core, Phase, Choosing, Aborting, Answering, Transmission, in_force, start_of, go-only, is_go-exact, context-long, context-reads, name_is, queries_of-form, queries_of-found, AreSelected, ChooseNone, ChooseNoOther, ContextsAreSelected, telling, eqb-false, All-cons, All-head, All-nil, All-tail, All-weaker, list_any-append, or-false, bytes_eq-Decides}
+use Rattle.nbd_laws.proofs.judge.WholeLemmas.{allowed}
+unfoldable use Rattle.nbd_laws.proofs.judge.WholeLemmas.{IsAllowed}
 use Rattle.std.proofs.Common.{ne_eqb}
 use Rattle.std.specs.Prelude.{All}
 use Rattle.nbd_laws.proofs.judge.AllowLemmas.{abort_allow, answer_allow}
@@ -11,8 +13,8 @@ use Rattle.nbd_laws.proofs.runs.ReachLemmas.{Passes, led, led-append, passes-app
 
 -- an option is chosen in one phase alone
 chosen_in : (phase : Phase) (core : Core) (id : ℕ) (p : List ℕ) → MayComplete core phase (Choice id p) → phase ≡ Choosing
-unfolding MayComplete
-chosen_in phase core id p ok = grind arith
+unfolding IsAllowed
+chosen_in phase core id p ok = grind (arith, allowed core phase (Choice id p) ok)
 
 -- what each message leads to
 choice-phase : (core : Core) (id : ℕ) (p : List ℕ) → core.phase ≡ Choosing → (complete core (Choice id p)).phase ≡ choice_phase id p
@@ -95,9 +97,9 @@ unfolding IsSendable
 choice_bytes id p sn = sn.1.1
 
 -- the answer to an option that was asked
-said_in : (core : Core) (asked : ℕ) (p : List ℕ) (info : Option Exporting) (option kind : ℕ) (answer : List ℕ) → MayComplete core (Answering asked p info) (Answer option kind answer) →
+said_in : (core : Core) (asked : ℕ) (p : List ℕ) (info : Option Exporting) (option kind : ℕ) (answer : List ℕ) → IsAllowed core (Answering asked p info) (Answer option kind answer) →
     (option ≡ asked) × IsSaid asked p kind answer
-unfolding MayComplete
+unfolding IsAllowed
 said_in core asked p info option kind answer ok =
     let a = answer_allow core.profile asked p info core.selection option kind answer ok.0 ok.1 in
     (a.0, (grind (arith, eqb-true, or_cases, and_parts)))
@@ -217,8 +219,8 @@ record SplitsBy (ms : List Message) : Type 0 where
   grants : IsStructuring option
   at : ms ≡ before ++ structuring option ∷ after
 
-acked : (core : Core) (phase : Phase) (m : Message) → MayComplete core phase m → gives_structure m ≡ true → (o : ℕ) × IsStructuring o × (m ≡ structuring o)
-unfolding MayComplete
+acked : (core : Core) (phase : Phase) (m : Message) → IsAllowed core phase m → gives_structure m ≡ true → (o : ℕ) × IsStructuring o × (m ≡ structuring o)
+unfolding IsAllowed
 acked core Aborting (Answer option kind p) ok h = absurd (let q : false ≡ true = sym (ap (λ o. grants_structured o kind) (abort_allow option kind p ok).0) ∙ h in (cc))
 acked core (Answering asked with info) (Answer option kind p) ok h =
     let r = grants_both option kind h in
@@ -228,7 +230,7 @@ acked core phase m ok h = grind (arith, abort_allow, grants_both, empty_ack, sai
 found : (ms : List Message) (core : Core) → Passes core ms → any ms ≡ true → SplitsBy ms
 found [] core p h = absurd (cc)
 found (m ∷ ms) core p h = elim (or_cases (gives_structure m) (any ms) h) [
-  | inl g ↦ (let a = acked core core.phase m p.1 g in record { before = []; after = ms; option = a.0; grants = a.1; at = ap (λ x. x ∷ ms) a.2 })
+  | inl g ↦ (let a = acked core core.phase m (allowed core core.phase m p.1) g in record { before = []; after = ms; option = a.0; grants = a.1; at = ap (λ x. x ∷ ms) a.2 })
   | inr r ↦ (let s : SplitsBy ms = found ms (complete core m) p.2 r in
       record { before = m ∷ s.before; after = s.after; option = s.option; grants = s.grants; at = ap (λ x. m ∷ x) s.at })
 ]
@@ -247,8 +249,8 @@ data Says (core : Core) (asked : List ℕ) (m : Message) : Type 0 where
   refuses : (complete core m).phase ≡ Choosing → (complete core m).selection ≡ core.selection → Says core asked m
 
 says : (core : Core) (asked : List ℕ) (info : Option Exporting) (m : Message) → core.phase ≡ Answering options.SET_META_CONTEXT asked info → IsSendable m →
-    MayComplete core (Answering options.SET_META_CONTEXT asked info) m → Says core asked m
-unfolding MayComplete IsSendable has
+    IsAllowed core (Answering options.SET_META_CONTEXT asked info) m → Says core asked m
+unfolding IsAllowed IsSendable has
 says core asked info (Answer option kind answer) at sn ok =
     let s = said_in core options.SET_META_CONTEXT asked info option kind answer ok in
     let answer_is : (k : ℕ) (a : List ℕ) → kind ≡ k → answer ≡ a → Answer option kind answer ≡ Answer options.SET_META_CONTEXT k a =
@@ -288,7 +290,7 @@ record Parsed (asked : List ℕ) (ms : List Message) : Type 0 where
 parsed : (ms : List Message) (core : Core) (asked : List ℕ) (info : Option Exporting) → Passes core ms → ChooseNoOther ms → core.phase ≡ Answering options.SET_META_CONTEXT asked info →
     core.selection.granted ≡ false → (led core ms).selection.granted ≡ true → Parsed asked ms
 parsed [] core asked info p other at w g = absurd (let q : false ≡ true = sym w ∙ g in cc)
-parsed (m ∷ ms) core asked info p other at w g = elim (says core asked info m at p.0 (subst (λ phase. MayComplete core phase m) at p.1)) [
+parsed (m ∷ ms) core asked info p other at w g = elim (says core asked info m at p.0 (subst (λ phase. IsAllowed core phase m) at (allowed core core.phase m p.1))) [
   | tells context short e ↦ (let phase : (complete core m).phase ≡ Answering options.SET_META_CONTEXT asked info = ap (λ x. (complete core x).phase) e ∙ telling-phase core asked info context at in
       let waits : (complete core m).selection.granted ≡ false =
       ap (λ (s : Selection). s.granted) (ap (λ x. (complete core x).selection) e ∙ telling-selection core asked info context at short) ∙ w in
@@ -335,8 +337,8 @@ goes_reply : (asked : ℕ) (with : List ℕ) (info : Option Exporting) (kind : �
 unfolding is_proper_option
 goes_reply asked with info kind answer p is l = grind (arith)
 
-goes_on : (p : List ℕ) (core : Core) (phase : Phase) (m : Message) → core.phase ≡ phase → MayComplete core phase m → IsNoChoice m → Goes p phase → Goes p (complete core m).phase
-unfolding MayComplete
+goes_on : (p : List ℕ) (core : Core) (phase : Phase) (m : Message) → core.phase ≡ phase → IsAllowed core phase m → IsNoChoice m → Goes p phase → Goes p (complete core m).phase
+unfolding IsAllowed
 goes_on p core (Transmission export) m at ok none l = subst (Goes p) (sym (phase-complete core export m (transmission_row core export m ok) ∙ at)) l
 goes_on p core (Answering asked with info) (Answer option kind answer) at ok none l =
     subst (Goes p) (sym (answer-phase core asked with info option kind answer at)) (goes_reply asked with info kind answer p (said_in core asked with info option kind answer ok).1 l)
@@ -344,7 +346,7 @@ goes_on p core phase m at ok none l = grind (arith, phase-complete, transmission
 
 goes : (ms : List Message) (core : Core) (p : List ℕ) → Passes core ms → ChooseNone ms → Goes p core.phase → Goes p (led core ms).phase
 goes [] core p ok none l = l
-goes (m ∷ ms) core p ok none l = goes ms (complete core m) p ok.2 (All-tail IsNoChoice m ms none) (goes_on p core core.phase m refl ok.1 (All-head IsNoChoice m ms none) l)
+goes (m ∷ ms) core p ok none l = goes ms (complete core m) p ok.2 (All-tail IsNoChoice m ms none) (goes_on p core core.phase m refl (allowed core core.phase m ok.1) (All-head IsNoChoice m ms none) l)
 
 -- contexts that are told are selected
 record IsTold (core : Core) (asked : List ℕ) (contexts : List Context) (now : Core) : Type 0 where

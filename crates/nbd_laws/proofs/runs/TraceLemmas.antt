@@ -1,5 +1,6 @@
 -- What a reader read is a run with exactly the pairs that it read.
-use Rattle.nbd_laws.proofs.Common.{and_parts, ◌≡◌, ℕ, suc, zero, ◌+◌, ◌<◌, ◌≤◌, ◌⊎◌, List, [], ◌∷◌, ◌++◌, length, refl, sym, ◌∙◌, ap, subst, inl, inr, Ok, Some, append_assoc, append-nil, arith, true, Bool, not, ◌==◌, ◌&&◌, if◌then◌else◌, length-append, add-one, le_refl, eq-or-lt_of_le, eqb-true, IsTrue, Names, NamesWhole, whole, Entry, Side, Client, Server, Message, enc, head, side, Item, Byte, Starts, Completes, Serves, pairs, completed_messages, Pair, ArePairs, Operation, is_finished, Core, State, target, target_from, with_reply_at, IsSendable, MayStart, complete, is_reply_to, makes_due, Obeys, request_of_reply, IsServedFor, Both, get, put, IsFilled, Rest, Reader, Reading, More, Whole, Bad, settle, Judge, rest_with, reads, on_ok, with_message}
+use Rattle.nbd_laws.proofs.Common.{AreBytes, judge, and_parts, ◌≡◌, ℕ, suc, zero, ◌+◌, ◌<◌, ◌≤◌, ◌⊎◌, List, [], ◌∷◌, ◌++◌, length, refl, sym, ◌∙◌, ap, subst, inl, inr, Ok, Some, append_assoc, append-nil, arith, true, Bool, not, ◌==◌, ◌&&◌, if◌then◌else◌, length-append, add-one, le_refl, eq-or-lt_of_le, eqb-true, IsTrue, Names, NamesWhole, whole, Entry, Side, Client, Server, Message, enc, head, side, Item, Byte, Starts, Completes, Serves, pairs, completed_messages, Pair, ArePairs, Operation, is_finished, Core, State, target, target_from, with_reply_at, MayStart, complete, is_reply_to, makes_due, Obeys, request_of_reply, IsServedFor, Both, get, put, IsFilled, Rest, Reader, Reading, More, Whole, Bad, settle, rest_with, reads, on_ok, with_message}
+use Rattle.nbd_laws.proofs.judge.SentLemmas.{message_bytes}
 use Rattle.nbd_laws.proofs.service.EntryLemmas.{Names-push_cases, NamesWhole-left, NamesWhole-push, served_atomically}
 use Rattle.nbd_laws.proofs.reading.ReaderLemmas.{old-empty, old-filled, IsFilled-snoc, IsMoreAt, AreHeld, kept_next, held_more, held_whole, led, with_byte, IsMore, Tracks, get-put_same, put-put, Open, Idle, Busy, Loose, IsNotBusy, Walk, ended, serving, opening, middle, final, loose, IsSoundAt, IsSound}
 
@@ -77,7 +78,7 @@ pub record IsWithin (rest : Rest) (s : Side) (m : Message) (left : List ℕ) : T
   pub unfinished : IsFilled left
   pub encodes : enc m ≡ rest.bytes ++ left
   pub sided : side m ≡ s
-  pub sendable : IsSendable m
+  pub are_bytes : AreBytes (enc m)
   pub starts : MayStart rest.since s m
 
 abbrev pub Guess : Rest → Rest → Side → Open → Type 0
@@ -90,7 +91,7 @@ abbrev pub IsStray : Reader → Type 0
 IsStray end = (s : Side) × IsFilled (get end.rests s).bytes
 
 -- a marked continuation from a reader to a reader
-pub record IsTrace (judge : Judge) (reader end : Reader) (state : State) (ps : List Pair) : Type 0 where
+pub record IsTrace (reader end : Reader) (state : State) (ps : List Pair) : Type 0 where
   pub items : List Item
   pub open_ : Both Open
   pub walk : Walk (IsStray end) open_ items
@@ -98,7 +99,7 @@ pub record IsTrace (judge : Judge) (reader end : Reader) (state : State) (ps : L
   pub has_pairs : pairs items ≡ ps
   pub obeys : Obeys state items
   pub messages : reader.messages ++ completed_messages items ≡ end.messages
-  pub tracks : Tracks judge reader items
+  pub tracks : Tracks reader items
   pub leads : led reader items ≡ end
 
 pub guess_at_end : (rest : Rest) (s : Side) → (o : Open) × Guess rest rest s o × IsNotBusy o
@@ -108,8 +109,8 @@ guess_at_end rest s = go rest.bytes refl
     go [] e = (Idle, e, tt)
     go (b ∷ bs) e = (Loose, (subst IsFilled (sym e) tt, subst IsFilled (sym e) tt), tt)
 
-abbrev pub at_end : (judge : Judge) (reader : Reader) (state : State) → IsTrace judge reader reader state []
-at_end judge reader state =
+abbrev pub at_end : (reader : Reader) (state : State) → IsTrace reader reader state []
+at_end reader state =
     let c = guess_at_end reader.rests.client Client in
     let s = guess_at_end reader.rests.server Server in
     record {
@@ -148,14 +149,14 @@ led_whole reader s b m = grind (arith, get-put_same)
 led_service : (old new : Core) (g : IsGrown old new) (reader : Reader) (items : List Item) → led reader (service old new g ++ items) ≡ led reader items
 led_service old new g reader items = grind arith
 
-tracks_service : (judge : Judge) (old new : Core) (g : IsGrown old new) (reader : Reader) (items : List Item) → Tracks judge reader items → Tracks judge reader (service old new g ++ items)
-tracks_service judge old new g reader items h = grind arith
+tracks_service : (old new : Core) (g : IsGrown old new) (reader : Reader) (items : List Item) → Tracks reader items → Tracks reader (service old new g ++ items)
+tracks_service old new g reader items h = grind arith
 
-pub tracks_more : (judge : Judge) (reader : Reader) (s : Side) (b : ℕ) (items : List Item) → Tracks judge (with_byte reader s b) items → ((x : Item) (xs : List Item) → items ≡ x ∷ xs → IsMore judge (with_byte reader s b) s) → Tracks judge reader (Byte s b ∷ items)
-tracks_more judge reader s b [] h more = tt
-tracks_more judge reader s b (item ∷ items) h more = grind arith
+pub tracks_more : (reader : Reader) (s : Side) (b : ℕ) (items : List Item) → Tracks (with_byte reader s b) items → ((x : Item) (xs : List Item) → items ≡ x ∷ xs → IsMore (with_byte reader s b) s) → Tracks reader (Byte s b ∷ items)
+tracks_more reader s b [] h more = tt
+tracks_more reader s b (item ∷ items) h more = grind arith
 
-module _ (judge : Judge) (reader end : Reader) (js : List Entry) (canonical : IsCanonical (record { core = reader.core; served = js })) (s : Side) (b : ℕ) (ps : List Pair) where
+module _ (reader end : Reader) (js : List Entry) (canonical : IsCanonical (record { core = reader.core; served = js })) (s : Side) (b : ℕ) (ps : List Pair) where
   abbrev rest_of : Rest
   rest_of = get reader.rests s
 
@@ -163,11 +164,11 @@ module _ (judge : Judge) (reader end : Reader) (js : List Entry) (canonical : Is
   more_of = rest_with reader.core rest_of b
 
   abbrev Goal : Type 0
-  Goal = IsTrace judge reader end (record { core = reader.core; served = js }) (record { from = s; byte = b } ∷ ps)
+  Goal = IsTrace reader end (record { core = reader.core; served = js }) (record { from = s; byte = b } ∷ ps)
 
   -- the byte goes on with its message, or with bytes of none
-  pub more_step : (t : IsTrace judge (record reader { rests = put reader.rests s more_of }) end (record { core = reader.core; served = js }) ps) →
-      ((x : Item) (xs : List Item) → t.items ≡ x ∷ xs → IsMoreAt judge reader.core s more_of) → Goal
+  pub more_step : (t : IsTrace (record reader { rests = put reader.rests s more_of }) end (record { core = reader.core; served = js }) ps) →
+      ((x : Item) (xs : List Item) → t.items ≡ x ∷ xs → IsMoreAt reader.core s more_of) → Goal
   more_step t judged = go (get t.open_ s) refl (subst (λ r. Guess r (get end.rests s) s (get t.open_ s)) (get-put_same reader.rests s more_of) (t.guess s))
     where
       others : (o : Open) → Guess rest_of (get end.rests s) s o → (u : Side) → Guess (get reader.rests u) (get end.rests u) u (get (put t.open_ s o) u)
@@ -176,7 +177,7 @@ module _ (judge : Judge) (reader end : Reader) (js : List Entry) (canonical : Is
       walk_on : (o p : Open) → get t.open_ s ≡ p → Walk (IsStray end) (put (put t.open_ s o) s p) t.items
       walk_on o p is = subst (λ w. Walk (IsStray end) w t.items) (sym (put-put t.open_ s o p is)) t.walk
 
-      tracks_on : Tracks judge reader (Byte s b ∷ t.items)
+      tracks_on : Tracks reader (Byte s b ∷ t.items)
       tracks_on = grind (arith, tracks_more, get-put_same)
 
       busy : (m : Message) (left : List ℕ) (bs : List ℕ) → rest_of.bytes ≡ bs → get t.open_ s ≡ Busy m left → IsWithin more_of s m left → Goal
@@ -186,7 +187,7 @@ module _ (judge : Judge) (reader end : Reader) (js : List Entry) (canonical : Is
         walk = opening s m b left (get-put_same t.open_ s Idle) (g.encodes ∙ ap (λ bs. (bs ++ b ∷ []) ++ left) e) g.unfinished (walk_on Idle (Busy m left) is);
         guess = others Idle e;
         has_pairs = ap (λ q. record { from = s; byte = b } ∷ q) t.has_pairs;
-        obeys = ((g.sided, g.sendable, subst (λ c. MayStart c s m) (old-empty reader.core rest_of e) g.starts, canonical_serves _ canonical (Starts s m)), (tt, t.obeys));
+        obeys = ((g.sided, g.are_bytes, subst (λ c. MayStart c s m) (old-empty reader.core rest_of e) g.starts, canonical_serves _ canonical (Starts s m)), (tt, t.obeys));
         messages = t.messages;
         tracks = tracks_on;
         leads = t.leads;
@@ -202,7 +203,7 @@ module _ (judge : Judge) (reader end : Reader) (js : List Entry) (canonical : Is
               unfinished = tt;
               encodes = g.encodes ∙ append_assoc rest_of.bytes (b ∷ []) left;
               sided = g.sided;
-              sendable = g.sendable;
+              are_bytes = g.are_bytes;
               starts = subst (λ c. MayStart c s m) (old-filled reader.core rest_of f) g.starts;
             });
             has_pairs = ap (λ q. record { from = s; byte = b } ∷ q) t.has_pairs;
@@ -236,7 +237,7 @@ module _ (judge : Judge) (reader end : Reader) (js : List Entry) (canonical : Is
 
   -- the byte completes its message
   whole_step : (m : Message) (grow : IsGrown reader.core (complete reader.core m)) → IsSoundAt more_of.since reader.core s more_of.bytes m →
-      IsTrace judge (with_message reader s more_of m) end
+      IsTrace (with_message reader s more_of m) end
       (record { core = complete reader.core m; served = serviced reader.core (complete reader.core m) grow js }) ps → Goal
   whole_step m grow sound t = go (get t.open_ s) refl (subst (λ r. Guess r (get end.rests s) s (get t.open_ s)) (get-put_same reader.rests s (record more_of { bytes = [] })) (t.guess s))
     where
@@ -256,45 +257,45 @@ module _ (judge : Judge) (reader end : Reader) (js : List Entry) (canonical : Is
               unfinished = tt;
               encodes = sym sound.encodes;
               sided = sound.sided;
-              sendable = sound.sendable;
+              are_bytes = message_bytes m sound.sendable;
               starts = subst (λ c. MayStart c s m) (old-filled reader.core rest_of f) sound.starts;
             });
             has_pairs = ap (λ q. record { from = s; byte = b } ∷ q) (pairs_service reader.core (complete reader.core m) grow t.items ∙ t.has_pairs);
             obeys = (tt, ((sound.completes, canonical_serves _ canonical (Completes s m)), obeys_service reader.core (complete reader.core m) grow js t.items canonical t.obeys));
             messages = ap (λ ms. reader.messages ++ m ∷ ms) (completed_service reader.core (complete reader.core m) grow t.items)
                 ∙ sym (append_assoc reader.messages (m ∷ []) (completed_messages t.items)) ∙ t.messages;
-            tracks = (refl, subst (λ x. Tracks judge x (service reader.core (complete reader.core m) grow ++ t.items)) (sym (led_whole reader s b m)) (tracks_service judge reader.core (complete reader.core m) grow _ t.items t.tracks));
+            tracks = (refl, subst (λ x. Tracks x (service reader.core (complete reader.core m) grow ++ t.items)) (sym (led_whole reader s b m)) (tracks_service reader.core (complete reader.core m) grow _ t.items t.tracks));
             leads = ap (λ x. led x (service reader.core (complete reader.core m) grow ++ t.items)) (led_whole reader s b m) ∙ led_service reader.core (complete reader.core m) grow _ t.items ∙ t.leads;
           }
       go o is g = grind (arith, filled, get-put_same, walk_service, put-put, guess_with, old-filled, pairs_service, canonical_serves, obeys_service, completed_service, append_assoc, led_whole, tracks_service, led, led_service)
 
-trace_by : (judge : Judge) → IsSound judge → (reader mid end : Reader) (js : List Entry) → AreHeld judge reader → IsCanonical (record { core = reader.core; served = js }) → (p : Pair) (ps qs : List Pair) → p.byte < 256 →
-    ((next : Reader) (js' : List Entry) → AreHeld judge next → IsCanonical (record { core = next.core; served = js' }) → reads judge next ps ≡ Ok mid → IsTrace judge next end (record { core = next.core; served = js' }) (ps ++ qs)) →
+trace_by : IsSound → (reader mid end : Reader) (js : List Entry) → AreHeld reader → IsCanonical (record { core = reader.core; served = js }) → (p : Pair) (ps qs : List Pair) → p.byte < 256 →
+    ((next : Reader) (js' : List Entry) → AreHeld next → IsCanonical (record { core = next.core; served = js' }) → reads next ps ≡ Ok mid → IsTrace next end (record { core = next.core; served = js' }) (ps ++ qs)) →
     (r : Reading) → judge (rest_with reader.core (get reader.rests p.from) p.byte).since reader.core p.from (rest_with reader.core (get reader.rests p.from) p.byte).bytes ≡ r →
-    on_ok (settle reader p.from (rest_with reader.core (get reader.rests p.from) p.byte) r) (λ next. reads judge next ps) ≡ Ok mid →
-    IsTrace judge reader end (record { core = reader.core; served = js }) (p ∷ ps ++ qs)
-trace_by judge sound reader mid end js held canonical p ps qs lt ih More is h = more_step judge reader end js canonical p.from p.byte (ps ++ qs) (ih _ js (held_more judge reader p.from p.byte lt held is) canonical h) (λ x xs e. (is, kept_next judge reader.core p.from (get reader.rests p.from) p.byte lt (held p.from)))
-trace_by judge sound reader mid end js held canonical p ps qs lt ih (Whole m) is h =
+    on_ok (settle reader p.from (rest_with reader.core (get reader.rests p.from) p.byte) r) (λ next. reads next ps) ≡ Ok mid →
+    IsTrace reader end (record { core = reader.core; served = js }) (p ∷ ps ++ qs)
+trace_by sound reader mid end js held canonical p ps qs lt ih More is h = more_step reader end js canonical p.from p.byte (ps ++ qs) (ih _ js (held_more reader p.from p.byte lt held is) canonical h) (λ x xs e. (is, kept_next reader.core p.from (get reader.rests p.from) p.byte lt (held p.from)))
+trace_by sound reader mid end js held canonical p ps qs lt ih (Whole m) is h =
     let grow : IsGrown reader.core (complete reader.core m) = length-complete reader.core m in
     let ok : IsSoundAt (rest_with reader.core (get reader.rests p.from) p.byte).since reader.core p.from (rest_with reader.core (get reader.rests p.from) p.byte).bytes m =
-    sound _ _ _ _ m (kept_next judge reader.core p.from (get reader.rests p.from) p.byte lt (held p.from)) is in
-    whole_step judge reader end js canonical p.from p.byte (ps ++ qs) m grow ok
-    (ih _ _ (held_whole judge reader p.from m (record (rest_with reader.core (get reader.rests p.from) p.byte) { bytes = [] }) refl held ok.sided ok.sendable ok.completes) (canonical_serviced reader.core (complete reader.core m) grow js canonical) h)
-trace_by judge sound reader mid end js held canonical p ps qs lt ih (Bad f) is h = absurd (cc)
+    sound _ _ _ _ m (kept_next reader.core p.from (get reader.rests p.from) p.byte lt (held p.from)) is in
+    whole_step reader end js canonical p.from p.byte (ps ++ qs) m grow ok
+    (ih _ _ (held_whole reader p.from m (record (rest_with reader.core (get reader.rests p.from) p.byte) { bytes = [] }) refl held ok.sided ok.sendable ok.completes) (canonical_serviced reader.core (complete reader.core m) grow js canonical) h)
+trace_by sound reader mid end js held canonical p ps qs lt ih (Bad f) is h = absurd (cc)
 
 -- what was read without a fault is a run, but for the rests, and what comes then
-pub trace_then : (judge : Judge) → IsSound judge → (ps qs : List Pair) (reader mid end : Reader) (js : List Entry) → ArePairs ps → AreHeld judge reader → IsCanonical (record { core = reader.core; served = js }) →
-    reads judge reader ps ≡ Ok mid →
-    ((js' : List Entry) → AreHeld judge mid → IsCanonical (record { core = mid.core; served = js' }) → IsTrace judge mid end (record { core = mid.core; served = js' }) qs) →
-    IsTrace judge reader end (record { core = reader.core; served = js }) (ps ++ qs)
-trace_then judge sound [] qs reader mid end js lt held canonical e go_on =
+pub trace_then : IsSound → (ps qs : List Pair) (reader mid end : Reader) (js : List Entry) → ArePairs ps → AreHeld reader → IsCanonical (record { core = reader.core; served = js }) →
+    reads reader ps ≡ Ok mid →
+    ((js' : List Entry) → AreHeld mid → IsCanonical (record { core = mid.core; served = js' }) → IsTrace mid end (record { core = mid.core; served = js' }) qs) →
+    IsTrace reader end (record { core = reader.core; served = js }) (ps ++ qs)
+trace_then sound [] qs reader mid end js lt held canonical e go_on =
     let q : mid ≡ reader = cc in
-    subst (λ (x : Reader). (js' : List Entry) → AreHeld judge x → IsCanonical (record { core = x.core; served = js' }) → IsTrace judge x end (record { core = x.core; served = js' }) qs) q go_on js held canonical
-trace_then judge sound (p ∷ ps) qs reader mid end js lt held canonical e go_on =
-    trace_by judge sound reader mid end js held canonical p ps qs lt.0 (λ next js' hd c h. trace_then judge sound ps qs next mid end js' lt.1 hd c h go_on) _ refl e
+    subst (λ (x : Reader). (js' : List Entry) → AreHeld x → IsCanonical (record { core = x.core; served = js' }) → IsTrace x end (record { core = x.core; served = js' }) qs) q go_on js held canonical
+trace_then sound (p ∷ ps) qs reader mid end js lt held canonical e go_on =
+    trace_by sound reader mid end js held canonical p ps qs lt.0 (λ next js' hd c h. trace_then sound ps qs next mid end js' lt.1 hd c h go_on) _ refl e
 
-pub trace : (judge : Judge) → IsSound judge → (ps : List Pair) (reader end : Reader) (js : List Entry) → ArePairs ps → AreHeld judge reader → IsCanonical (record { core = reader.core; served = js }) →
-    reads judge reader ps ≡ Ok end → IsTrace judge reader end (record { core = reader.core; served = js }) ps
-trace judge sound ps reader end js lt held canonical e =
-    subst (λ l. IsTrace judge reader end (record { core = reader.core; served = js }) l) (append-nil ps)
-    (trace_then judge sound ps [] reader end end js lt held canonical e (λ js' hd c. at_end judge end (record { core = end.core; served = js' })))
+pub trace : IsSound → (ps : List Pair) (reader end : Reader) (js : List Entry) → ArePairs ps → AreHeld reader → IsCanonical (record { core = reader.core; served = js }) →
+    reads reader ps ≡ Ok end → IsTrace reader end (record { core = reader.core; served = js }) ps
+trace sound ps reader end js lt held canonical e =
+    subst (λ l. IsTrace reader end (record { core = reader.core; served = js }) l) (append-nil ps)
+    (trace_then sound ps [] reader end end js lt held canonical e (λ js' hd c. at_end end (record { core = end.core; served = js' })))

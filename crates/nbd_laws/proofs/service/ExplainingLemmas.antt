@@ -26,11 +26,8 @@ explained_passes profile items order initial run x =
     }
 
 pub counts_of : {profile : Profile} (items : List Item) (capture : List Pair) (r a i : ℕ) → IsRunOf profile items → pairs items ≡ capture → request_count (report items) ≡ r → answered_count (report items) ≡ a → improper_count profile (report items) ≡ i → HasCountsOf profile capture r a i
-counts_of {profile} items capture r a i run e er ea ei = record {
-  requests_are = λ items' run' e'. ap request_count (same items' run' e') ∙ er;
-  answered_are = λ items' run' e'. ap answered_count (same items' run' e') ∙ ea;
-  improper_are = λ items' run' e'. ap (improper_count profile) (same items' run' e') ∙ ei;
-}
+counts_of {profile} items capture r a i run e er ea ei items' run' e' =
+    (ap request_count (same items' run' e') ∙ er, ap answered_count (same items' run' e') ∙ ea, ap (improper_count profile) (same items' run' e') ∙ ei)
   where
     same : (items' : List Item) → IsRunOf profile items' → pairs items' ≡ capture → report items' ≡ report items
     same items' run' e' = same_reports profile items' items run' run (e' ∙ sym e)

@@ -1,5 +1,7 @@
 -- What lies inside a request does not change while messages complete.
 use Rattle.nbd_laws.proofs.Common.{◌≡◌, ℕ, zero, suc, ◌<◌, ◌≤◌, List, [], ◌∷◌, ◌++◌, length, refl, sym, ◌∙◌, inl, inr, Option, arith, le_refl, Entry, Message, Greeting, ClientFlags, Choice, Answer, Exported, Profile, Base, Wide, Item, Byte, Starts, Completes, Serves, Exporting, Operation, is_proper, MayComplete, Obeys, complete, inside_at, inside_operation, is_by_chunk, Core, Phase, Greet, Flags, Choosing, Naming, Aborting, Answering, Transmission, operation, with_reply_at}
+use Rattle.nbd_laws.proofs.judge.WholeLemmas.{allowed}
+unfoldable use Rattle.nbd_laws.proofs.judge.WholeLemmas.{IsAllowed}
 use Rattle.nbd_laws.proofs.runs.PrefixLemmas.{InTransmission, asks, in_transmission, phase-complete, transmission_row}
 use Rattle.nbd_laws.proofs.runs.TraceLemmas.{length-complete}
 
@@ -24,8 +26,8 @@ IsSettled core = 0 < length core.entries → (export : Exporting) × (core.phase
 settled_before : (core end : Core) (phase : Phase) → IsSettled core → core.phase ≡ phase → ((export : Exporting) → phase ≡ Transmission export → ⊥) → end.entries ≡ core.entries → IsSettled end
 settled_before core end phase settled q other same l = grind arith
 
-settled_in : (core : Core) (phase : Phase) (m : Message) → core.phase ≡ phase → MayComplete core phase m → IsSettled core → IsSettled (complete core m)
-unfolding MayComplete complete
+settled_in : (core : Core) (phase : Phase) (m : Message) → core.phase ≡ phase → IsAllowed core phase m → IsSettled core → IsSettled (complete core m)
+unfolding IsAllowed complete
 settled_in core Greet (Greeting flags) q ok h = settled_before core (complete core (Greeting flags)) Greet h q (λ export t. cc) refl
 settled_in core Flags (ClientFlags flags) q ok h = settled_before core (complete core (ClientFlags flags)) Flags h q (λ export t. cc) refl
 settled_in core Choosing (Choice id p) q ok h = settled_before core (complete core (Choice id p)) Choosing h q (λ export t. cc) refl
@@ -36,7 +38,7 @@ settled_in core (Transmission export) m q ok h = λ l. (export, phase-complete c
 settled_in core phase m q ok h = absurd ok
 
 pub settled_complete : (core : Core) (m : Message) → MayComplete core core.phase m → IsSettled core → IsSettled (complete core m)
-settled_complete core m ok h = settled_in core core.phase m refl ok h
+settled_complete core m ok h = settled_in core core.phase m refl (allowed core core.phase m ok) h
 
 inside_replied : (export : Option Exporting) (j : ℕ) (m : Message) (es : List Operation) (k : ℕ) → inside_operation export (operation k (with_reply_at j m es)) ≡ inside_operation export (operation k es)
 unfolding is_proper

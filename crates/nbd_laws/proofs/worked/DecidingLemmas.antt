@@ -1,5 +1,5 @@
 -- Tests that decide the rules of negotiation by computing, and what a message needs to start.
-use Rattle.nbd_laws.proofs.Common.{and_parts, not-true, or_cases, ◌≡◌, ℕ, zero, suc, ◌+◌, ◌<◌, ◌≤◌, ◌^◌, ◌==◌, ◌&&◌, ◌||◌, not, nat_le, nat_lt, List, [], ◌∷◌, length, refl, subst, inl, inr, Option, Some, None, Bool, true, false, if◌then◌else◌, IsTrue, is_some, eqb-true, arith, eq-eqb, eqb-false, leb-true, ltb-true, WireFault, Entry, Part, IsServedAt, MayServe, Names, NamesWhole, inside, is_served, inside_of, Side, Client, Server, Message, Greeting, ClientFlags, Choice, Answer, Exported, Request, Simple, Chunk, ExtendedRequest, ExtendedChunk, AreBytes, turn, Exporting, Operation, ends_reply, has_range, is_proper, proper_on, is_in, IsServedFor, MayStartIn, gives, inside_at, inside_operation, is_by_chunk, is_reply_to, is_request, is_this, request_of_reply, is_extended, Completes, Starts, carries_payload, IsSendable, same_side, Core, Phase, State, Transmission, export_in, operation}
+use Rattle.nbd_laws.proofs.Common.{and_parts, not-true, or_cases, ◌≡◌, ℕ, zero, suc, ◌+◌, ◌<◌, ◌≤◌, ◌==◌, ◌&&◌, ◌||◌, not, nat_le, nat_lt, List, [], ◌∷◌, refl, subst, inl, inr, Option, Some, None, Bool, true, false, IsTrue, is_some, eqb-true, arith, eq-eqb, eqb-false, leb-true, ltb-true, Entry, Part, IsServedAt, MayServe, Names, NamesWhole, inside, is_served, inside_of, Side, Client, Server, Message, AreBytes, turn, Exporting, Operation, ends_reply, has_range, is_proper, proper_on, is_in, IsServedFor, MayStartIn, gives, inside_at, inside_operation, is_by_chunk, is_reply_to, is_this, request_of_reply, is_extended, Completes, Starts, same_side, Core, Phase, State, Transmission, export_in, operation}
 use Rattle.nbd_wire.specs.declared.commands.TheConstants as commands
 
 -- the second test passes where the first does
@@ -36,36 +36,12 @@ pub bytes_are : (bs : List ℕ) → IsTrue (are_bytes bs) → AreBytes bs
 bytes_are [] e = tt
 bytes_are (b ∷ bs) e = (let h = and_parts (nat_lt b 256) (are_bytes bs) e in (ltb-true b 256 h.0, bytes_are bs h.1))
 
-abbrev pub is_payload : List ℕ → Bool
-is_payload payload = nat_lt (length payload) (2 ^ 32) && are_bytes payload
-
-abbrev pub is_sendable : Message → Bool
-is_sendable (Greeting flags) = nat_lt flags (2 ^ 16)
-is_sendable (ClientFlags flags) = nat_lt flags (2 ^ 32)
-is_sendable (Choice id payload) = nat_lt id (2 ^ 32) && is_payload payload
-is_sendable (Answer option kind payload) = nat_lt option (2 ^ 32) && (nat_lt kind (2 ^ 32) && is_payload payload)
-is_sendable (Exported size flags padded) = nat_lt size (2 ^ 64) && nat_lt flags (2 ^ 16)
-is_sendable (Request flags command cookie offset len payload) =
-    nat_lt flags (2 ^ 16) && (nat_lt command (2 ^ 16) && (nat_lt cookie (2 ^ 64) && (nat_lt offset (2 ^ 64) && (nat_lt len (2 ^ 32)
-    && ((length payload == (if command == commands.WRITE then len else 0)) && are_bytes payload)))))
-is_sendable (Simple error cookie payload) = nat_lt error (2 ^ 32) && (nat_lt cookie (2 ^ 64) && is_payload payload)
-is_sendable (Chunk flags kind cookie payload) = nat_lt flags (2 ^ 16) && (nat_lt kind (2 ^ 16) && (nat_lt cookie (2 ^ 64) && is_payload payload))
-is_sendable (ExtendedRequest flags command cookie offset len payload) =
-    nat_lt flags (2 ^ 16) && (nat_lt command (2 ^ 16) && (nat_lt cookie (2 ^ 64) && (nat_lt offset (2 ^ 64) && (nat_lt len (2 ^ 64)
-    && ((length payload == (if carries_payload flags command then len else 0)) && is_payload payload)))))
-is_sendable (ExtendedChunk flags kind cookie offset payload) =
-    nat_lt flags (2 ^ 16) && (nat_lt kind (2 ^ 16) && (nat_lt cookie (2 ^ 64) && (nat_lt offset (2 ^ 64) && is_payload payload)))
-
-pub sendable : (m : Message) → IsTrue (is_sendable m) → IsSendable m
-unfolding IsSendable
-sendable m e = grind (arith, ltb-true, and_parts, eqb-true, bytes_are, nat_lt)
-
 abbrev pub is_turn : Option Side → Side → Bool
 is_turn (Some t) s = same_side t s
 is_turn None s = false
 
 abbrev pub may_start_in : Phase → Core → Side → Message → Bool
-may_start_in (Transmission export) core Client m = is_request m && (not core.disconnected && equal_bools (is_extended m) core.extended)
+may_start_in (Transmission export) core Client m = not core.disconnected && equal_bools (is_extended m) core.extended
 may_start_in (Transmission export) core Server m = is_some (request_of_reply core m) && equal_bools (is_extended m) core.extended
 may_start_in phase core s m = is_turn (turn phase) s
 
@@ -165,11 +141,3 @@ true_is_fresh within before e h = go e.part h
         let b = and_parts (nat_lt 0 p.length) _ a.1 in
         let each = λ (x : ℕ) (i : IsTrue (is_in p.offset p.length x)). (let r = in_range p.offset p.length x i in and_parts (within x) (not (is_served before e.request x)) (all_at p.offset p.length (λ x. within x && not (is_served before e.request x)) b.1 x r.0 r.1)) in
         grind (arith, a, b, each, and_parts, nat_lt, ltb-true, in_range, all_at, true_is_in_parts, not-true)
-
--- nothing is refused
-abbrev pub is_clean : Option WireFault → Bool
-is_clean None = true
-is_clean (Some fault) = false
-
-pub clean_is : (o : Option WireFault) → IsTrue (is_clean o) → o ≡ None
-clean_is o h = grind arith

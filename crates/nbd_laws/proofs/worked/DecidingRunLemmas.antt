@@ -1,32 +1,44 @@
 -- Tests that decide by computing whether items are a run.
-use Rattle.nbd_laws.proofs.Common.{arith, and_parts, ◌≡◌, ◌&&◌, not, nat_le, nat_lt, List, [], ◌∷◌, ◌++◌, length, Bool, true, false, IsTrue, flat_map, leb-true, ltb-true, Side, Client, Server, Message, Greeting, ClientFlags, Choice, Answer, Exported, Request, Simple, Chunk, Item, Byte, Starts, Completes, Serves, IsTight, block, of_side, has, Allows, IsRunOf, MayComplete, Obeys, after, inside_at, same_side, side, Profile, Base, ended_messages, Core, Phase, State, Greet, Flags, Choosing, Naming, Aborting, Answering, Transmission, start, start_of, target, is_proper_option, takes_contexts, abort_fault, answer_fault, answer_head_fault, answer_last_fault, client_flags_fault, export_fault, greeting_fault, cookie_fault, request_fault}
-use Rattle.nbd_wire.specs.declared.handshake.TheConstants as handshake
-use Rattle.nbd_wire.specs.declared.options.TheConstants as options
-use Rattle.nbd_laws.proofs.worked.DecidingLemmas.{clean_is, equal_bools, is_clean, is_fresh, is_sendable, is_served_for, may_start_in, same_sides, sendable, serves_end, serves_start, starts_in, true_is_fresh}
-use Rattle.nbd_laws.proofs.worked.DecidingReplyLemmas.{answers_one, answers_target}
+use Rattle.nbd_laws.proofs.Common.{ap, arith, and_parts, ◌≡◌, ◌&&◌, ◌==◌, nat_le, nat_lt, refl, List, [], ◌∷◌, ◌++◌, length, Bool, true, false, IsTrue, flat_map, eqb-true, bytes_eq-Decides, leb-true, ltb-true, Side, Client, Server, Message, Greeting, ClientFlags, Choice, Answer, Exported, Request, Simple, Chunk, enc, Item, Byte, Starts, Completes, Serves, IsTight, block, of_side, Allows, IsRunOf, MayComplete, Obeys, after, inside_at, same_side, side, Profile, Base, ended_messages, Core, Phase, State, start, start_of, Bad, More, Reading, Whole, judge_in}
+use Rattle.std.specs.Str.{bytes_eq}
+use Rattle.nbd_laws.proofs.worked.DecidingLemmas.{are_bytes, bytes_are, is_fresh, is_served_for, may_start_in, same_sides, serves_end, serves_start, starts_in, true_is_fresh}
+
+-- the same message
+abbrev pub is_same : Message → Message → Bool
+is_same (Greeting f) (Greeting g) = f == g
+is_same (ClientFlags f) (ClientFlags g) = f == g
+is_same (Choice a p) (Choice b q) = (a == b) && bytes_eq p q
+is_same (Answer a k p) (Answer b l q) = (a == b) && ((k == l) && bytes_eq p q)
+is_same (Exported s f true) (Exported t g true) = (s == t) && (f == g)
+is_same (Exported s f false) (Exported t g false) = (s == t) && (f == g)
+is_same (Request f k c o l p) (Request g j d x n q) = (f == g) && ((k == j) && ((c == d) && ((o == x) && ((l == n) && bytes_eq p q))))
+is_same (Simple e c p) (Simple f d q) = (e == f) && ((c == d) && bytes_eq p q)
+is_same (Chunk f k c p) (Chunk g j d q) = (f == g) && ((k == j) && ((c == d) && bytes_eq p q))
+is_same m n = false
+
+same : (m n : Message) → IsTrue (is_same m n) → m ≡ n
+same m n h = grind (arith, and_parts, eqb-true, bytes_eq-Decides)
+
+-- its bytes are read as it
+abbrev pub is_whole : Message → Reading → Bool
+is_whole m (Whole n) = is_same n m
+is_whole m r = false
 
 abbrev pub may_complete : Core → Phase → Message → Bool
-may_complete core Greet (Greeting flags) = is_clean (greeting_fault flags)
-may_complete core Flags (ClientFlags flags) = is_clean (client_flags_fault core.offered flags)
-may_complete core Choosing (Choice id payload) = true
-may_complete core Naming (Exported size flags padded) = equal_bools padded (not (has core.client_flags handshake.C_NO_ZEROES)) && is_clean (export_fault size flags)
-may_complete core Aborting (Answer option kind payload) = is_clean (answer_fault options.ABORT option (abort_fault kind (length payload)))
-may_complete core (Answering asked given info) (Answer option kind payload) =
-    is_clean (answer_head_fault core.profile asked (is_proper_option asked given) (takes_contexts asked given) info option kind (length payload))
-    && is_clean (answer_last_fault core.profile asked (is_proper_option asked given) core.selection kind payload)
-may_complete core (Transmission export) (Request flags command cookie offset len payload) =
-    is_clean (request_fault command offset len) && (is_clean (cookie_fault command (target cookie core.entries)) && not core.extended)
-may_complete core (Transmission export) (Simple error cookie payload) = answers_target core export (Simple error cookie payload) (target cookie core.entries)
-may_complete core (Transmission export) (Chunk flags kind cookie payload) = answers_target core export (Chunk flags kind cookie payload) (target cookie core.entries)
-may_complete core phase m = false
+may_complete core phase m = is_whole m (judge_in phase core core (side m) (enc m))
 
 pub completes : (core : Core) (phase : Phase) (m : Message) → IsTrue (may_complete core phase m) → MayComplete core phase m
 unfolding MayComplete
-completes core phase m h = grind (arith, clean_is, and_parts, answers_one)
+completes core phase m h = go (judge_in phase core core (side m) (enc m)) refl h
+  where
+    go : (r : Reading) → judge_in phase core core (side m) (enc m) ≡ r → IsTrue (is_whole m r) → r ≡ Whole m
+    go (Whole n) e h = ap Whole (same n m h)
+    go More e h = absurd (cc)
+    go (Bad fault) e h = absurd (cc)
 
 abbrev pub allows : State → Item → Bool
 allows state (Byte s b) = true
-allows state (Starts s m) = same_side (side m) s && (is_sendable m && (may_start_in state.core.phase state.core s m && is_served_for state m))
+allows state (Starts s m) = same_side (side m) s && (are_bytes (enc m) && (may_start_in state.core.phase state.core s m && is_served_for state m))
 allows state (Completes s m) = may_complete state.core state.core.phase m && is_served_for state m
 allows state (Serves e) =
     nat_lt 0 e.request && (nat_le e.request (length state.core.entries) && is_fresh (inside_at state.core e.request) state.served e.request e.part)
@@ -35,13 +47,13 @@ pub true_allows : (state : State) (item : Item) → IsTrue (allows state item) �
 true_allows state (Byte s b) h = tt
 true_allows state (Starts s m) h =
     let a = and_parts (same_side (side m) s) _ h in
-    let b = and_parts (is_sendable m) _ a.1 in
+    let b = and_parts (are_bytes (enc m)) _ a.1 in
     let c = and_parts (may_start_in state.core.phase state.core s m) (is_served_for state m) b.1 in
-    (same_sides (side m) s a.0, sendable m b.0, starts_in state.core.phase state.core s m c.0, serves_start state s m c.1)
+    (same_sides (side m) s a.0, bytes_are (enc m) b.0, starts_in state.core.phase state.core s m c.0, serves_start state s m c.1)
 true_allows state (Completes s m) h =
     let a = and_parts (may_complete state.core state.core.phase m) (is_served_for state m) h in
     (completes state.core state.core.phase m a.0, serves_end state s m a.1)
-true_allows state item h = grind (arith, and_parts, same_sides, sendable, starts_in, serves_start, completes, serves_end, nat_lt, nat_le, ltb-true, leb-true, true_is_fresh, inside_at)
+true_allows state item h = grind (arith, and_parts, same_sides, bytes_are, starts_in, serves_start, completes, serves_end, nat_lt, nat_le, ltb-true, leb-true, true_is_fresh, inside_at)
 
 -- each item passes the test where it stands
 abbrev pub obeys : State → List Item → Bool

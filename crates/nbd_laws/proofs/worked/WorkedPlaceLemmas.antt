@@ -1,5 +1,5 @@
 -- Captures whose bytes the reader reads up to the last one, which it refuses.
-use Rattle.nbd_laws.proofs.Common.{arith, and_parts, ◌≡◌, ℕ, List, [], ◌∷◌, ◌++◌, take, refl, sym, ◌∙◌, ap, subst, Option, Some, None, Result, Ok, Err, Bool, true, ◌&&◌, nat_lt, ltb-true, WireFault, BadMagic, NotFixedNewstyle, BadClientFlags, OutOfTurn, OutOfProfile, UnknownCookie, BadDisconnect, IncompleteStatus, Message, Greeting, Client, Server, Profile, Base, Wide, ArePairs, Pair, flat, is_proper_option, next_phase, content_of, context_of, failure_of, queries_of, info_of, is_go, is_listed, status_of, ends_reply, is_failing, is_proper, has, has_only, piece_of, complete, IsPlace, IsPlaceOf, target, hasty_client, Reader, fresh_of, on_ok, reads, by_tests, context_messages, opening_messages, status_asked_messages}
+use Rattle.nbd_laws.proofs.Common.{arith, and_parts, ◌≡◌, ℕ, List, [], ◌∷◌, ◌++◌, take, refl, sym, ◌∙◌, ap, subst, Option, Some, None, Result, Ok, Err, Bool, true, ◌&&◌, nat_lt, ltb-true, WireFault, BadMagic, NotFixedNewstyle, BadClientFlags, OutOfTurn, OutOfProfile, UnknownCookie, BadDisconnect, IncompleteStatus, Message, Greeting, Client, Server, Profile, Base, Wide, ArePairs, Pair, flat, is_proper_option, next_phase, content_of, context_of, failure_of, queries_of, info_of, is_go, is_listed, status_of, ends_reply, is_failing, is_proper, has, has_only, piece_of, complete, IsPlace, IsPlaceOf, target, hasty_client, Reader, fresh_of, on_ok, reads, context_messages, opening_messages, status_asked_messages}
 use Rattle.nbd_laws.specs.captures.Refused as refused
 use Rattle.nbd_laws.proofs.judge.BlockLemmas.{reads-append}
 
@@ -16,11 +16,11 @@ abbrev messages_in : Result Reader WireFault → Option (List Message)
 messages_in (Ok reader) = Some reader.messages
 messages_in (Err fault) = None
 
-worked : (profile : Profile) (prefix : List Pair) (p : Pair) (messages : List Message) (fault : WireFault) → are_bytes prefix ≡ true → are_bytes (prefix ++ p ∷ []) ≡ true → messages_in (reads by_tests (fresh_of profile) prefix) ≡ Some messages →
-    reads by_tests (fresh_of profile) (prefix ++ p ∷ []) ≡ Err fault → IsPlaceOf profile (prefix ++ p ∷ []) messages fault
-worked profile prefix p messages fault some bytes read refused = go (reads by_tests (fresh_of profile) prefix) refl read (sym (reads-append by_tests (fresh_of profile) prefix (p ∷ [])) ∙ refused)
+worked : (profile : Profile) (prefix : List Pair) (p : Pair) (messages : List Message) (fault : WireFault) → are_bytes prefix ≡ true → are_bytes (prefix ++ p ∷ []) ≡ true → messages_in (reads (fresh_of profile) prefix) ≡ Some messages →
+    reads (fresh_of profile) (prefix ++ p ∷ []) ≡ Err fault → IsPlaceOf profile (prefix ++ p ∷ []) messages fault
+worked profile prefix p messages fault some bytes read refused = go (reads (fresh_of profile) prefix) refl read (sym (reads-append (fresh_of profile) prefix (p ∷ [])) ∙ refused)
   where
-    go : (o : Result Reader WireFault) → reads by_tests (fresh_of profile) prefix ≡ o → messages_in o ≡ Some messages → on_ok o (λ next. reads by_tests next (p ∷ [])) ≡ Err fault → IsPlaceOf profile (prefix ++ p ∷ []) messages fault
+    go : (o : Result Reader WireFault) → reads (fresh_of profile) prefix ≡ o → messages_in o ≡ Some messages → on_ok o (λ next. reads next (p ∷ [])) ≡ Err fault → IsPlaceOf profile (prefix ++ p ∷ []) messages fault
     go (Err f) e m r = absurd (cc)
     go (Ok mid) e m r = record {
       are_pairs = are_pairs (prefix ++ p ∷ []) bytes;
@@ -31,12 +31,12 @@ worked profile prefix p messages fault some bytes read refused = go (reads by_te
       refused = grind arith;
     }
 
-at_of : (profile : Profile) (ps : List Pair) (n : ℕ) (p : Pair) (messages : List Message) (fault : WireFault) → take n ps ++ p ∷ [] ≡ ps → are_bytes (take n ps) ≡ true → are_bytes ps ≡ true → messages_in (reads by_tests (fresh_of profile) (take n ps)) ≡ Some messages →
-    reads by_tests (fresh_of profile) ps ≡ Err fault → IsPlaceOf profile ps messages fault
+at_of : (profile : Profile) (ps : List Pair) (n : ℕ) (p : Pair) (messages : List Message) (fault : WireFault) → take n ps ++ p ∷ [] ≡ ps → are_bytes (take n ps) ≡ true → are_bytes ps ≡ true → messages_in (reads (fresh_of profile) (take n ps)) ≡ Some messages →
+    reads (fresh_of profile) ps ≡ Err fault → IsPlaceOf profile ps messages fault
 at_of profile ps n p messages fault parts some bytes read refused = subst (λ qs. IsPlaceOf profile qs messages fault) parts
-    (worked profile (take n ps) p messages fault some (ap are_bytes parts ∙ bytes) read (ap (reads by_tests (fresh_of profile)) parts ∙ refused))
+    (worked profile (take n ps) p messages fault some (ap are_bytes parts ∙ bytes) read (ap (reads (fresh_of profile)) parts ∙ refused))
 
-at : (ps : List Pair) (n : ℕ) (p : Pair) (messages : List Message) (fault : WireFault) → take n ps ++ p ∷ [] ≡ ps → are_bytes (take n ps) ≡ true → are_bytes ps ≡ true → messages_in (reads by_tests (fresh_of Base) (take n ps)) ≡ Some messages → reads by_tests (fresh_of Base) ps ≡ Err fault →
+at : (ps : List Pair) (n : ℕ) (p : Pair) (messages : List Message) (fault : WireFault) → take n ps ++ p ∷ [] ≡ ps → are_bytes (take n ps) ≡ true → are_bytes ps ≡ true → messages_in (reads (fresh_of Base) (take n ps)) ≡ Some messages → reads (fresh_of Base) ps ≡ Err fault →
     IsPlace ps messages fault
 at ps n p messages fault parts some bytes read refused = at_of Base ps n p messages fault parts some bytes read refused
 

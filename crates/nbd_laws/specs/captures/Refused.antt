@@ -1,8 +1,7 @@
--- Captures of small sessions that are refused: the sender of each message, how many bytes it has, and the bytes as one
--- number.
+-- Captures of small sessions that are refused.
 use Rattle.std.specs.Prelude.{◌∷◌, ◌++◌, []}
-use Rattle.nbd_laws.specs.captures.Options.{context_selected}
-use Rattle.nbd_laws.specs.captures.Openings.{Chunks, client, opening, server}
+use Rattle.nbd_laws.specs.captures.Options.{context_asked, context_selected}
+use Rattle.nbd_laws.specs.captures.Openings.{Chunks, ask, chunk, client, done, opening, server}
 
 -- a greeting whose second number ends in X
 abbrev pub wrong_greeting : Chunks
@@ -26,26 +25,16 @@ strange_client = server 18 0x4e42444d4147494349484156454f50540003 ∷ client 4 0
 
 -- a reply to no request
 abbrev pub unasked_reply : Chunks
-unasked_reply = opening ++ server 16 0x67446698000000000000000000000001 ∷ []
+unasked_reply = opening ++ done 1 ∷ []
 
 -- a DISC of length 1
 abbrev pub long_disconnect : Chunks
-long_disconnect = opening ++ client 28 0x25609513000000020000000000000009000000000000000000000001 ∷ []
+long_disconnect = opening ++ ask 0 2 9 0 1 [] ∷ []
 
 -- the head of a context to SET_META_CONTEXT
 abbrev pub context_head : Chunks
-context_head =
-    server 18 0x4e42444d4147494349484156454f50540003
-    ∷ client 4 0x00000003
-    ∷ client 16 0x49484156454f50540000000800000000
-    ∷ server 20 0x0003e889045565a9000000080000000100000000
-    ∷ client 43 0x49484156454f50540000000a0000001b00000000000000010000000f626173653a616c6c6f636174696f6e
-    ∷ server 20 0x0003e889045565a90000000a0000000400000013
-    ∷ []
+context_head = context_asked ++ server 20 0x0003e889045565a90000000a0000000400000013 ∷ []
 
 -- a BLOCK_STATUS where a context is in force, answered without a status
 abbrev pub status_missing : Chunks
-status_missing = context_selected
-    ++ client 28 0x25609513000000070000000000000001000000000000000000000008
-    ∷ server 20 0x668e33ef00010000000000000000000100000000
-    ∷ []
+status_missing = context_selected ++ ask 0 7 1 0 8 [] ∷ chunk 1 0 1 0 0 ∷ []

@@ -2,9 +2,7 @@
 use Rattle.std.specs.Prelude.{ℕ, ◌+◌, List, [], ◌∷◌, ◌||◌, Bool, false, nat_le, nat_lt, Option, Some, None, if◌then◌else◌, max, min}
 use Rattle.std.specs.Option.{option_or, unwrap_or}
 use Rattle.nbd_wire.specs.declared.payloads.Piece.{Piece}
-use Rattle.nbd_wire.specs.protocol.Operations.{is_change}
-use Rattle.nbd_wire.specs.protocol.Pieces.{holds, is_in}
-use Rattle.nbd_wire.specs.protocol.Reports.{Asked}
+use Rattle.nbd_wire.specs.Prelude.{is_change, holds, is_in, Asked}
 use Rattle.nbd_order.specs.Leaving.{is_open}
 use Rattle.nbd_order.specs.Sure.{is_read, leaves_unknown}
 use Rattle.nbd_order.specs.declared.here.Got.{Got}

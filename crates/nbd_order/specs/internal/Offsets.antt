@@ -1,11 +1,8 @@
 -- What the tests of a request at one offset say.
 use Rattle.std.specs.Prelude.{ℕ, ◌==◌, ◌&&◌, ◌||◌, nat_lt, not, Bool, true, false, Option, Some, None, is_some}
 use Rattle.nbd_wire.specs.declared.commands.TheConstants as commands
-use Rattle.nbd_wire.specs.protocol.ExportBytes.{is_success}
-use Rattle.nbd_wire.specs.protocol.Operations.{Exporting}
-use Rattle.nbd_wire.specs.protocol.Pieces.{byte_at, is_in}
+use Rattle.nbd_wire.specs.Prelude.{is_success, Exporting, byte_at, is_in, Asked, due_of, inside_asked}
 use Rattle.nbd_wire.specs.declared.profile.Profile.{Profile}
-use Rattle.nbd_wire.specs.protocol.Reports.{Asked, due_of, inside_asked}
 use Rattle.nbd_judge.specs.Servable.{size_of}
 
 -- the byte is known, and not the one that was read

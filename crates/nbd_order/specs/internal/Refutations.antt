@@ -2,9 +2,8 @@
 -- other change can help. A BLOCK_STATUS that calls the offset zero is such a READ too, of the byte 0.
 use Rattle.std.specs.Prelude.{ℕ, List, ◌≡◌, ◌<◌, ◌⊎◌, ◌==◌, ◌||◌, Bool, true, false, Option, Some, None, IsTrue, slice_get}
 use Rattle.nbd_order.specs.declared.refutation.State.{State}
-use Rattle.nbd_wire.specs.protocol.ExportBytes.{Differs, Effect, effect_byte, effects, touches}
+use Rattle.nbd_wire.specs.Prelude.{Differs, Effect, effect_byte, effects, touches, Report, due_in}
 use Rattle.nbd_wire.specs.declared.profile.Profile.{Profile}
-use Rattle.nbd_wire.specs.protocol.Reports.{Report, due_in}
 use Rattle.nbd_order.specs.Unexplained.{IsReadOf, has}
 
 -- each entry that serves x of request j stands before each of request k, where an order is not late: j was due at x

@@ -1,6 +1,6 @@
 -- What the requests of a session tell, from range to range.
 use Rattle.std.specs.Prelude.{ℕ, List, [], ◌∷◌, nat_lt, Option, Some, None, if◌then◌else◌}
-use Rattle.nbd_wire.specs.protocol.Pieces.{is_in}
+use Rattle.nbd_wire.specs.Prelude.{is_in}
 use Rattle.nbd_order.specs.declared.here.Here.{Here}
 use Rattle.nbd_order.specs.declared.stretches.Stretch.{Stretch}
 use Rattle.nbd_order.specs.declared.touches.Touch.{Touch}

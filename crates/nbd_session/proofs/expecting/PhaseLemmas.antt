@@ -1,5 +1,5 @@
 -- The phase that a state's phase shows, and what is refused of a head there.
-use Rattle.nbd_session.proofs.Common.{arith, ◌≡◌, ℕ, List, ◌++◌, length, refl, sym, ◌∙◌, ap, subst, Option, Some, Bool, WireFault, Side, Exporting, Core, Phase, Greet, Flags, Choosing, Naming, Aborting, Answering, Transmission, decision_by_count, operation_counted, Decision, export_answer, decision_with, is_proper_option, takes_contexts, exporting_if, Shows, export_shown_if, phase_shown, State, Chosen, Export, HasHeadLength, IsRefusedHead, whole_head_by, Expected, expected_decision}
+use Rattle.nbd_session.proofs.Common.{arith, ◌≡◌, ℕ, List, ◌++◌, length, refl, sym, ◌∙◌, ap, subst, Option, Some, WireFault, Side, Exporting, Core, Phase, Greet, Flags, Choosing, Naming, Aborting, Answering, Transmission, decision_by_count, operation_counted, Decision, decision_with, is_proper_option, takes_contexts, exporting_if, Shows, export_shown_if, phase_shown, State, Chosen, Export, HasHeadLength, IsRefusedHead, whole_head_by, Expected, expected_decision}
 use Rattle.nbd_state.specs.declared.state.Phase as program_phase
 use Rattle.nbd_state.specs.declared.state.Phase.TheVariants as program
 
@@ -45,6 +45,3 @@ head_in state s head n phase is decided whole = record { decided = decided; whol
 pub decided_in : (counted : ℕ) (core : Core) (s : Side) (head : List ℕ) (p : Phase) (d : Decision) → core.phase ≡ p → decision_with p (operation_counted counted core) core s head ≡ Some d →
     (e : Decision) × (decision_by_count counted core s head ≡ Some e) × (e.head_length ≡ d.head_length)
 decided_in counted core s head p d phase is = (d, ap (λ q. decision_with q (operation_counted counted core) core s head) phase ∙ is, refl)
-
-pub exported_head : (no_zeroes : Bool) (head : List ℕ) → (export_answer no_zeroes head).head_length ≡ 10
-exported_head no_zeroes head = grind arith

@@ -1,7 +1,6 @@
 -- What a refusal says of the runs with a session's bytes.
-use Rattle.nbd_session.proofs.Common.{◌≡◌, ℕ, ◌+◌, ◌<◌, ◌≤◌, List, [], ◌∷◌, ◌++◌, length, refl, sym, ◌∙◌, ap, subst, arith, append_assoc, append-nil, length-append, inl, inr, Option, Some, None, Result, Ok, Err, Profile, Client, Server, Side, Message, Item, Completes, completed_messages, pairs, Pair, ArePairs, side_pairs, bytes_of, bytes_from, CompletesExactlyOf, IsOfNoRunOf, WireFault, Unfinished, AreHeld, awaited_length, IsFilled, Reader, fresh_of, get, old_of, on_ok, reads, step, by_tests, IsRead, marks_law, SessionFault, Memory, Wire, Monitor, Past, Follows, past_of, IsUnderWayOf, read_no_place, EndsIn, IsAcceptedOf, IsComplete, IsOpenEndOf, IsRefusalOf, IsWireFaultOf, LeavesOpen, Refuses, IsCompleteBy, HasRunOf, IsOfRun, SessionView, bytes_taken, end_by, fault_at_end, pairs_of, open_end_fault, Holding, IsReadTo, with_bytes, IsKeptBy, Stands, bytes_come, reads_below, extended, reads-append, with_rest, exact, none_refused, AreBytesOf, run_bytes}
-use Rattle.nbd_wire.specs.protocol.Within.{within}
-use Rattle.nbd_wire.specs.protocol.Places.{IsPlaceOf}
+use Rattle.nbd_session.proofs.Common.{◌≡◌, ℕ, ◌+◌, ◌<◌, ◌≤◌, List, [], ◌∷◌, ◌++◌, length, refl, sym, ◌∙◌, ap, subst, arith, append_assoc, append-nil, length-append, inl, inr, Option, Some, None, Result, Ok, Err, Profile, Client, Server, Side, Message, Item, Completes, completed_messages, pairs, Pair, ArePairs, side_pairs, bytes_of, bytes_from, CompletesExactlyOf, IsOfNoRunOf, WireFault, Unfinished, AreHeld, awaited_length, IsFilled, Reader, fresh_of, get, old_of, on_ok, reads, step, IsRead, marks_law, SessionFault, Memory, Wire, Monitor, Past, Follows, past_of, IsUnderWayOf, read_no_place, EndsIn, IsAcceptedOf, IsComplete, IsOpenEndOf, IsRefusalOf, IsWireFaultOf, LeavesOpen, Refuses, IsCompleteBy, HasRunOf, IsOfRun, SessionView, bytes_taken, end_by, fault_at_end, pairs_of, open_end_fault, Holding, IsReadTo, with_bytes, IsKeptBy, Stands, bytes_come, reads_below, extended, reads-append, with_rest, exact, none_refused, AreBytesOf, run_bytes}
+use Rattle.nbd_wire.specs.Prelude.{within, IsPlaceOf}
 use Rattle.nbd_session.proofs.judge.PieceLemmas.{kept_run}
 use Rattle.nbd_session.proofs.pushed.OpenByteLemmas.{loose_is, read_holds}
 use Rattle.nbd_session.proofs.pushed.PushLemmas.{sent-append}
@@ -23,10 +22,10 @@ some_last bytes f = grind (arith, last_of)
 -- what the reader makes of bytes that go on
 record GoesTo (reader : Reader) (s : Side) (bytes : List ℕ) : Type 0 where
   next : Reader
-  reads_it : reads by_tests reader (side_pairs s bytes) ≡ Ok next
+  reads_it : reads reader (side_pairs s bytes) ≡ Ok next
   messages_are : next.messages ≡ reader.messages
 
-goes_to : (reader : Reader) (s : Side) (bytes : List ℕ) → AreHeld by_tests reader →
+goes_to : (reader : Reader) (s : Side) (bytes : List ℕ) → AreHeld reader →
     length ((get reader.rests s).bytes ++ bytes) < awaited_length (old_of reader.core (get reader.rests s)) reader.core s (get reader.rests s).bytes → GoesTo reader s bytes
 goes_to reader s [] held l = record { next = reader; reads_it = refl; messages_are = refl }
 goes_to reader s (b ∷ bytes) held l = record {
@@ -46,7 +45,7 @@ are_prefix (p ∷ ps) qs a = (a.0, are_prefix ps qs a.1)
 module _ (h : Holding) (reader : Reader) (r : IsReadTo h reader) (s : Side) (more : List ℕ) (entries : ℕ) (filled : IsFilled more)
     (are_pairs : ArePairs (with_bytes h s more entries).past.pairs)
     (up_to : length ((get reader.rests s).bytes ++ more) ≤ awaited_length (old_of reader.core (get reader.rests s)) reader.core s (get reader.rests s).bytes) where
-  pub stopped : (fault : WireFault) → reads by_tests (fresh_of h.profile) (with_bytes h s more entries).past.pairs ≡ Err fault → IsPlaceOf h.profile (with_bytes h s more entries).past.pairs h.past.messages fault
+  pub stopped : (fault : WireFault) → reads (fresh_of h.profile) (with_bytes h s more entries).past.pairs ≡ Err fault → IsPlaceOf h.profile (with_bytes h s more entries).past.pairs h.past.messages fault
   stopped fault e =
       let l : HasLast more = some_last more filled in
       let last : Pair = record { from = s; byte = l.last } in
@@ -58,12 +57,12 @@ module _ (h : Holding) (reader : Reader) (r : IsReadTo h reader) (s : Side) (mor
       ap (λ bs. h.past.pairs ++ side_pairs s bs) l.parts
       ∙ ap (λ ps. h.past.pairs ++ ps) (sent-append s l.before (l.last ∷ []))
       ∙ sym (append_assoc h.past.pairs (side_pairs s l.before) (last ∷ [])) in
-      let prefix_is : reads by_tests (fresh_of h.profile) prefix ≡ Ok g.next =
-      reads-append by_tests (fresh_of h.profile) h.past.pairs (side_pairs s l.before) ∙ ap (λ o. on_ok o (λ next. reads by_tests next (side_pairs s l.before))) r.reads_it ∙ g.reads_it in
-      let refused : on_ok (step by_tests g.next last.from last.byte) (λ next. Ok next) ≡ Err fault =
-      sym (ap (λ o. on_ok o (λ next. reads by_tests next (last ∷ []))) prefix_is)
-      ∙ sym (reads-append by_tests (fresh_of h.profile) prefix (last ∷ []))
-      ∙ ap (reads by_tests (fresh_of h.profile)) (sym parts)
+      let prefix_is : reads (fresh_of h.profile) prefix ≡ Ok g.next =
+      reads-append (fresh_of h.profile) h.past.pairs (side_pairs s l.before) ∙ ap (λ o. on_ok o (λ next. reads next (side_pairs s l.before))) r.reads_it ∙ g.reads_it in
+      let refused : on_ok (step g.next last.from last.byte) (λ next. Ok next) ≡ Err fault =
+      sym (ap (λ o. on_ok o (λ next. reads next (last ∷ []))) prefix_is)
+      ∙ sym (reads-append (fresh_of h.profile) prefix (last ∷ []))
+      ∙ ap (reads (fresh_of h.profile)) (sym parts)
       ∙ e in
       record {
         are_pairs = are_pairs;
@@ -71,13 +70,13 @@ module _ (h : Holding) (reader : Reader) (r : IsReadTo h reader) (s : Side) (mor
         last = last;
         parts = parts;
         before = record { are_pairs = are_prefix prefix (last ∷ []) (subst ArePairs parts are_pairs); end = g.next; reads_it = prefix_is; has_messages = g.messages_are ∙ r.messages_are };
-        refused = step_of (step by_tests g.next last.from last.byte) fault refused;
+        refused = step_of (step g.next last.from last.byte) fault refused;
       }
 
 -- what was read without a fault holds every message of each run that begins so
-pub completes_exactly : {profile : Profile} (ps : List Pair) (end : Reader) (messages : List Message) → ArePairs ps → reads by_tests (fresh_of profile) ps ≡ Ok end → end.messages ≡ messages → CompletesExactlyOf profile ps messages
+pub completes_exactly : {profile : Profile} (ps : List Pair) (end : Reader) (messages : List Message) → ArePairs ps → reads (fresh_of profile) ps ≡ Ok end → end.messages ≡ messages → CompletesExactlyOf profile ps messages
 completes_exactly {profile} ps end messages lt e are items run begins =
-    let r : IsRead by_tests (fresh_of profile) ps (within (length ps) items) = marks_law by_tests exact items run ps begins.0 lt begins.1 in
+    let r : IsRead (fresh_of profile) ps (within (length ps) items) = marks_law exact items run ps begins.0 lt begins.1 in
     let q : Ok r.end ≡ Ok end = sym r.reads_it ∙ e in
     let same : r.end ≡ end = cc in
     sym r.messages_are ∙ ap (λ (x : Reader). x.messages) same ∙ are
@@ -102,14 +101,14 @@ refusal {profile} ps messages fault st = record {
       (completes_exactly st.prefix st.before.end messages st.before.are_pairs st.before.reads_it st.before.has_messages);
 }
   where
-    refused : reads by_tests (fresh_of profile) ps ≡ Err fault
+    refused : reads (fresh_of profile) ps ≡ Err fault
     refused = grind (arith, reads-append)
 
 -- what was taken without a fault
 pub stands_accepted : (held : Monitor) (past : Past) → Stands held past → IsAcceptedOf held.state.profile past.pairs past.messages
 stands_accepted held past st = record {
   under_way = record { are_pairs = st.read_to.are_pairs; end = st.reader; reads_it = st.read_to.reads_it; has_messages = st.read_to.messages_are };
-  placeless = λ prefix rest messages fault parts. read_no_place prefix rest st.reader (ap (reads by_tests (fresh_of held.state.profile)) parts ∙ st.read_to.reads_it) messages fault;
+  placeless = λ prefix rest messages fault parts. read_no_place prefix rest st.reader (ap (reads (fresh_of held.state.profile)) parts ∙ st.read_to.reads_it) messages fault;
   all = completes_exactly past.pairs st.reader past.messages st.read_to.are_pairs st.read_to.reads_it st.read_to.messages_are;
 }
 

@@ -1,7 +1,6 @@
 -- The bytes that belong to no completed message are the rests, and more of them may come.
-use Rattle.nbd_session.proofs.Common.{arith, ◌≡◌, ℕ, List, [], ◌∷◌, ◌++◌, map, refl, sym, ◌∙◌, ap, subst, Ok, append_assoc, append-nil, append_cancel_left, Profile, Side, Client, Server, Message, enc, Item, Byte, Completes, completed_messages, pairs, Pair, ArePairs, side_pairs, bytes_of, bytes_from, IsRunBut, Obeys, after, side, start_of, by_tests, Bad, Both, Judge, Reader, More, Reading, Rest, Whole, fresh_of, get, rest_with, on_ok, put, reads, settle, AreHeld, IsSound, IsSoundAt, Open, Walk, ended, final, held_more, held_whole, kept_next, loose, middle, opening, serving, with_byte, marked_is_walk, with_more, fresh_held, run_but_law, AreBytesOf, byte_from, bytes_from-cons, run_bytes, sound, IsNotBusy, walk_is_marked, of_two}
-use Rattle.nbd_wire.specs.protocol.Reading.{with_message}
-use Rattle.nbd_wire.specs.protocol.States.{State}
+use Rattle.nbd_session.proofs.Common.{arith, ◌≡◌, ℕ, List, [], ◌∷◌, ◌++◌, map, refl, sym, ◌∙◌, ap, subst, Ok, append_assoc, append-nil, append_cancel_left, Profile, Side, Client, Server, Message, enc, Item, Byte, Completes, completed_messages, pairs, Pair, ArePairs, side_pairs, bytes_of, bytes_from, IsRunBut, Obeys, after, side, start_of, judge, Bad, Both, Reader, More, Reading, Rest, Whole, fresh_of, get, rest_with, on_ok, put, reads, settle, AreHeld, IsSound, IsSoundAt, Open, Walk, ended, final, held_more, held_whole, kept_next, loose, middle, opening, serving, with_byte, marked_is_walk, with_more, fresh_held, run_but_law, AreBytesOf, byte_from, bytes_from-cons, run_bytes, sound, IsNotBusy, walk_is_marked, of_two}
+use Rattle.nbd_wire.specs.Prelude.{with_message, State}
 use Rattle.nbd_session.proofs.pushed.HoldingLemmas.{from-append, from-client_sent, from-sent_same, from-server_sent}
 use Rattle.nbd_session.proofs.pushed.PushLemmas.{bytes_of-snoc}
 
@@ -19,10 +18,10 @@ bytes_whole : (s t : Side) (b : ℕ) (m : Message) (reader : Reader) → side m 
 bytes_whole s t b m reader sd e = grind (arith, bytes_of-snoc, byte_from, append-nil, append_assoc)
 
 -- the reader holds what it read
-pub reads_bytes : (judge : Judge) → IsSound judge → (s : Side) (ps : List Pair) (reader end : Reader) → ArePairs ps → AreHeld judge reader → reads judge reader ps ≡ Ok end →
+pub reads_bytes : IsSound → (s : Side) (ps : List Pair) (reader end : Reader) → ArePairs ps → AreHeld reader → reads reader ps ≡ Ok end →
     held_bytes s reader ++ bytes_from s ps ≡ held_bytes s end
-reads_bytes judge sd s [] reader end lt held e = let q : reader ≡ end = cc in append-nil (held_bytes s reader) ∙ ap (held_bytes s) q
-reads_bytes judge sd s (p ∷ ps) reader end lt held e = go (judge rest.since reader.core p.from rest.bytes) refl (λ next hd h. reads_bytes judge sd s ps next end lt.1 hd h) e
+reads_bytes sd s [] reader end lt held e = let q : reader ≡ end = cc in append-nil (held_bytes s reader) ∙ ap (held_bytes s) q
+reads_bytes sd s (p ∷ ps) reader end lt held e = go (judge rest.since reader.core p.from rest.bytes) refl (λ next hd h. reads_bytes sd s ps next end lt.1 hd h) e
   where
     rest : Rest
     rest = rest_with reader.core (get reader.rests p.from) p.byte
@@ -31,13 +30,13 @@ reads_bytes judge sd s (p ∷ ps) reader end lt held e = go (judge rest.since re
     joined next is ih =
         ap (λ l. held_bytes s reader ++ l) (bytes_from-cons s p ps) ∙ sym (append_assoc (held_bytes s reader) (byte_from s p.from p.byte) (bytes_from s ps)) ∙ ap (λ l. l ++ bytes_from s ps) (sym is) ∙ ih
 
-    go : (r : Reading) → judge rest.since reader.core p.from rest.bytes ≡ r → ((next : Reader) → AreHeld judge next → reads judge next ps ≡ Ok end → held_bytes s next ++ bytes_from s ps ≡ held_bytes s end) →
-        on_ok (settle reader p.from rest r) (λ next. reads judge next ps) ≡ Ok end → held_bytes s reader ++ bytes_from s (p ∷ ps) ≡ held_bytes s end
-    go More is ih e = joined (with_byte reader p.from p.byte) (bytes_more s p.from p.byte reader) (ih (with_byte reader p.from p.byte) (held_more judge reader p.from p.byte lt.0 held is) e)
+    go : (r : Reading) → judge rest.since reader.core p.from rest.bytes ≡ r → ((next : Reader) → AreHeld next → reads next ps ≡ Ok end → held_bytes s next ++ bytes_from s ps ≡ held_bytes s end) →
+        on_ok (settle reader p.from rest r) (λ next. reads next ps) ≡ Ok end → held_bytes s reader ++ bytes_from s (p ∷ ps) ≡ held_bytes s end
+    go More is ih e = joined (with_byte reader p.from p.byte) (bytes_more s p.from p.byte reader) (ih (with_byte reader p.from p.byte) (held_more reader p.from p.byte lt.0 held is) e)
     go (Whole m) is ih e =
-        let ok : IsSoundAt rest.since reader.core p.from rest.bytes m = sd rest.since reader.core p.from rest.bytes m (kept_next judge reader.core p.from (get reader.rests p.from) p.byte lt.0 (held p.from)) is in
+        let ok : IsSoundAt rest.since reader.core p.from rest.bytes m = sd rest.since reader.core p.from rest.bytes m (kept_next reader.core p.from (get reader.rests p.from) p.byte lt.0 (held p.from)) is in
         joined (emptied reader p.from p.byte m) (bytes_whole s p.from p.byte m reader ok.sided ok.encodes)
-        (ih (emptied reader p.from p.byte m) (held_whole judge reader p.from m (record rest { bytes = [] }) refl held ok.sided ok.sendable ok.completes) e)
+        (ih (emptied reader p.from p.byte m) (held_whole reader p.from m (record rest { bytes = [] }) refl held ok.sided ok.sendable ok.completes) e)
     go (Bad fault) is ih e = absurd (cc)
 
 -- the loose bytes of a run with these pairs and messages
@@ -54,17 +53,17 @@ run_as {profile} items ps messages a b client server run p c holds =
     (subst (λ y. IsRunBut profile items a y) (loose_is Server items ps messages b server p c are.of_server (holds Server)) run)
 
 -- what a reader read is each side's messages and rest
-pub read_holds : (profile : Profile) (ps : List Pair) (end : Reader) (messages : List Message) (client server : List ℕ) → ArePairs ps → reads by_tests (fresh_of profile) ps ≡ Ok end →
+pub read_holds : (profile : Profile) (ps : List Pair) (end : Reader) (messages : List Message) (client server : List ℕ) → ArePairs ps → reads (fresh_of profile) ps ≡ Ok end →
     end.messages ≡ messages → end.rests.client.bytes ≡ client → end.rests.server.bytes ≡ server → (s : Side) → bytes_from s ps ≡ bytes_of s messages ++ of_two s client server
-read_holds profile ps end messages client server lt e m c d Client = reads_bytes by_tests sound Client ps (fresh_of profile) end lt (fresh_held by_tests) e ∙ (λ i. bytes_of Client (m i) ++ c i)
-read_holds profile ps end messages client server lt e m c d Server = reads_bytes by_tests sound Server ps (fresh_of profile) end lt (fresh_held by_tests) e ∙ (λ i. bytes_of Server (m i) ++ d i)
+read_holds profile ps end messages client server lt e m c d Client = reads_bytes sound Client ps (fresh_of profile) end lt (fresh_held) e ∙ (λ i. bytes_of Client (m i) ++ c i)
+read_holds profile ps end messages client server lt e m c d Server = reads_bytes sound Server ps (fresh_of profile) end lt (fresh_held) e ∙ (λ i. bytes_of Server (m i) ++ d i)
 
 -- it is a run with exactly these pairs and messages, and its rests are the bytes of no message
-pub read_is_run_but : {profile : Profile} (ps : List Pair) (end : Reader) (messages : List Message) (client server : List ℕ) → ArePairs ps → reads by_tests (fresh_of profile) ps ≡ Ok end →
+pub read_is_run_but : {profile : Profile} (ps : List Pair) (end : Reader) (messages : List Message) (client server : List ℕ) → ArePairs ps → reads (fresh_of profile) ps ≡ Ok end →
     end.messages ≡ messages → end.rests.client.bytes ≡ client → end.rests.server.bytes ≡ server →
     (items : List Item) × IsRunBut profile items client server × (pairs items ≡ ps) × (completed_messages items ≡ messages)
 read_is_run_but {profile} ps end messages client server lt e m c d =
-    let r = run_but_law by_tests sound ps end lt e in
+    let r = run_but_law sound ps end lt e in
     (r.0, run_as r.0 ps messages r.1 r.2 client server r.3 r.4 (r.5 ∙ m) (read_holds profile ps end messages client server lt e m c d), r.4, r.5 ∙ m)
 
 abbrev pub bytes_items : Side → List ℕ → List Item
@@ -116,7 +115,7 @@ pub from_more : (s : Side) (ps : List Pair) (messages : List Message) (client se
 from_more s ps messages client server more h u = grind (arith, from-append, from-sent_same, append_assoc, from-client_sent, append-nil, from-server_sent)
 
 -- what a reader read, and more bytes of a side, is a run but for the rests with these bytes
-pub more_is_run_but : {profile : Profile} (ps : List Pair) (end : Reader) (messages : List Message) (client server : List ℕ) (s : Side) (more : List ℕ) → ArePairs ps → reads by_tests (fresh_of profile) ps ≡ Ok end →
+pub more_is_run_but : {profile : Profile} (ps : List Pair) (end : Reader) (messages : List Message) (client server : List ℕ) (s : Side) (more : List ℕ) → ArePairs ps → reads (fresh_of profile) ps ≡ Ok end →
     end.messages ≡ messages → end.rests.client.bytes ≡ client → end.rests.server.bytes ≡ server →
     (items : List Item) × IsRunBut profile items (with_more s Client more client) (with_more s Server more server) × (pairs items ≡ ps ++ side_pairs s more) × (completed_messages items ≡ messages)
 more_is_run_but {profile} ps end messages client server s more lt e m c d =

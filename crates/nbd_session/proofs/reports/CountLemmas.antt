@@ -1,5 +1,5 @@
 -- The request that a reply answers, by how many requests had completed when the reply started.
-use Rattle.nbd_session.proofs.Common.{◌≡◌, ℕ, suc, ◌+◌, ◌<◌, List, [], ◌∷◌, ◌++◌, length, refl, sym, subst, inl, inr, Option, Some, None, arith, append-nil, le-leb, lt-leb, Side, Server, Operation, Exporting, Core, Phase, Transmission, target, target_from, decision_by_count, operation_counted, within, operation_of, decision, decision_with, by_tests, More, Rest, old_of, Kept, Later, Later-trans, old-empty, old-filled, IsAppended, Later-appended, Later-turn, kept_later, turn_of_reading}
+use Rattle.nbd_session.proofs.Common.{◌≡◌, ℕ, suc, ◌+◌, ◌<◌, List, [], ◌∷◌, ◌++◌, length, refl, sym, subst, inl, inr, Option, Some, None, arith, append-nil, le-leb, lt-leb, Side, Server, Operation, Exporting, Core, Phase, Transmission, target, target_from, decision_by_count, operation_counted, within, operation_of, decision, decision_with, judge, More, Rest, old_of, Kept, Later, Later-trans, old-empty, old-filled, IsAppended, Later-appended, Later-turn, kept_later, turn_of_reading}
 use Rattle.nbd_laws.proofs.reading.ReaderLemmas.{Held}
 
 above : (n cookie : ℕ) (es : List Operation) (j : ℕ) → target_from n cookie es ≡ Some j → n < j
@@ -27,7 +27,7 @@ none_added : (core : Core) → IsAppended core core
 none_added core = record { more = []; entries_are = sym (append-nil core.entries); structured_is = refl; profile_is = refl; extended_is = refl }
 
 -- since a server's first byte requests were only added
-kept_appended : {old now next : Core} {bytes : List ℕ} → Kept by_tests Server old now bytes → by_tests old now Server bytes ≡ More → Later Server now next → IsAppended old next
+kept_appended : {old now next : Core} {bytes : List ℕ} → Kept Server old now bytes → judge old now Server bytes ≡ More → Later Server now next → IsAppended old next
 kept_appended {old} {now} {next} k m l =
     let later : Later Server old next = Later-trans (kept_later k) l in
     elim (turn_of_reading More k m (λ q. (cc))) [
@@ -40,5 +40,5 @@ abbrev pub count_of : Core → Rest → ℕ
 count_of core rest = length (old_of core rest).entries
 
 -- what is decided of a reader's rest, by the count
-pub held_counted : {core : Core} {s : Side} {rest : Rest} → Held by_tests core s rest → (bytes : List ℕ) → decision core.phase (old_of core rest) core s bytes ≡ decision_by_count (count_of core rest) core s bytes
+pub held_counted : {core : Core} {s : Side} {rest : Rest} → Held core s rest → (bytes : List ℕ) → decision core.phase (old_of core rest) core s bytes ≡ decision_by_count (count_of core rest) core s bytes
 held_counted {core} {s} {rest} h bytes = grind (arith, decided_is_counted, old-empty, none_added, old-filled, kept_appended)

@@ -1,5 +1,5 @@
 -- What is known of a side's bytes stays, where the other side's messages complete meanwhile.
-use Rattle.nbd_session.proofs.Common.{◌≡◌, ℕ, suc, ◌+◌, ◌<◌, ◌≤◌, List, [], ◌∷◌, ◌++◌, length, refl, sym, ◌∙◌, ap, subst, inl, inr, Option, Some, None, zero, Bool, true, false, arith, add-one, append-nil, length-append, lt-ltb, same_Some, Message, Side, Client, Server, Exporting, Operation, number_at, Core, Transmission, operation, awaited_length_by, awaited_length, Decision, operation_of, reply, reply_in, request, by_tests, decision, request_unless, IsFilled, More, Rest, old_of, simple_fault, decision_of, IsAppended, Later-appended, Later-disconnected, Later-extended, Later-transmission, Later-turn, target-append, kept_later, turn_of_reading, IsDeciding, IsExtendedOrNot, bytes_are_begun, deciding, entry-append, extended_or_not, is_chunk_reply, is_extended_reply, is_no_extended, is_no_reply, is_simple_reply, long_reply, short_reply, Later, Later-trans, at_once, none_held, old-empty, old-filled, some_held, RequestHead, Expected, IsPlaced, chunk_fault_to, expected_decision, last_fault_by, message_of, payload_length_of, IncomingView, bytes_come, incoming_with, incoming_with_by, nothing_come, IsCome, IsExpected, IsKnown, IsShort, is_known_by}
+use Rattle.nbd_session.proofs.Common.{◌≡◌, ℕ, suc, ◌+◌, ◌<◌, ◌≤◌, List, [], ◌∷◌, ◌++◌, length, refl, sym, ◌∙◌, ap, subst, inl, inr, Option, Some, None, zero, Bool, true, false, arith, add-one, append-nil, length-append, lt-ltb, same_Some, Message, Side, Client, Server, Exporting, Operation, number_at, Core, Transmission, operation, awaited_length_by, awaited_length, Decision, operation_of, reply, reply_in, request, decision, request_unless, IsFilled, More, Rest, old_of, simple_fault, decision_of, IsAppended, Later-appended, Later-disconnected, Later-extended, Later-transmission, Later-turn, target-append, kept_later, turn_of_reading, IsDeciding, IsExtendedOrNot, bytes_are_begun, deciding, entry-append, extended_or_not, is_chunk_reply, is_extended_reply, is_no_extended, is_no_reply, is_simple_reply, long_reply, short_reply, Later, Later-trans, at_once, none_held, old-empty, old-filled, some_held, RequestHead, Expected, IsPlaced, chunk_fault_to, expected_decision, last_fault_by, message_of, payload_length_of, IncomingView, bytes_come, incoming_with, incoming_with_by, nothing_come, IsCome, IsExpected, IsKnown, IsShort, is_known_by}
 use Rattle.nbd_wire.specs.declared.message.Message.TheVariants as messages
 use Rattle.nbd_laws.proofs.judge.SteadyLemmas.{IsBegun}
 use Rattle.nbd_laws.proofs.reading.ReaderLemmas.{Held}
@@ -8,7 +8,7 @@ use Rattle.nbd_session.proofs.expecting.KnownLemmas.{expected_awaited}
 use Rattle.nbd_session.proofs.expecting.ReplyLemmas.{placed_within}
 
 -- where something is decided of a rest, it goes on as it began
-pub deciding_rest : {core : Core} {s : Side} {rest : Rest} → Held by_tests core s rest → (bytes : List ℕ) (d : Decision) → decision core.phase (old_of core rest) core s bytes ≡ Some d →
+pub deciding_rest : {core : Core} {s : Side} {rest : Rest} → Held core s rest → (bytes : List ℕ) (d : Decision) → decision core.phase (old_of core rest) core s bytes ≡ Some d →
     IsDeciding s (old_of core rest) × Later s (old_of core rest) core
 deciding_rest {core} {s} {rest} (none_held r e) bytes d is = grind (arith, old-empty, deciding, at_once, old-filled, decision_of, kept_later)
 deciding_rest {core} {s} {rest} (some_held r now f k m l) bytes d is =
@@ -133,7 +133,7 @@ by_side Client old core next export head x l before after known =
     go false e = placed_request core (head ++ []) [] (length head) x (same_Some _ _ e) next
 
 -- what a whole head says stays
-pub expected_stays : {core : Core} {s : Side} {rest : Rest} → Held by_tests core s rest → IsFilled rest.bytes → (next : Core) → Later s core next → (head : List ℕ) (x : Expected) →
+pub expected_stays : {core : Core} {s : Side} {rest : Rest} → Held core s rest → IsFilled rest.bytes → (next : Core) → Later s core next → (head : List ℕ) (x : Expected) →
     IsExpected (decision core.phase (old_of core rest) core s) core head x → IsExpected (decision next.phase (old_of next rest) next s) next head x
 expected_stays {core} {s} {rest} (none_held r e) f next l head x known = absurd (subst IsFilled e f)
 expected_stays {core} {s} {rest} (some_held r now f k m j) filled next l head x known =
@@ -155,7 +155,7 @@ no_head (b ∷ head) payload e = absurd (cc)
 filled_with : (head payload : List ℕ) → IsFilled head → IsFilled (head ++ payload)
 filled_with head payload f = grind arith
 
-short_held : {core : Core} {s : Side} {rest : Rest} → Held by_tests core s rest → (next : Core) → Later s core next → (head payload : List ℕ) → head ++ payload ≡ rest.bytes →
+short_held : {core : Core} {s : Side} {rest : Rest} → Held core s rest → (next : Core) → Later s core next → (head payload : List ℕ) → head ++ payload ≡ rest.bytes →
     IsShort (decision core.phase (old_of core rest) core s) head → IsShort (decision next.phase (old_of next rest) next s) head
 short_held {core} {s} {rest} (none_held r e) next l head payload is short = grind (arith, no_head, old-empty, old-filled, short_stays, decision_of, kept_later, deciding, at_once, same_Some)
 short_held {core} {s} {rest} (some_held r now f k m j) next l head payload is short =
@@ -163,7 +163,7 @@ short_held {core} {s} {rest} (some_held r now f k m j) next l head payload is sh
     (short_stays s rest.since core next head (decision_of k m) (Later-trans (kept_later k) j) l (subst (λ c. IsShort (decision core.phase c core s) head) (old-filled core rest f) short))
 
 -- what is known of a side's bytes stays
-pub known_stays : {core : Core} {s : Side} {rest : Rest} → Held by_tests core s rest → (next : Core) → Later s core next → (v : IncomingView) → bytes_come v ≡ rest.bytes →
+pub known_stays : {core : Core} {s : Side} {rest : Rest} → Held core s rest → (next : Core) → Later s core next → (v : IncomingView) → bytes_come v ≡ rest.bytes →
     IsKnown (decision core.phase (old_of core rest) core s) core v → IsKnown (decision next.phase (old_of next rest) next s) next v
 known_stays {core} {s} {rest} held next l v is known = go v.expected known
   where
@@ -176,7 +176,7 @@ pub nothing_known : (core : Core) (s : Side) (rest : Rest) → rest.bytes ≡ []
 nothing_known core s rest e = grind (arith, old-empty, deciding, at_once, same_Some)
 
 -- bytes that were taken up to the awaited length
-pub come_with : {core : Core} {s : Side} {rest : Rest} → Held by_tests core s rest → (v : IncomingView) → bytes_come v ≡ rest.bytes → (more : List ℕ) →
+pub come_with : {core : Core} {s : Side} {rest : Rest} → Held core s rest → (v : IncomingView) → bytes_come v ≡ rest.bytes → (more : List ℕ) →
     length (rest.bytes ++ more) ≤ awaited_length (old_of core rest) core s rest.bytes →
     IsKnown (decision core.phase (old_of core rest) core s) core v → IsCome (decision core.phase (old_of core rest) core s) core (incoming_with v more)
 come_with {core} {s} {rest} held v is more up known = go v.expected known

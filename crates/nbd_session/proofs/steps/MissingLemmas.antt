@@ -1,5 +1,5 @@
 -- How many bytes of a side are missing until something is decided of them.
-use Rattle.nbd_session.proofs.Common.{◌≡◌, ◌⊎◌, ℕ, ◌+◌, ◌<◌, List, [], ◌++◌, length, sym, ◌∙◌, ap, subst, inl, Option, Some, None, append-nil, arith, length-append, Bool, if◌then◌else◌, lt-ltb, Side, WireFault, Core, awaited_length_by, awaited_length, decision_by_count, Decision, by_tests, reading_by_decision, decision, Bad, IsFilled, More, Rest, get, old_of, held_short, in_head, deciding, at_once, none_held, old-empty, some_held, Shows, Expected, Monitor, Past, bytes_come, HasHeadLength, payload_length_of, holding_of, incoming_of, awaited, decided, is_known_by, count_at_server, Stands}
+use Rattle.nbd_session.proofs.Common.{◌≡◌, ◌⊎◌, ℕ, ◌+◌, ◌<◌, List, [], ◌++◌, length, sym, ◌∙◌, ap, subst, inl, Option, Some, None, append-nil, arith, length-append, Bool, if◌then◌else◌, lt-ltb, Side, WireFault, Core, awaited_length_by, awaited_length, decision_by_count, Decision, judge, reading_by_decision, decision, Bad, IsFilled, More, Rest, get, old_of, held_short, in_head, deciding, at_once, none_held, old-empty, some_held, Shows, Expected, Monitor, Past, bytes_come, HasHeadLength, payload_length_of, holding_of, incoming_of, awaited, decided, is_known_by, count_at_server, Stands}
 use Rattle.nbd_laws.proofs.reading.ReaderLemmas.{Held}
 use Rattle.nbd_session.proofs.expecting.KnownLemmas.{expected_awaited}
 use Rattle.nbd_session.proofs.steps.HoldingLemmas.{rest_is}
@@ -9,12 +9,12 @@ use Rattle.nbd_session.proofs.steps.StepLemmas.{decided_held, held_of}
 abbrev IsOpen : Option Decision → List ℕ → Type 0
 IsOpen o bytes = (reading_by_decision o bytes ≡ More) ⊎ (o ≡ None) × (bytes ≡ [])
 
-open_held : {core : Core} {s : Side} {rest : Rest} → Held by_tests core s rest → IsOpen (decision core.phase (old_of core rest) core s rest.bytes) rest.bytes
+open_held : {core : Core} {s : Side} {rest : Rest} → Held core s rest → IsOpen (decision core.phase (old_of core rest) core s rest.bytes) rest.bytes
 open_held {core} {s} {rest} (none_held r e) = grind (arith, old-empty, some_held, held_short, append-nil, deciding, at_once, in_head)
 open_held {core} {s} {rest} (some_held r now f k m l) =
-    let held : Held by_tests core s rest = some_held r now f k m l in
+    let held : Held core s rest = some_held r now f k m l in
     let short = (held_short held).short in
-    inl (subst (λ bytes. by_tests (old_of core rest) core s bytes ≡ More) (append-nil rest.bytes)
+    inl (subst (λ bytes. judge (old_of core rest) core s bytes ≡ More) (append-nil rest.bytes)
     ((held_short held).goes [] (subst IsFilled (sym (append-nil rest.bytes)) f) (subst (λ bytes. length bytes < awaited_length (old_of core rest) core s rest.bytes) (sym (append-nil rest.bytes)) short)))
 
 -- bytes that are refused are none, of a side that may not send

@@ -1,6 +1,6 @@
 -- What was taken of a side is judged.
-use Rattle.nbd_session.proofs.Common.{◌≡◌, length, refl, sym, subst, Option, Result, IfErr, IsErrAnd, arith, same_Some, Side, Client, Server, Memory, Wire, WireFault, SessionFault, Monitor, Past, by_tests, reading_by_decision, Bad, Reader, More, Reading, get, old_of, put, holding_of, incoming_of, Expected, bytes_come, IsKnown, decided, get-put_other, get-put_same, old-filled, same_or_not, Holding, IsReadTo, rest_of, with_bytes, HoldsRun, IsShut, IsTaken, Stands, knows_by, extended}
-use Rattle.nbd_wire.specs.protocol.Places.{IsPlaceOf}
+use Rattle.nbd_session.proofs.Common.{◌≡◌, length, refl, sym, subst, Option, Result, IfErr, IsErrAnd, arith, same_Some, Side, Client, Server, Memory, Wire, WireFault, SessionFault, Monitor, Past, judge, reading_by_decision, Bad, Reader, More, Reading, get, old_of, put, holding_of, incoming_of, Expected, bytes_come, IsKnown, decided, get-put_other, get-put_same, old-filled, same_or_not, Holding, IsReadTo, rest_of, with_bytes, HoldsRun, IsShut, IsTaken, Stands, knows_by, extended}
+use Rattle.nbd_wire.specs.Prelude.{IsPlaceOf}
 use Rattle.nbd_session.proofs.pushed.OpenByteLemmas.{more_is_run_but}
 use Rattle.nbd_session.proofs.judge.RefusalLemmas.{stopped}
 use Rattle.nbd_session.proofs.steps.HoldingLemmas.{rest_is}
@@ -15,7 +15,7 @@ module _ (held : Monitor) (s : Side) (past : Past) (t : IsTaken held s past) whe
   after = with_bytes t.before s t.more (length t.reader.core.entries)
 
   -- the reader's word on them
-  pub says_so : (reading : Reading) → IsRead held s past t reading → by_tests (old_of t.reader.core (get t.reader.rests s)) t.reader.core s (rest_of after s) ≡ reading
+  pub says_so : (reading : Reading) → IsRead held s past t reading → judge (old_of t.reader.core (get t.reader.rests s)) t.reader.core s (rest_of after s) ≡ reading
   says_so reading e = grind (arith, rest_is)
 
   abbrev longer : Reader

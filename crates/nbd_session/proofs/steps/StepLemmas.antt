@@ -1,8 +1,8 @@
 -- What a session holds after one more piece, and after one more message.
-use Rattle.nbd_session.proofs.Common.{arith, ◌≡◌, ℕ, ◌≤◌, List, [], ◌∷◌, ◌++◌, length, refl, sym, ◌∙◌, ap, subst, Err, Some, Side, Client, Server, Message, AreBytes, Pair, ArePairs, side_pairs, Core, WireFault, awaited_length, decision_by_count, by_tests, decision, Reader, Rest, Reading, More, Whole, Bad, get, put, reads, fresh_of, old_of, settle, on_ok, IsFilled, IsSoundAt, AreHeld, reads_held, old-empty, old-filled, Holding, IsReadTo, Past, completed, rest_of, with_more, with_bytes, count_at_server, reads_up_to, judged_at_once, extended, reads-append, fresh_held, sound}
+use Rattle.nbd_session.proofs.Common.{arith, ◌≡◌, ℕ, ◌≤◌, List, [], ◌∷◌, ◌++◌, length, refl, sym, ◌∙◌, ap, subst, Err, Some, Side, Client, Server, Message, AreBytes, Pair, ArePairs, side_pairs, Core, WireFault, awaited_length, decision_by_count, judge, decision, Reader, Rest, Reading, More, Whole, Bad, get, put, reads, fresh_of, old_of, settle, on_ok, IsFilled, IsSoundAt, AreHeld, reads_held, old-empty, old-filled, Holding, IsReadTo, Past, completed, rest_of, with_more, with_bytes, count_at_server, reads_up_to, judged_at_once, extended, reads-append, fresh_held, sound}
 use Rattle.nbd_session.proofs.reports.CountLemmas.{held_counted, count_of}
 use Rattle.nbd_session.proofs.steps.TakeLemmas.{kept_more}
-use Rattle.nbd_wire.specs.protocol.Reading.{with_message as read_with}
+use Rattle.nbd_wire.specs.Prelude.{with_message as read_with}
 
 -- with a message of a side whose bytes were its rest
 abbrev pub with_message : Holding → Side → Message → Holding
@@ -24,8 +24,8 @@ are_pairs-sent s [] a = tt
 are_pairs-sent s (b ∷ bytes) a = (a.0, are_pairs-sent s bytes a.1)
 
 -- what the reader has read is held as it keeps it
-pub held_of : (h : Holding) (reader : Reader) → IsReadTo h reader → AreHeld by_tests reader
-held_of h reader r = reads_held by_tests sound h.past.pairs (fresh_of h.profile) reader r.are_pairs (fresh_held by_tests) r.reads_it
+pub held_of : (h : Holding) (reader : Reader) → IsReadTo h reader → AreHeld reader
+held_of h reader r = reads_held sound h.past.pairs (fresh_of h.profile) reader r.are_pairs (fresh_held) r.reads_it
 
 -- the reader's rest of a side, with these bytes after it
 module _ (h : Holding) (reader : Reader) (r : IsReadTo h reader) (s : Side) (more : List ℕ) (filled : IsFilled more) (bytes : AreBytes more)
@@ -36,10 +36,10 @@ module _ (h : Holding) (reader : Reader) (r : IsReadTo h reader) (s : Side) (mor
   abbrev rest : Rest
   rest = get reader.rests s
 
-  pub reads_taken : reads by_tests (fresh_of h.profile) taken.past.pairs ≡ judged_at_once by_tests reader s more
+  pub reads_taken : reads (fresh_of h.profile) taken.past.pairs ≡ judged_at_once reader s more
   reads_taken =
-      reads-append by_tests (fresh_of h.profile) h.past.pairs (side_pairs s more)
-      ∙ ap (λ o. on_ok o (λ next. reads by_tests next (side_pairs s more))) r.reads_it
+      reads-append (fresh_of h.profile) h.past.pairs (side_pairs s more)
+      ∙ ap (λ o. on_ok o (λ next. reads next (side_pairs s more))) r.reads_it
       ∙ reads_up_to reader s more (held_of h reader r) filled up_to
 
   pub pairs_taken : ArePairs taken.past.pairs
@@ -80,16 +80,16 @@ module _ (h : Holding) (reader : Reader) (r : IsReadTo h reader) (s : Side) (mor
   after = with_bytes h s more (length reader.core.entries)
 
   -- what the judge says of the side's bytes with these
-  pub says : (reading : Reading) → by_tests (old_of reader.core (get reader.rests s)) reader.core s (rest_of after s) ≡ reading →
-      by_tests (old_of reader.core (get reader.rests s)) reader.core s ((get reader.rests s).bytes ++ more) ≡ reading
-  says reading e = ap (λ l. by_tests (old_of reader.core (get reader.rests s)) reader.core s l) (bytes_taken h reader s more (length reader.core.entries) r) ∙ e
+  pub says : (reading : Reading) → judge (old_of reader.core (get reader.rests s)) reader.core s (rest_of after s) ≡ reading →
+      judge (old_of reader.core (get reader.rests s)) reader.core s ((get reader.rests s).bytes ++ more) ≡ reading
+  says reading e = ap (λ l. judge (old_of reader.core (get reader.rests s)) reader.core s l) (bytes_taken h reader s more (length reader.core.entries) r) ∙ e
 
-  settled : (reading : Reading) → by_tests (old_of reader.core (get reader.rests s)) reader.core s (rest_of after s) ≡ reading →
-      reads by_tests (fresh_of h.profile) after.past.pairs ≡ settle reader s (extended reader.core (get reader.rests s) more) reading
+  settled : (reading : Reading) → judge (old_of reader.core (get reader.rests s)) reader.core s (rest_of after s) ≡ reading →
+      reads (fresh_of h.profile) after.past.pairs ≡ settle reader s (extended reader.core (get reader.rests s) more) reading
   settled reading e = reads_taken h reader r s more filled bytes up_to ∙ ap (settle reader s (extended reader.core (get reader.rests s) more)) (says reading e)
 
   -- more is awaited
-  pub more_taken : by_tests (old_of reader.core (get reader.rests s)) reader.core s (rest_of after s) ≡ More →
+  pub more_taken : judge (old_of reader.core (get reader.rests s)) reader.core s (rest_of after s) ≡ More →
       IsReadTo after (record reader { rests = put reader.rests s (extended reader.core (get reader.rests s) more) })
   more_taken e = record {
     are_pairs = pairs_taken h reader r s more filled bytes up_to;
@@ -100,8 +100,8 @@ module _ (h : Holding) (reader : Reader) (r : IsReadTo h reader) (s : Side) (mor
   }
 
   -- the bytes are refused
-  pub refused_taken : (fault : WireFault) → by_tests (old_of reader.core (get reader.rests s)) reader.core s (rest_of after s) ≡ Bad fault →
-      reads by_tests (fresh_of h.profile) after.past.pairs ≡ Err fault
+  pub refused_taken : (fault : WireFault) → judge (old_of reader.core (get reader.rests s)) reader.core s (rest_of after s) ≡ Bad fault →
+      reads (fresh_of h.profile) after.past.pairs ≡ Err fault
   refused_taken fault e = settled (Bad fault) e
 
 -- a message's bytes are no longer a rest
@@ -127,7 +127,7 @@ pub record IsWholeTaken (h : Holding) (reader : Reader) (s : Side) (after : Hold
 
 module _ (h : Holding) (reader : Reader) (r : IsReadTo h reader) (s : Side) (more : List ℕ) (filled : IsFilled more) (bytes : AreBytes more)
     (up_to : length ((get reader.rests s).bytes ++ more) ≤ awaited_length (old_of reader.core (get reader.rests s)) reader.core s (get reader.rests s).bytes) where
-  pub whole_taken : (m : Message) → by_tests (old_of reader.core (get reader.rests s)) reader.core s (rest_of (after h reader r s more filled bytes up_to) s) ≡ Whole m →
+  pub whole_taken : (m : Message) → judge (old_of reader.core (get reader.rests s)) reader.core s (rest_of (after h reader r s more filled bytes up_to) s) ≡ Whole m →
       IsWholeTaken h reader s (after h reader r s more filled bytes up_to) m
   whole_taken m e =
       let held : Holding = after h reader r s more filled bytes up_to in
@@ -140,7 +140,7 @@ module _ (h : Holding) (reader : Reader) (r : IsReadTo h reader) (s : Side) (mor
         at = subst (λ l. IsSoundAt (old_of reader.core (get reader.rests s)) reader.core s l m) b good;
         read_to = record {
           are_pairs = subst (λ (p : Past). ArePairs p.pairs) (sym same) (pairs_taken h reader r s more filled bytes up_to);
-          reads_it = ap (λ q. reads by_tests (fresh_of q) (with_message held s m).past.pairs) (profile_message held s m) ∙ ap (λ (p : Past). reads by_tests (fresh_of h.profile) p.pairs) same ∙ read;
+          reads_it = ap (λ q. reads (fresh_of q) (with_message held s m).past.pairs) (profile_message held s m) ∙ ap (λ (p : Past). reads (fresh_of h.profile) p.pairs) same ∙ read;
           messages_are = ap (λ l. l ++ m ∷ []) r.messages_are ∙ sym (ap (λ (p : Past). p.messages) same);
           rests_are = λ u. rest_message h reader s u m more (length reader.core.entries) r;
           count_is = count_message h reader s m more (length reader.core.entries) r;

@@ -2,7 +2,7 @@
 use Rattle.std.specs.Prelude.{◌≡◌, ℕ, ◌+◌, List, [], ◌∷◌, if◌then◌else◌, length, Bool, false, Option, Some, None}
 use Rattle.nbd_wire.specs.declared.message.Side.{Side}
 use Rattle.nbd_wire.specs.declared.message.Side.TheVariants.{Client, Server}
-use Rattle.nbd_wire.specs.protocol.Sides.{same_side}
+use Rattle.nbd_wire.specs.Prelude.{same_side}
 use Rattle.nbd_session.specs.Pushed.{Stretch, stretch_bytes}
 use Rattle.nbd_session.specs.declared.stretches.Stretch as program
 

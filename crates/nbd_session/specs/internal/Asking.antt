@@ -4,13 +4,8 @@ use Rattle.nbd_wire.specs.declared.commands.TheConstants as commands
 use Rattle.nbd_wire.specs.declared.fault.WireFault.{WireFault}
 use Rattle.nbd_wire.specs.declared.fault.WireFault.TheVariants.{BadReplyOffset, IncompleteRead, IncompleteStatus, SuccessOfImproper}
 use Rattle.nbd_wire.specs.declared.heads.transmission.RequestHead.{RequestHead}
-use Rattle.nbd_wire.specs.protocol.Contexts.{Context}
-use Rattle.nbd_wire.specs.protocol.Sendable.{carries_payload}
-use Rattle.nbd_wire.specs.protocol.States.{Core, in_force}
-use Rattle.nbd_wire.specs.protocol.Statuses.{are_settled}
+use Rattle.nbd_wire.specs.Prelude.{Context, carries_payload, Core, in_force, are_settled, fault_if, is_too_large, status_kind}
 use Rattle.nbd_state.specs.declared.asked.Asked.{Asked}
-use Rattle.nbd_wire.specs.protocol.Tests.{fault_if}
-use Rattle.nbd_wire.specs.protocol.Transmission.{is_too_large, status_kind}
 
 -- a simple reply with this error may not answer it
 abbrev pub is_simple_forbidden : Core → Asked → (error : ℕ) → Bool

@@ -2,10 +2,8 @@
 -- their number, where reading keeps the state.
 use Rattle.std.specs.Prelude.{ℕ, List, Option, Some, None, nat_le, if◌then◌else◌}
 use Rattle.nbd_wire.specs.declared.message.Side.{Side}
-use Rattle.nbd_wire.specs.protocol.Decisions.{Decision, operation_if}
-use Rattle.nbd_wire.specs.protocol.Reading.{decision_with}
-use Rattle.nbd_wire.specs.protocol.Operations.{Operation}
-use Rattle.nbd_wire.specs.protocol.States.{Core, target}
+use Rattle.nbd_wire.specs.protocol.Decisions.{decision_with}
+use Rattle.nbd_wire.specs.Prelude.{Decision, operation_if, Operation, Core, target}
 
 -- only a number up to the count
 abbrev pub within : (count : ℕ) → Option ℕ → Option ℕ

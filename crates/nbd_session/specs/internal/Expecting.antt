@@ -11,15 +11,10 @@ use Rattle.nbd_wire.specs.declared.message.Message.{Message}
 use Rattle.nbd_wire.specs.declared.message.Message.TheVariants as messages
 use Rattle.nbd_wire.specs.declared.message.Side.{Side}
 use Rattle.nbd_wire.specs.declared.profile.Profile.{Profile}
-use Rattle.nbd_wire.specs.protocol.Contexts.{Context}
-use Rattle.nbd_wire.specs.protocol.Operations.{Exporting, Operation}
-use Rattle.nbd_wire.specs.protocol.States.{Core, Transmission, operation, target, with_reply}
+use Rattle.nbd_wire.specs.Prelude.{Context, Exporting, Operation, Core, Transmission, operation, target, with_reply, Decision, begins, earlier_to, padding_fault, payload_fault, fault_if, chunk_fault, cookie_fault, is_too_large, read_as, simple_fault, simple_last_fault}
 use Rattle.nbd_wire.specs.protocol.States as definitions
 use Rattle.nbd_session.specs.internal.Counted.{decision_by_count, operation_counted}
-use Rattle.nbd_wire.specs.protocol.Decisions.{Decision, begins}
-use Rattle.nbd_wire.specs.protocol.Negotiation.{earlier_to, padding_fault, payload_fault}
-use Rattle.nbd_wire.specs.protocol.Tests.{fault_if}
-use Rattle.nbd_wire.specs.protocol.Transmission.{chunk_fault, chunk_head_fault, cookie_fault, extended_payload_length, is_too_large, offset_fault, read_as, request_payload_length, simple_fault, simple_last_fault, simple_payload_length}
+use Rattle.nbd_wire.specs.protocol.Transmission.{chunk_head_fault, extended_payload_length, offset_fault, request_payload_length, simple_payload_length}
 use Rattle.nbd_wire.specs.declared.message.Side.TheVariants.{Client, Server}
 use Rattle.nbd_session.specs.internal.Leading.{request_head_length}
 use Rattle.nbd_state.specs.Heads.{chunk_of, chunk_with}

@@ -4,9 +4,7 @@ use Rattle.nbd_wire.specs.declared.profile.Profile.{Profile}
 use Rattle.nbd_wire.specs.declared.message.Side.{Side}
 use Rattle.nbd_wire.specs.declared.message.Side.TheVariants.{Client, Server}
 use Rattle.nbd_wire.specs.declared.message.Message.{Message}
-use Rattle.nbd_wire.specs.protocol.Captures.{Pair, ArePairs, side_pairs}
-use Rattle.nbd_wire.specs.protocol.Sides.{same_side}
-use Rattle.nbd_wire.specs.protocol.Reading.{by_tests, Reader, get, reads, fresh_of, IsFilled}
+use Rattle.nbd_wire.specs.Prelude.{Pair, ArePairs, side_pairs, same_side, Reader, get, reads, fresh_of, IsFilled}
 
 -- what was given so far: the bytes with their senders, and the messages that completed
 pub record Past : Type 0 where
@@ -38,7 +36,7 @@ rest_of h Server = h.server
 -- the reader has read the past, without a fault, and its rests are what is held
 pub record IsReadTo (h : Holding) (reader : Reader) : Type 0 where
   pub are_pairs : ArePairs h.past.pairs
-  pub reads_it : reads by_tests (fresh_of h.profile) h.past.pairs ≡ Ok reader
+  pub reads_it : reads (fresh_of h.profile) h.past.pairs ≡ Ok reader
   pub messages_are : reader.messages ≡ h.past.messages
   pub rests_are : (s : Side) → (get reader.rests s).bytes ≡ rest_of h s
   pub count_is : IsFilled h.server → h.counted ≡ length (get reader.rests Server).since.entries

@@ -1,8 +1,6 @@
 -- What a completed message does to the exchanges.
 use Rattle.std.specs.Prelude.{◌≡◌, ℕ, List, [], ◌∷◌, Bool, false, Option, slice_get}
-use Rattle.nbd_wire.specs.protocol.Contexts.{Context, Status}
-use Rattle.nbd_wire.specs.protocol.Rules.{is_this, noted}
-use Rattle.nbd_wire.specs.protocol.Statuses.{is_allocation}
+use Rattle.nbd_wire.specs.Prelude.{Context, Status, is_this, noted, is_allocation}
 use Rattle.nbd_state.specs.declared.asked.Exchange.{Exchange}
 use Rattle.nbd_state.specs.declared.state.Export.{Export}
 use Rattle.nbd_state.specs.declared.state.Phase.{Phase}

@@ -1,9 +1,7 @@
 -- What one more reply message notes of a request.
 use Rattle.std.specs.Prelude.{ℕ, ◌≡◌, ◌++◌, Some}
 use Rattle.nbd_wire.specs.declared.message.Message.{Message}
-use Rattle.nbd_wire.specs.protocol.Operations.{Exporting, Operation, ends_reply}
-use Rattle.nbd_wire.specs.protocol.Rules.{noted, shown_with}
-use Rattle.nbd_wire.specs.protocol.States.{with_reply}
+use Rattle.nbd_wire.specs.Prelude.{Exporting, Operation, ends_reply, noted, shown_with, with_reply}
 use Rattle.nbd_state.specs.declared.asked.Asked.{Asked}
 use Rattle.nbd_state.specs.declared.asked.Exchange.{Exchange}
 use Rattle.nbd_state.specs.Moments.{shown_in}

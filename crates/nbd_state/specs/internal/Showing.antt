@@ -2,9 +2,7 @@ use Rattle.std.specs.Prelude.{ℕ, List, Option, if◌then◌else◌}
 use Rattle.nbd_wire.specs.declared.heads.transmission.RequestHead.{RequestHead}
 use Rattle.nbd_wire.specs.declared.message.Message.{Message}
 use Rattle.nbd_wire.specs.declared.sizes.Sizes.{Sizes}
-use Rattle.nbd_wire.specs.protocol.Contexts.{Context, Filter, length_by}
-use Rattle.nbd_wire.specs.protocol.Operations.{Operation}
-use Rattle.nbd_wire.specs.protocol.Rules.{written}
+use Rattle.nbd_wire.specs.Prelude.{Context, Filter, length_by, Operation, written}
 
 -- the payload behind this head that is kept as it is
 abbrev pub carried : RequestHead → List ℕ → List ℕ

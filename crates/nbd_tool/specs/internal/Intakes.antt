@@ -7,7 +7,7 @@ use Rattle.nbd_session.specs.declared.monitor.Monitor.{Monitor}
 use Rattle.nbd_tool.specs.Ends.{IsOver}
 use Rattle.nbd_tool.specs.Runs.{flat_of}
 use Rattle.nbd_wire.specs.declared.profile.Profile.{Profile}
-use Rattle.nbd_wire.specs.protocol.Captures.{Pair}
+use Rattle.nbd_wire.specs.Prelude.{Pair}
 
 -- the monitor follows a session over the capture
 pub record IsFollowing (profile : Profile) (capture : List Pair) (monitor : Monitor) : Type 0 where

@@ -1,5 +1,6 @@
 -- A capture: a list of bytes with their senders.
-use Rattle.std.specs.Prelude.{ℕ, ◌<◌, List, [], ◌∷◌, ◌++◌, map}
+use Rattle.std.specs.Prelude.{ℕ, ◌<◌, List, [], ◌∷◌, map}
+use Rattle.std.specs.List.{flat_map}
 use Rattle.nbd_wire.specs.declared.message.Side.{Side}
 
 -- a byte on the wire with its sender (this project's choice: only the order of these counts)
@@ -18,5 +19,4 @@ side_pairs s bytes = map (λ b. record { from = s; byte = b }) bytes
 
 -- the flat capture: the bytes of all records with their senders, in order
 abbrev pub flat : List (Side × List ℕ) → List Pair
-flat [] = []
-flat (chunk ∷ chunks) = side_pairs chunk.0 chunk.1 ++ flat chunks
+flat chunks = flat_map (λ (chunk : Side × List ℕ). side_pairs chunk.0 chunk.1) chunks

@@ -1,19 +1,24 @@
 -- What is decided of bytes that begin a message: the lists of tests (`Negotiation`, `Transmission`) with the numbers
 -- that stand in the bytes. `old` is what had completed before the first of them, `now` what has completed since.
-use Rattle.std.specs.Prelude.{ℕ, List, Bool, true, false, Option, Some, None, not, ◌&&◌, ◌==◌, nat_le, length, drop, if◌then◌else◌}
+use Rattle.std.specs.Prelude.{ℕ, List, Bool, true, false, Option, Some, None, not, ◌+◌, ◌&&◌, ◌==◌, nat_le, nat_lt, length, drop, if◌then◌else◌}
 use Rattle.nbd_wire.specs.declared.chunks.TheConstants as chunks
 use Rattle.nbd_wire.specs.declared.fault.WireFault.{WireFault}
-use Rattle.nbd_wire.specs.declared.fault.WireFault.TheVariants.{BadMagic}
+use Rattle.nbd_wire.specs.declared.fault.WireFault.TheVariants.{BadMagic, OutOfTurn}
+use Rattle.nbd_wire.specs.declared.handshake.TheConstants as handshake
 use Rattle.nbd_wire.specs.declared.magics.TheConstants.{GREETING_MAGIC, OPTION_MAGIC, ANSWER_MAGIC, REQUEST_MAGIC, SIMPLE_MAGIC, CHUNK_MAGIC, EXTENDED_REQUEST_MAGIC, EXTENDED_CHUNK_MAGIC}
 use Rattle.nbd_wire.specs.declared.message.Message.{Message}
 use Rattle.nbd_wire.specs.declared.message.Message.TheVariants.{Greeting, ClientFlags, Choice, Answer, Exported, Request, Simple, Chunk, ExtendedRequest, ExtendedChunk}
+use Rattle.nbd_wire.specs.declared.message.Side.{Side}
+use Rattle.nbd_wire.specs.declared.message.Side.TheVariants.{Client, Server}
 use Rattle.nbd_wire.specs.declared.options.TheConstants as options
 use Rattle.nbd_wire.specs.declared.profile.Profile.{Profile}
 use Rattle.nbd_wire.specs.protocol.Contexts.{Selection}
+use Rattle.nbd_wire.specs.protocol.Flags.{has}
 use Rattle.nbd_wire.specs.protocol.Negotiation.{abort_fault, answer_fault, answer_head_fault, answer_last_fault, client_flags_fault, export_fault, greeting_fault, padding_fault}
 use Rattle.nbd_wire.specs.protocol.Operations.{Exporting, Operation}
+use Rattle.nbd_wire.specs.protocol.Options.{is_proper_option, takes_contexts}
 use Rattle.nbd_wire.specs.protocol.Payloads.{number_at}
-use Rattle.nbd_wire.specs.protocol.States.{Core, target, operation, with_reply}
+use Rattle.nbd_wire.specs.protocol.States.{Core, Phase, Greet, Flags, Choosing, Naming, Aborting, Answering, Transmission, target, operation, with_reply}
 use Rattle.nbd_wire.specs.protocol.Tests.{◌when◌else◌}
 use Rattle.nbd_wire.specs.protocol.Transmission.{chunk_fault, chunk_head_fault, cookie_fault, extended_head_fault, extended_payload_length, extended_request_fault, offset_fault, read_as, request_fault, request_payload_length, simple_fault, simple_last_fault, simple_payload_length}
 
@@ -31,123 +36,79 @@ pub record Decision : Type 0 where
 abbrev pub magic_fault : (is_magic : Bool) → (next : Option WireFault) → Option WireFault
 magic_fault is_magic next = BadMagic when not is_magic else next
 
+-- a decision in one row: the length of the head, whether its magic numbers are its message's, what else is refused at
+-- its last byte, how many bytes follow it, what is refused at the last byte of all, and the message
+abbrev pub decide : (head : ℕ) (is_magic : Bool) (at_head : Option WireFault) (payload : ℕ)
+    (at_last : Option WireFault) → Message → Decision
+decide head is_magic at_head payload at_last m = record {
+  head_length = head;
+  head_fault = magic_fault is_magic at_head;
+  payload_length = payload;
+  last_fault = at_last;
+  message = m;
+}
+
 -- a greeting
 abbrev pub greeting : List ℕ → Decision
-greeting bytes = record {
-  head_length = 18;
-  head_fault = magic_fault ((number_at 0 8 bytes == GREETING_MAGIC) && (number_at 8 8 bytes == OPTION_MAGIC))
-      (greeting_fault (number_at 16 2 bytes));
-  payload_length = 0;
-  last_fault = None;
-  message = Greeting (number_at 16 2 bytes);
-}
+greeting bytes =
+    decide 18 ((number_at 0 8 bytes == GREETING_MAGIC) && (number_at 8 8 bytes == OPTION_MAGIC))
+    (greeting_fault (number_at 16 2 bytes)) 0 None (Greeting (number_at 16 2 bytes))
 
 -- the client's flags
 abbrev pub client_flags : (offered : ℕ) → List ℕ → Decision
-client_flags offered bytes = record {
-  head_length = 4;
-  head_fault = client_flags_fault offered (number_at 0 4 bytes);
-  payload_length = 0;
-  last_fault = None;
-  message = ClientFlags (number_at 0 4 bytes);
-}
+client_flags offered bytes =
+    decide 4 true (client_flags_fault offered (number_at 0 4 bytes)) 0 None (ClientFlags (number_at 0 4 bytes))
 
 -- an option
 abbrev pub choice : List ℕ → Decision
-choice bytes = record {
-  head_length = 16;
-  head_fault = magic_fault (number_at 0 8 bytes == OPTION_MAGIC) None;
-  payload_length = number_at 12 4 bytes;
-  last_fault = None;
-  message = Choice (number_at 8 4 bytes) (drop 16 bytes);
-}
+choice bytes =
+    decide 16 (number_at 0 8 bytes == OPTION_MAGIC) None (number_at 12 4 bytes) None
+    (Choice (number_at 8 4 bytes) (drop 16 bytes))
 
 -- the answer to EXPORT_NAME, by whether the client took NO_ZEROES
 abbrev pub export_answer : (no_zeroes : Bool) → List ℕ → Decision
-export_answer true bytes = record {
-  head_length = 10;
-  head_fault = export_fault (number_at 0 8 bytes) (number_at 8 2 bytes);
-  payload_length = 0;
-  last_fault = None;
-  message = Exported (number_at 0 8 bytes) (number_at 8 2 bytes) false;
-}
-export_answer false bytes = record {
-  head_length = 10;
-  head_fault = export_fault (number_at 0 8 bytes) (number_at 8 2 bytes);
-  payload_length = 124;
-  last_fault = padding_fault (drop 10 bytes);
-  message = Exported (number_at 0 8 bytes) (number_at 8 2 bytes) true;
-}
+export_answer no_zeroes bytes =
+    decide 10 true (export_fault (number_at 0 8 bytes) (number_at 8 2 bytes)) (if no_zeroes then 0 else 124)
+    (if no_zeroes then None else padding_fault (drop 10 bytes))
+    (Exported (number_at 0 8 bytes) (number_at 8 2 bytes) (not no_zeroes))
 
 -- an option reply
 abbrev pub answer_of : List ℕ → Message
 answer_of bytes = Answer (number_at 8 4 bytes) (number_at 12 4 bytes) (drop 20 bytes)
 
--- an option reply's magic number and option; `next` is what its kind says
-abbrev pub answered_fault : (asked magic option : ℕ) → (next : Option WireFault) → Option WireFault
-answered_fault asked magic option next = magic_fault (magic == ANSWER_MAGIC) (answer_fault asked option next)
-
 -- the answer to ABORT
 abbrev pub abort_answer : List ℕ → Decision
-abort_answer bytes = record {
-  head_length = 20;
-  head_fault = answered_fault options.ABORT (number_at 0 8 bytes) (number_at 8 4 bytes)
-      (abort_fault (number_at 12 4 bytes) (number_at 16 4 bytes));
-  payload_length = number_at 16 4 bytes;
-  last_fault = None;
-  message = answer_of bytes;
-}
+abort_answer bytes =
+    decide 20 (number_at 0 8 bytes == ANSWER_MAGIC)
+    (answer_fault options.ABORT (number_at 8 4 bytes) (abort_fault (number_at 12 4 bytes) (number_at 16 4 bytes)))
+    (number_at 16 4 bytes) None (answer_of bytes)
 
 -- an answer to another option
 abbrev pub answer : Profile → (option : ℕ) (proper takes : Bool) (info : Option Exporting) → Selection → List ℕ
     → Decision
-answer profile option proper takes info selection bytes = record {
-  head_length = 20;
-  head_fault = magic_fault (number_at 0 8 bytes == ANSWER_MAGIC)
-      (answer_head_fault profile option proper takes info (number_at 8 4 bytes) (number_at 12 4 bytes)
-      (number_at 16 4 bytes));
-  payload_length = number_at 16 4 bytes;
-  last_fault = answer_last_fault profile option proper selection (number_at 12 4 bytes) (drop 20 bytes);
-  message = answer_of bytes;
-}
-
--- a request
-abbrev pub request_of : List ℕ → Message
-request_of bytes = Request (number_at 4 2 bytes) (number_at 6 2 bytes) (number_at 8 8 bytes) (number_at 16 8 bytes)
-    (number_at 24 4 bytes) (drop 28 bytes)
-
--- the same, and what is decided of it
-abbrev pub short_request : Core → List ℕ → Decision
-short_request now bytes = record {
-  head_length = 28;
-  head_fault = magic_fault (number_at 0 4 bytes == REQUEST_MAGIC)
-      (request_fault (number_at 6 2 bytes) (number_at 16 8 bytes) (number_at 24 4 bytes));
-  payload_length = request_payload_length (number_at 6 2 bytes) (number_at 24 4 bytes);
-  last_fault = cookie_fault (number_at 6 2 bytes) (target (number_at 8 8 bytes) now.entries);
-  message = request_of bytes;
-}
-
--- a request with an extended header
-abbrev pub extended_request_of : List ℕ → Message
-extended_request_of bytes = ExtendedRequest (number_at 4 2 bytes) (number_at 6 2 bytes) (number_at 8 8 bytes)
-    (number_at 16 8 bytes) (number_at 24 8 bytes) (drop 32 bytes)
-
--- the same, and what is decided of it
-abbrev pub extended_request : Core → List ℕ → Decision
-extended_request now bytes = record {
-  head_length = 32;
-  head_fault = magic_fault (number_at 0 4 bytes == EXTENDED_REQUEST_MAGIC)
-      (extended_request_fault (number_at 4 2 bytes) (number_at 6 2 bytes) (number_at 16 8 bytes)
-      (number_at 24 8 bytes));
-  payload_length = extended_payload_length (number_at 4 2 bytes) (number_at 6 2 bytes) (number_at 24 8 bytes);
-  last_fault = cookie_fault (number_at 6 2 bytes) (target (number_at 8 8 bytes) now.entries);
-  message = extended_request_of bytes;
-}
+answer profile option proper takes info selection bytes =
+    decide 20 (number_at 0 8 bytes == ANSWER_MAGIC)
+    (answer_head_fault profile option proper takes info (number_at 8 4 bytes) (number_at 12 4 bytes)
+    (number_at 16 4 bytes))
+    (number_at 16 4 bytes)
+    (answer_last_fault profile option proper selection (number_at 12 4 bytes) (drop 20 bytes)) (answer_of bytes)
 
 -- a request, by whether extended headers are in force
 abbrev pub request_by : (extended : Bool) → Core → List ℕ → Decision
-request_by false now bytes = short_request now bytes
-request_by true now bytes = extended_request now bytes
+request_by false now bytes =
+    decide 28 (number_at 0 4 bytes == REQUEST_MAGIC)
+    (request_fault (number_at 6 2 bytes) (number_at 16 8 bytes) (number_at 24 4 bytes))
+    (request_payload_length (number_at 6 2 bytes) (number_at 24 4 bytes))
+    (cookie_fault (number_at 6 2 bytes) (target (number_at 8 8 bytes) now.entries))
+    (Request (number_at 4 2 bytes) (number_at 6 2 bytes) (number_at 8 8 bytes) (number_at 16 8 bytes)
+    (number_at 24 4 bytes) (drop 28 bytes))
+request_by true now bytes =
+    decide 32 (number_at 0 4 bytes == EXTENDED_REQUEST_MAGIC)
+    (extended_request_fault (number_at 4 2 bytes) (number_at 6 2 bytes) (number_at 16 8 bytes) (number_at 24 8 bytes))
+    (extended_payload_length (number_at 4 2 bytes) (number_at 6 2 bytes) (number_at 24 8 bytes))
+    (cookie_fault (number_at 6 2 bytes) (target (number_at 8 8 bytes) now.entries))
+    (ExtendedRequest (number_at 4 2 bytes) (number_at 6 2 bytes) (number_at 8 8 bytes) (number_at 16 8 bytes)
+    (number_at 24 8 bytes) (drop 32 bytes))
 
 -- a request where the session stands
 abbrev pub request : Core → List ℕ → Decision
@@ -166,15 +127,12 @@ operation_of old now cookie = operation_if (target cookie old.entries) now.entri
 abbrev pub simple_of : List ℕ → Message
 simple_of bytes = Simple (number_at 4 4 bytes) (number_at 8 8 bytes) (drop 16 bytes)
 
--- a simple reply to this request, if there is one
+-- the same to this request, if there is one
 abbrev pub simple_to : Exporting → Core → Option Operation → List ℕ → Decision
-simple_to export now to bytes = record {
-  head_length = 16;
-  head_fault = simple_fault now.structured to (number_at 4 4 bytes);
-  payload_length = simple_payload_length to (number_at 4 4 bytes);
-  last_fault = simple_last_fault export to (number_at 4 4 bytes);
-  message = simple_of bytes;
-}
+simple_to export now to bytes =
+    decide 16 true (simple_fault now.structured to (number_at 4 4 bytes))
+    (simple_payload_length to (number_at 4 4 bytes)) (simple_last_fault export to (number_at 4 4 bytes))
+    (simple_of bytes)
 
 -- a chunk
 abbrev pub chunk_of : List ℕ → Message
@@ -189,13 +147,9 @@ chunk_last_fault profile export (Some e) bytes =
 
 -- a chunk to this request, if there is one
 abbrev pub chunk_to : Exporting → Core → Option Operation → List ℕ → Decision
-chunk_to export now to bytes = record {
-  head_length = 20;
-  head_fault = chunk_head_fault now.structured to;
-  payload_length = number_at 16 4 bytes;
-  last_fault = chunk_last_fault now.profile export to bytes;
-  message = chunk_of bytes;
-}
+chunk_to export now to bytes =
+    decide 20 true (chunk_head_fault now.structured to) (number_at 16 4 bytes)
+    (chunk_last_fault now.profile export to bytes) (chunk_of bytes)
 
 -- a chunk with an extended header
 abbrev pub extended_chunk_of : List ℕ → Message
@@ -213,48 +167,78 @@ extended_last_fault profile export (Some e) bytes =
 
 -- a chunk with an extended header to this request, if there is one
 abbrev pub extended_chunk_to : Exporting → Core → Option Operation → List ℕ → Decision
-extended_chunk_to export now to bytes = record {
-  head_length = 32;
-  head_fault = extended_head_fault now.structured to (number_at 24 8 bytes);
-  payload_length = number_at 24 8 bytes;
-  last_fault = extended_last_fault now.profile export to bytes;
-  message = extended_chunk_of bytes;
-}
+extended_chunk_to export now to bytes =
+    decide 32 true (extended_head_fault now.structured to (number_at 24 8 bytes)) (number_at 24 8 bytes)
+    (extended_last_fault now.profile export to bytes) (extended_chunk_of bytes)
 
 -- bytes that begin neither: too few, or another magic number
 abbrev pub no_reply : List ℕ → Decision
-no_reply bytes = record {
-  head_length = 4;
-  head_fault = magic_fault false None;
-  payload_length = 0;
-  last_fault = None;
-  message = simple_of bytes;
-}
+no_reply bytes = decide 4 false None 0 None (simple_of bytes)
 
 -- the bytes have four that are this number
 abbrev pub begins : (magic : ℕ) → List ℕ → Bool
 begins magic bytes = nat_le 4 (length bytes) && (number_at 0 4 bytes == magic)
 
--- by which of the two magic numbers a reply begins with
-abbrev pub reply_by : (is_chunk is_simple : Bool) → Exporting → Core → Option Operation → List ℕ → Decision
-reply_by true is_simple export now to bytes = chunk_to export now to bytes
-reply_by false true export now to bytes = simple_to export now to bytes
-reply_by false false export now to bytes = no_reply bytes
-
--- where extended headers are in force, by whether it begins with the magic number of such a chunk
-abbrev pub extended_reply_by : (is_chunk : Bool) → Exporting → Core → Option Operation → List ℕ → Decision
-extended_reply_by true export now to bytes = extended_chunk_to export now to bytes
-extended_reply_by false export now to bytes = no_reply bytes
-
--- a reply, by whether extended headers are in force
+-- a reply to this request, if there is one, by whether extended headers are in force and by its magic number
 abbrev pub reply_in : (extended : Bool) → Exporting → Core → Option Operation → List ℕ → Decision
-reply_in false export now to bytes = reply_by (begins CHUNK_MAGIC bytes) (begins SIMPLE_MAGIC bytes) export now to bytes
-reply_in true export now to bytes = extended_reply_by (begins EXTENDED_CHUNK_MAGIC bytes) export now to bytes
+reply_in false export now to bytes =
+    if begins CHUNK_MAGIC bytes then chunk_to export now to bytes
+    else if begins SIMPLE_MAGIC bytes then simple_to export now to bytes
+    else no_reply bytes
+reply_in true export now to bytes =
+    if begins EXTENDED_CHUNK_MAGIC bytes then extended_chunk_to export now to bytes else no_reply bytes
 
 -- a reply; `to` finds the request that a cookie names
 abbrev pub reply_with : Exporting → (to : ℕ → Option Operation) → (now : Core) → List ℕ → Decision
 reply_with export to now bytes = reply_in now.extended export now (to (number_at 8 8 bytes)) bytes
 
--- a reply, by what had completed before its first byte
-abbrev pub reply : Exporting → (old now : Core) → List ℕ → Decision
-reply export old now bytes = reply_with export (operation_of old now) now bytes
+-- what is decided of a side's bytes in a phase; none where the side may not send: after a DISC the client sends nothing
+-- ("Request types"). `to` finds the request that a cookie names
+abbrev pub decision_with : Phase → (to : ℕ → Option Operation) → (now : Core) → Side → List ℕ → Option Decision
+decision_with Greet to now Server bytes = Some (greeting bytes)
+decision_with Flags to now Client bytes = Some (client_flags now.offered bytes)
+decision_with Choosing to now Client bytes = Some (choice bytes)
+decision_with Naming to now Server bytes = Some (export_answer (has now.client_flags handshake.C_NO_ZEROES) bytes)
+decision_with Aborting to now Server bytes = Some (abort_answer bytes)
+decision_with (Answering option given info) to now Server bytes =
+    Some
+    (answer now.profile option (is_proper_option option given) (takes_contexts option given) info now.selection bytes)
+decision_with (Transmission export) to now Client bytes = if now.disconnected then None else Some (request now bytes)
+decision_with (Transmission export) to now Server bytes = Some (reply_with export to now bytes)
+decision_with phase to now s bytes = None
+
+-- the same, by what had completed before the first byte
+abbrev pub decision : Phase → (old now : Core) → Side → List ℕ → Option Decision
+decision phase old now s bytes = decision_with phase (operation_of old now) now s bytes
+
+-- what reading says of bytes: more are to come, they are a whole message, or the last of them is refused
+pub data Reading : Type 0 where
+  More : Reading
+  Whole : (message : Message) → Reading
+  Bad : (fault : WireFault) → Reading
+
+-- refused with this fault, or where there is none what comes next
+abbrev pub unless : Option WireFault → Reading → Reading
+unless (Some fault) next = Bad fault
+unless None next = next
+
+-- what a decision says of bytes
+abbrev pub read_by : Decision → List ℕ → Reading
+read_by d bytes =
+    if nat_lt (length bytes) d.head_length then More
+    else unless d.head_fault
+    (if length bytes == d.head_length + d.payload_length then unless d.last_fault (Whole d.message) else More)
+
+-- a side that may not send is refused at its first byte ("Fixed newstyle negotiation", "Request types")
+abbrev pub reading_by_decision : Option Decision → List ℕ → Reading
+reading_by_decision None bytes = Bad OutOfTurn
+reading_by_decision (Some d) bytes = read_by d bytes
+
+-- what reading says of a side's bytes in a phase, given what had completed before the first of them and what has
+-- completed now
+abbrev pub judge_in : Phase → (old now : Core) → Side → List ℕ → Reading
+judge_in phase old now s bytes = reading_by_decision (decision phase old now s bytes) bytes
+
+-- the same, where the session stands
+abbrev pub judge : (old now : Core) → Side → List ℕ → Reading
+judge old now s bytes = judge_in now.phase old now s bytes

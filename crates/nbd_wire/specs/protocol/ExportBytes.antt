@@ -5,7 +5,7 @@ use Rattle.nbd_wire.specs.declared.entry.Entry.{Entry}
 use Rattle.nbd_wire.specs.declared.entry.Part.{Part}
 use Rattle.nbd_wire.specs.protocol.Entries.{in_part}
 use Rattle.nbd_wire.specs.protocol.Reports.{Asked, Report, asked_at}
-use Rattle.nbd_wire.specs.protocol.Operations.{Outcome, Success, Failure, Pending, is_change}
+use Rattle.nbd_wire.specs.protocol.Operations.{Outcome, Success, is_change}
 use Rattle.nbd_wire.specs.protocol.Pieces.{byte_at, is_in}
 
 -- a numbered request and what became of it; `read` is the byte that its reply gives at an offset
@@ -20,8 +20,7 @@ pub record Effect : Type 0 where
 -- the outcome is a success
 abbrev pub is_success : Outcome → Bool
 is_success Success = true
-is_success Failure = false
-is_success Pending = false
+is_success _ = false
 
 -- what of a request the export's bytes depend on
 abbrev pub effect : Asked → Effect

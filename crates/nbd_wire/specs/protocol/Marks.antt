@@ -21,25 +21,19 @@ pub data Item : Type 0 where
 abbrev pub pairs : List Item → List Pair
 pairs [] = []
 pairs (Byte s b ∷ items) = record { from = s; byte = b } ∷ pairs items
-pairs (Starts s m ∷ items) = pairs items
-pairs (Completes s m ∷ items) = pairs items
-pairs (Serves e ∷ items) = pairs items
+pairs (item ∷ items) = pairs items
 
 -- what is served, in order
 abbrev pub service_order : List Item → List Entry
 service_order [] = []
 service_order (Serves e ∷ items) = e ∷ service_order items
-service_order (Byte s b ∷ items) = service_order items
-service_order (Starts s m ∷ items) = service_order items
-service_order (Completes s m ∷ items) = service_order items
+service_order (item ∷ items) = service_order items
 
 -- the messages that complete, in order
 abbrev pub completed_messages : List Item → List Message
 completed_messages [] = []
 completed_messages (Completes s m ∷ items) = m ∷ completed_messages items
-completed_messages (Byte s b ∷ items) = completed_messages items
-completed_messages (Starts s m ∷ items) = completed_messages items
-completed_messages (Serves e ∷ items) = completed_messages items
+completed_messages (item ∷ items) = completed_messages items
 
 -- all but the moments of service
 abbrev pub without_service : List Item → List Item
@@ -70,20 +64,15 @@ pub record IsSided (s : Side) (items : List Item) (rest : List ℕ) : Type 0 whe
 -- the item is a byte of this side
 abbrev pub IsByteOf : Side → Item → Type 0
 IsByteOf s (Byte t b) = s ≡ t
-IsByteOf s (Starts t m) = ⊥
-IsByteOf s (Completes t m) = ⊥
-IsByteOf s (Serves e) = ⊥
+IsByteOf s _ = ⊥
 
 -- which items may stand beside each other: a message starts directly before its first byte and
 -- completes directly after its last
 abbrev pub MayFollow : Item → Item → Type 0
 MayFollow (Starts s m) next = IsByteOf s next
 MayFollow (Byte s b) (Completes t m) = s ≡ t
-MayFollow (Completes s m) (Completes t n) = ⊥
-MayFollow (Serves e) (Completes t m) = ⊥
-MayFollow (Byte s b) _ = Unit {0}
-MayFollow (Completes s m) _ = Unit {0}
-MayFollow (Serves e) _ = Unit {0}
+MayFollow item (Completes t m) = ⊥
+MayFollow item _ = Unit {0}
 
 -- each mark of a message stands directly beside its byte
 abbrev pub IsTight : List Item → Type 0

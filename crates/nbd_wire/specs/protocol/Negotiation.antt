@@ -1,5 +1,6 @@
 -- What is refused of a message of the negotiation, in lists of tests (`Tests`), each with its section of proto.md.
-use Rattle.std.specs.Prelude.{ℕ, List, [], ◌∷◌, ◌+◌, Bool, true, false, not, ◌&&◌, ◌||◌, ◌==◌, if◌then◌else◌, nat_lt, Option, Some, None}
+use Rattle.std.specs.Prelude.{ℕ, List, [], ◌+◌, Bool, true, false, not, ◌&&◌, ◌||◌, ◌==◌, if◌then◌else◌, nat_lt, Option, Some, None}
+use Rattle.std.specs.List.{list_all}
 use Rattle.nbd_wire.specs.declared.answers.TheConstants as answers
 use Rattle.nbd_wire.specs.declared.handshake.TheConstants as handshake
 use Rattle.nbd_wire.specs.declared.limits.TheConstants.{EXPORT_SIZE}
@@ -52,8 +53,7 @@ export_fault size flags =
 
 -- each byte is zero
 abbrev pub are_zeroes : List ℕ → Bool
-are_zeroes [] = true
-are_zeroes (b ∷ bytes) = (b == 0) && are_zeroes bytes
+are_zeroes bytes = list_all (λ b. b == 0) bytes
 
 -- at the last of the zeroes after an export's size and flags
 abbrev pub padding_fault : List ℕ → Option WireFault
@@ -83,13 +83,10 @@ abort_fault kind len =
     BadReplyKind when not (is_error kind) && not (kind == answers.ACK) else
     ack_fault kind len None
 
--- the option is on metadata contexts
-abbrev pub is_on_contexts : ℕ → Bool
-is_on_contexts option = (option == options.LIST_META_CONTEXT) || (option == options.SET_META_CONTEXT)
-
 -- the profile Wide alone follows the option: it is on metadata contexts, or EXTENDED_HEADERS
 abbrev pub extends : ℕ → Bool
-extends option = is_on_contexts option || (option == options.EXTENDED_HEADERS)
+extends option = ((option == options.LIST_META_CONTEXT) || (option == options.SET_META_CONTEXT))
+    || (option == options.EXTENDED_HEADERS)
 
 -- the profile is Wide
 abbrev pub is_wide : Profile → Bool

@@ -34,14 +34,11 @@ is_proper_option option payload =
 
 -- whose turn it is in a phase of the negotiation
 abbrev pub turn : Phase → Option Side
-turn Greet = Some Server
 turn Flags = Some Client
 turn Choosing = Some Client
-turn Naming = Some Server
-turn Aborting = Some Server
-turn (Answering _ _ _) = Some Server
 turn Ended = None
 turn (Transmission _) = None
+turn _ = Some Server
 
 -- so many queries are none
 abbrev pub asks_nothing : Option ℕ → Bool

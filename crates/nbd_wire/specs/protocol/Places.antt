@@ -5,13 +5,13 @@ use Rattle.nbd_wire.specs.declared.message.Message.{Message}
 use Rattle.nbd_wire.specs.declared.profile.Profile.{Profile}
 use Rattle.nbd_wire.specs.declared.profile.Profile.TheVariants.{Base}
 use Rattle.nbd_wire.specs.protocol.Captures.{Pair, ArePairs}
-use Rattle.nbd_wire.specs.protocol.Reading.{Reader, by_tests, fresh_of, reads, step}
+use Rattle.nbd_wire.specs.protocol.Reading.{Reader, fresh_of, reads, step}
 
 -- a session of the profile under way: these bytes are read without a fault, with these messages
 pub record IsUnderWayOf (profile : Profile) (ps : List Pair) (messages : List Message) : Type 0 where
   pub are_pairs : ArePairs ps
   pub end : Reader
-  pub reads_it : reads by_tests (fresh_of profile) ps ≡ Ok end
+  pub reads_it : reads (fresh_of profile) ps ≡ Ok end
   pub has_messages : end.messages ≡ messages
 
 -- the place of these bytes in the profile is the last of them, with this fault: all before it are read without a fault,
@@ -22,7 +22,7 @@ pub record IsPlaceOf (profile : Profile) (ps : List Pair) (messages : List Messa
   pub last : Pair
   pub parts : ps ≡ prefix ++ last ∷ []
   pub before : IsUnderWayOf profile prefix messages
-  pub refused : step by_tests before.end last.from last.byte ≡ Err fault
+  pub refused : step before.end last.from last.byte ≡ Err fault
 
 -- the same, of the profile Base
 abbrev pub IsPlace : List Pair → List Message → WireFault → Type 0

@@ -1,87 +1,15 @@
 -- Reading: byte after byte, what is decided of a side's bytes (`Decisions`). A head is judged at its last byte, and a
 -- message at the last of all.
-use Rattle.std.specs.Prelude.{ℕ, List, [], ◌∷◌, ◌++◌, ◌+◌, ◌==◌, nat_lt, Bool, true, false, Option, Some, None, Result, Ok, Err, length}
+use Rattle.std.specs.Prelude.{ℕ, List, [], ◌∷◌, ◌++◌, Option, None, Result, Ok, Err, length}
 use Rattle.nbd_wire.specs.declared.fault.WireFault.{WireFault}
-use Rattle.nbd_wire.specs.declared.fault.WireFault.TheVariants.{OutOfTurn}
-use Rattle.nbd_wire.specs.declared.handshake.TheConstants as handshake
 use Rattle.nbd_wire.specs.declared.message.Message.{Message}
 use Rattle.nbd_wire.specs.declared.message.Side.{Side}
 use Rattle.nbd_wire.specs.declared.message.Side.TheVariants.{Client, Server}
 use Rattle.nbd_wire.specs.declared.profile.Profile.{Profile}
 use Rattle.nbd_wire.specs.protocol.Captures.{Pair}
-use Rattle.nbd_wire.specs.protocol.Decisions.{Decision, abort_answer, answer, choice, client_flags, export_answer, greeting, operation_of, reply_with, request}
-use Rattle.nbd_wire.specs.protocol.Flags.{has}
-use Rattle.nbd_wire.specs.protocol.Operations.{Operation}
-use Rattle.nbd_wire.specs.protocol.Options.{is_proper_option, takes_contexts}
+use Rattle.nbd_wire.specs.protocol.Decisions.{Reading, More, Whole, Bad, judge}
 use Rattle.nbd_wire.specs.protocol.Rules.{complete, is_reply_to, noted}
-use Rattle.nbd_wire.specs.protocol.States.{Phase, Greet, Flags, Choosing, Naming, Aborting, Answering, Transmission, Core, start_of}
-
--- after a DISC the client sends nothing ("Request types")
-abbrev pub request_unless : (disconnected : Bool) → Core → List ℕ → Option Decision
-request_unless true now bytes = None
-request_unless false now bytes = Some (request now bytes)
-
--- what is decided of a side's bytes in a phase; none where the side may not send. `to` finds the request that a cookie
--- names
-abbrev pub decision_with : Phase → (to : ℕ → Option Operation) → (now : Core) → Side → List ℕ → Option Decision
-decision_with Greet to now Server bytes = Some (greeting bytes)
-decision_with Flags to now Client bytes = Some (client_flags now.offered bytes)
-decision_with Choosing to now Client bytes = Some (choice bytes)
-decision_with Naming to now Server bytes = Some (export_answer (has now.client_flags handshake.C_NO_ZEROES) bytes)
-decision_with Aborting to now Server bytes = Some (abort_answer bytes)
-decision_with (Answering option given info) to now Server bytes =
-    Some
-    (answer now.profile option (is_proper_option option given) (takes_contexts option given) info now.selection bytes)
-decision_with (Transmission export) to now Client bytes = request_unless now.disconnected now bytes
-decision_with (Transmission export) to now Server bytes = Some (reply_with export to now bytes)
-decision_with phase to now s bytes = None
-
--- the same, by what had completed before the first byte
-abbrev pub decision : Phase → (old now : Core) → Side → List ℕ → Option Decision
-decision phase old now s bytes = decision_with phase (operation_of old now) now s bytes
-
--- what reading says of bytes: more are to come, they are a whole message, or the last of them is refused
-pub data Reading : Type 0 where
-  More : Reading
-  Whole : (message : Message) → Reading
-  Bad : (fault : WireFault) → Reading
-
--- by whether the head is not whole yet, what is refused at its last byte, and whether the message is whole
-abbrev pub staged_reading_by : Bool → Option WireFault → Bool → Reading → Reading
-staged_reading_by true fault whole end = More
-staged_reading_by false (Some f) whole end = Bad f
-staged_reading_by false None true end = end
-staged_reading_by false None false end = More
-
--- the same of a message with a head of h bytes and p bytes after it
-abbrev pub staged_reading : ℕ → ℕ → List ℕ → Option WireFault → Reading → Reading
-staged_reading h p bytes fault end = staged_reading_by (nat_lt (length bytes) h) fault (length bytes == h + p) end
-
--- at the last byte of a message
-abbrev pub last_reading : Option WireFault → Message → Reading
-last_reading (Some f) m = Bad f
-last_reading None m = Whole m
-
--- what a decision says of bytes
-abbrev pub read_by : Decision → List ℕ → Reading
-read_by d bytes = staged_reading d.head_length d.payload_length bytes d.head_fault (last_reading d.last_fault d.message)
-
--- a side that may not send is refused at its first byte ("Fixed newstyle negotiation", "Request types")
-abbrev pub reading_by_decision : Option Decision → List ℕ → Reading
-reading_by_decision None bytes = Bad OutOfTurn
-reading_by_decision (Some d) bytes = read_by d bytes
-
--- what reading says of a side's bytes, given what had completed before the first of them and what has completed now
-abbrev pub Judge : Type 0
-Judge = Core → Core → Side → List ℕ → Reading
-
--- the same in a phase, by the lists of tests
-abbrev pub judge_in : Phase → (old now : Core) → Side → List ℕ → Reading
-judge_in phase old now s bytes = reading_by_decision (decision phase old now s bytes) bytes
-
--- the judge by the lists of tests, where the session stands
-abbrev pub by_tests : Judge
-by_tests old now s bytes = judge_in now.phase old now s bytes
+use Rattle.nbd_wire.specs.protocol.States.{Core, start_of}
 
 -- one of each side
 pub record Both (A : Type 0) : Type 0 where
@@ -145,8 +73,8 @@ abbrev pub rest_with : Core → Rest → ℕ → Rest
 rest_with core rest b = record { bytes = rest.bytes ++ b ∷ []; since = old_of core rest }
 
 -- one byte of a side is read
-abbrev pub step : Judge → Reader → Side → ℕ → Result Reader WireFault
-step judge reader s b =
+abbrev pub step : Reader → Side → ℕ → Result Reader WireFault
+step reader s b =
     let rest : Rest = rest_with reader.core (get reader.rests s) b in
     settle reader s rest (judge rest.since reader.core s rest.bytes)
 
@@ -156,18 +84,12 @@ on_ok (Ok next) f = f next
 on_ok (Err fault) f = Err fault
 
 -- bytes are read one after the other
-abbrev pub reads : Judge → Reader → List Pair → Result Reader WireFault
-reads judge reader [] = Ok reader
-reads judge reader (p ∷ ps) = on_ok (step judge reader p.from p.byte) (λ next. reads judge next ps)
+abbrev pub reads : Reader → List Pair → Result Reader WireFault
+reads reader [] = Ok reader
+reads reader (p ∷ ps) = on_ok (step reader p.from p.byte) (λ next. reads next ps)
 
 -- before the first byte of a session that is held to a profile
 abbrev pub fresh_of : Profile → Reader
-fresh_of profile = record {
-  core = (start_of profile).core;
-  rests = record {
-    client = record { bytes = []; since = (start_of profile).core };
-    server = record { bytes = []; since = (start_of profile).core };
-  };
-  messages = [];
-  known = λ k. None;
-}
+fresh_of profile =
+    let rest : Rest = record { bytes = []; since = (start_of profile).core } in
+    record { core = rest.since; rests = record { client = rest; server = rest }; messages = []; known = λ k. None }

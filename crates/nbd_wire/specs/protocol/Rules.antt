@@ -7,24 +7,21 @@ use Rattle.nbd_wire.specs.declared.message.Message.TheVariants.{Greeting, Client
 use Rattle.nbd_wire.specs.declared.answers.TheConstants as answers
 use Rattle.nbd_wire.specs.declared.command_flags.TheConstants as command_flags
 use Rattle.nbd_wire.specs.declared.commands.TheConstants as commands
-use Rattle.nbd_wire.specs.declared.handshake.TheConstants as handshake
 use Rattle.nbd_wire.specs.declared.options.TheConstants as options
 use Rattle.nbd_wire.specs.declared.profile.Profile.{Profile}
 use Rattle.nbd_wire.specs.protocol.Marks.{Item, Byte, Starts, Completes, Serves, IsMarkedBut}
 use Rattle.nbd_wire.specs.protocol.Entries.{IsServedAt, MayServe, inside_of}
 use Rattle.nbd_wire.specs.protocol.Sizes.{sizes_for, sizes_kept, sizing_after, sizing_at}
-use Rattle.nbd_wire.specs.protocol.Options.{agrees, is_proper_option, takes_contexts, next_phase, selection_after, selection_at, turn}
-use Rattle.nbd_wire.specs.protocol.Negotiation.{abort_fault, answer_fault, answer_head_fault, answer_last_fault, client_flags_fault, export_fault, greeting_fault}
-use Rattle.nbd_wire.specs.protocol.Transmission.{simple_length, chunk_fault, chunk_head_fault, cookie_fault, read_as, request_fault, simple_fault, simple_last_fault, extended_request_fault}
-use Rattle.nbd_wire.specs.declared.chunks.TheConstants as chunks
+use Rattle.nbd_wire.specs.protocol.Options.{agrees, next_phase, selection_after, selection_at, turn}
+use Rattle.nbd_wire.specs.protocol.Decisions.{Whole, judge_in}
+use Rattle.nbd_wire.specs.protocol.Encoding.{AreBytes, enc}
 use Rattle.nbd_wire.specs.protocol.Contexts.{Filter, length_by}
 use Rattle.nbd_wire.specs.protocol.Payloads.{filter_of}
 use Rattle.nbd_wire.specs.protocol.Operations.{Operation, Exporting, ends_reply, proper_on, is_chunked}
 use Rattle.nbd_wire.specs.protocol.Pieces.{byte_at, piece_of, piece_offset, piece_size}
 use Rattle.nbd_wire.specs.protocol.Flags.{has}
-use Rattle.nbd_wire.specs.protocol.Sendable.{IsSendable}
 use Rattle.nbd_wire.specs.protocol.Sides.{side}
-use Rattle.nbd_wire.specs.protocol.States.{Core, Phase, Shown, State, Greet, Flags, Choosing, Naming, Aborting, Answering, Transmission, export_in, in_force, with_reply, with_reply_at, operation, start_of, target, has_contexts}
+use Rattle.nbd_wire.specs.protocol.States.{Core, Phase, Shown, State, Transmission, export_in, in_force, with_reply_at, operation, start_of, target, has_contexts}
 
 -- the cookie that a reply repeats
 abbrev pub cookie_of : Message → Option ℕ
@@ -42,24 +39,18 @@ target_of None entries = None
 abbrev pub request_of_reply : Core → Message → Option ℕ
 request_of_reply core m = target_of (cookie_of m) core.entries
 
--- the message is a request
-abbrev pub is_request : Message → Bool
-is_request (Request _ _ _ _ _ _) = true
-is_request (ExtendedRequest _ _ _ _ _ _) = true
-is_request _ = false
-
 -- the message has an extended header
 abbrev pub is_extended : Message → Bool
 is_extended (ExtendedRequest _ _ _ _ _ _) = true
 is_extended (ExtendedChunk _ _ _ _ _) = true
 is_extended _ = false
 
--- what a message's first byte needs: in negotiation the side's turn, in transmission of the client a request and no
--- DISC before, of the server an outstanding request that it answers (proto.md, "Fixed newstyle negotiation",
+-- what a message's first byte needs: in negotiation the side's turn, in transmission of the client that no DISC came
+-- before, of the server an outstanding request that it answers (proto.md, "Fixed newstyle negotiation",
 -- "Transmission"), and of both an extended header where these are in force, and nowhere else (this project's choice)
 unfoldable pub MayStartIn : Phase → Core → Side → Message → Type 0
 MayStartIn (Transmission export) core Client m =
-    IsTrue (is_request m) × (core.disconnected ≡ false) × (is_extended m ≡ core.extended)
+    (core.disconnected ≡ false) × (is_extended m ≡ core.extended)
 MayStartIn (Transmission export) core Server m =
     IsTrue (is_some (request_of_reply core m)) × (is_extended m ≡ core.extended)
 MayStartIn phase core s m = turn phase ≡ Some s
@@ -68,54 +59,9 @@ MayStartIn phase core s m = turn phase ≡ Some s
 abbrev pub MayStart : Core → Side → Message → Type 0
 MayStart core s m = MayStartIn core.phase core s m
 
--- a reply to this request: as many bytes as it asks for, and nothing is refused at its head or its last byte
-unfoldable pub MayReply : Profile → Bool → Exporting → Operation → Message → Type 0
-MayReply profile structured export e (Simple error cookie payload) =
-    (length payload ≡ simple_length e error) × (simple_fault structured (Some e) error ≡ None)
-    × (simple_last_fault export (Some e) error ≡ None)
-MayReply profile structured export e (Chunk flags kind cookie payload) =
-    (chunk_head_fault structured (Some e) ≡ None)
-    × (chunk_fault false (kind == chunks.NONE) export e (with_reply e (Chunk flags kind cookie payload)) flags
-    (read_as profile kind) payload ≡ None)
-MayReply profile structured export e (ExtendedChunk flags kind cookie offset payload) =
-    (chunk_head_fault structured (Some e) ≡ None)
-    × (chunk_fault true (kind == chunks.NONE) export e (with_reply e (ExtendedChunk flags kind cookie offset payload))
-    flags (read_as profile kind) payload ≡ None)
-    × (offset ≡ e.offset)
-MayReply profile structured export e _ = ⊥
-
--- a reply answers the outstanding request with its cookie
-abbrev pub AnswersOne : Core → Exporting → (cookie : ℕ) → Message → Type 0
-AnswersOne core export cookie m =
-    (k : ℕ) × (e : Operation) × (target cookie core.entries ≡ Some k) × (operation k core.entries ≡ Some e)
-    × MayReply core.profile core.structured export e m
-
--- a message may complete in a phase where nothing is refused at its head or at its last byte
+-- a message may complete in a phase where its bytes are read as it: nothing is refused at its head or at its last byte
 unfoldable pub MayComplete : Core → Phase → Message → Type 0
-MayComplete core Greet (Greeting flags) = greeting_fault flags ≡ None
-MayComplete core Flags (ClientFlags flags) = client_flags_fault core.offered flags ≡ None
-MayComplete core Choosing (Choice id payload) = Unit {0}
-MayComplete core Naming (Exported size flags padded) =
-    (padded ≡ not (has core.client_flags handshake.C_NO_ZEROES)) × (export_fault size flags ≡ None)
-MayComplete core Aborting (Answer option kind payload) =
-    answer_fault options.ABORT option (abort_fault kind (length payload)) ≡ None
-MayComplete core (Answering asked given info) (Answer option kind payload) =
-    (answer_head_fault core.profile asked (is_proper_option asked given) (takes_contexts asked given) info option kind
-    (length payload) ≡ None)
-    × (answer_last_fault core.profile asked (is_proper_option asked given) core.selection kind payload ≡ None)
-MayComplete core (Transmission export) (Request flags command cookie offset len payload) =
-    (request_fault command offset len ≡ None) × (cookie_fault command (target cookie core.entries) ≡ None)
-    × (core.extended ≡ false)
-MayComplete core (Transmission export) (Simple error cookie payload) =
-    AnswersOne core export cookie (Simple error cookie payload)
-MayComplete core (Transmission export) (Chunk flags kind cookie payload) =
-    AnswersOne core export cookie (Chunk flags kind cookie payload)
-MayComplete core (Transmission export) (ExtendedRequest flags command cookie offset len payload) =
-    (extended_request_fault flags command offset len ≡ None)
-    × (cookie_fault command (target cookie core.entries) ≡ None) × (core.extended ≡ true)
-MayComplete core (Transmission export) (ExtendedChunk flags kind cookie offset payload) =
-    AnswersOne core export cookie (ExtendedChunk flags kind cookie offset payload)
-MayComplete _ _ _ = ⊥
+MayComplete core phase m = judge_in phase core core (side m) (enc m) ≡ Whole m
 
 -- the message gives the READ that it answers a byte of x
 abbrev pub gives : Option Operation → Message → ℕ → Bool
@@ -195,10 +141,8 @@ filter_in has_contexts flags command payload =
 -- what a completed message leads to
 unfoldable pub complete : Core → Message → Core
 complete core (Greeting flags) = record core { phase = next_phase core.phase (Greeting flags); offered = flags }
-complete core (ClientFlags flags) = record core {
-  phase = next_phase core.phase (ClientFlags flags);
-  client_flags = flags;
-}
+complete core (ClientFlags flags) =
+    record core { phase = next_phase core.phase (ClientFlags flags); client_flags = flags }
 complete core (Choice id payload) = record core {
   phase = next_phase core.phase (Choice id payload);
   selection = selection_at id payload core.selection;
@@ -259,29 +203,28 @@ makes_due core (Completes s m) k x =
     is_reply_to core m k
     && (is_by_chunk core.profile (operation k core.entries)
     && (ends_reply m || (inside_at core k x && gives (operation k core.entries) m x)))
-makes_due core (Byte s b) k x = false
-makes_due core (Serves e) k x = false
+makes_due core item k x = false
 
 -- what the item makes due was served
 abbrev pub IsServedFor : State → Item → Type 0
 IsServedFor state item = (k x : ℕ) → IsTrue (makes_due state.core item k x)
     → IsServedAt (inside_at state.core k) state.served k x
 
--- what an item needs: a start its message's fields and turn, a completion what `MayComplete` says, both that what they
--- make due was served; a service a completed request that may be served so; a byte nothing
+-- what an item needs: a start that its message is of bytes, and its turn, a completion what `MayComplete` says, both
+-- that what they make due was served; a service a completed request that may be served so; a byte nothing
 abbrev pub Allows : State → Item → Type 0
 Allows state (Byte s b) = Unit {0}
-Allows state (Starts s m) = (side m ≡ s) × IsSendable m × MayStart state.core s m × IsServedFor state (Starts s m)
+Allows state (Starts s m) =
+    (side m ≡ s) × AreBytes (enc m) × MayStart state.core s m × IsServedFor state (Starts s m)
 Allows state (Completes s m) = MayComplete state.core state.core.phase m × IsServedFor state (Completes s m)
 Allows state (Serves e) =
     (0 < e.request) × (e.request ≤ length state.core.entries) × MayServe (inside_at state.core e.request) state.served e
 
 -- what an item leads to: bytes and starts change nothing
 abbrev pub after : State → Item → State
-after state (Byte s b) = state
-after state (Starts s m) = state
 after state (Completes s m) = record { core = complete state.core m; served = state.served }
 after state (Serves e) = record { core = state.core; served = state.served ++ e ∷ [] }
+after state item = state
 
 -- each item is allowed where it stands
 abbrev pub Obeys : State → List Item → Type 0

@@ -11,17 +11,13 @@ use Rattle.nbd_wire.specs.declared.sizes.Sizes.{Sizes}
 use Rattle.nbd_wire.specs.declared.sizes.Sizing.{Sizing}
 use Rattle.nbd_wire.specs.protocol.Payloads.{behind_name, info_of, is_go, number_at}
 
--- n is a power of 2: one bit of it is set
-abbrev pub is_power : ℕ → Bool
-is_power n = count_ones n == 1
-
--- a server may announce these sizes: the least and the preferred one are powers of 2, the least is 65,536 at most, the
--- preferred one neither below 512 nor below the least, and the largest is not 0 (proto.md, "Size constraints"; that a
--- largest below the preferred one is taken is this project's choice)
+-- a server may announce these sizes: the least and the preferred one are powers of 2 (one bit of them is set), the
+-- least is 65,536 at most, the preferred one neither below 512 nor below the least, and the largest is not 0 (proto.md,
+-- "Size constraints"; that a largest below the preferred one is taken is this project's choice)
 abbrev pub are_allowed : Sizes → Bool
 are_allowed sizes =
-    is_power sizes.least && nat_le sizes.least LEAST_SIZE
-    && is_power sizes.preferred && nat_le PREFERRED_SIZE sizes.preferred
+    (count_ones sizes.least == 1) && nat_le sizes.least LEAST_SIZE
+    && (count_ones sizes.preferred == 1) && nat_le PREFERRED_SIZE sizes.preferred
     && nat_le sizes.least sizes.preferred
     && not (sizes.largest == 0)
 

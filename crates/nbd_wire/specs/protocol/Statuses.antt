@@ -1,6 +1,6 @@
 -- What the reply to a BLOCK_STATUS says of its range (proto.md, "Structured reply types").
 use Rattle.std.specs.Prelude.{ℕ, List, [], ◌∷◌, ◌++◌, ◌+◌, ◌-◌, ◌==◌, ◌&&◌, ◌||◌, Bool, true, false, not, min, codes, bytes_eq, if◌then◌else◌, option_to_list, take}
-use Rattle.std.specs.List.{list_any}
+use Rattle.std.specs.List.{list_any, flat_map, list_all}
 use Rattle.nbd_wire.specs.declared.message.Message.{Message}
 use Rattle.nbd_wire.specs.declared.message.Message.TheVariants.{Chunk, ExtendedChunk}
 use Rattle.nbd_wire.specs.declared.chunks.TheConstants as chunks
@@ -23,8 +23,7 @@ status_in _ = []
 
 -- the statuses in these messages, one after the other
 abbrev pub statuses_of : List Message → List Status
-statuses_of [] = []
-statuses_of (m ∷ messages) = status_in m ++ statuses_of messages
+statuses_of messages = flat_map status_in messages
 
 -- the statuses of a request's reply, in the order of their completion
 abbrev pub statuses : Operation → List Status
@@ -46,16 +45,12 @@ is_settled e id = tells (statuses e) id || is_left_out e.filter id
 
 -- each of the contexts is settled
 abbrev pub are_settled : (settled : ℕ → Bool) → List Context → Bool
-are_settled settled [] = true
-are_settled settled (c ∷ contexts) = settled c.id && are_settled settled contexts
+are_settled settled contexts = list_all (λ (c : Context). settled c.id) contexts
 
--- the name of the context whose statuses tell what reads as zeroes (proto.md, "Metadata querying")
-abbrev pub allocation_name : List ℕ
-allocation_name = codes "base:allocation"
-
--- the context with this id is base:allocation
+-- the context with this id is base:allocation, whose statuses tell what reads as zeroes (proto.md, "Metadata querying")
 abbrev pub is_allocation : List Context → ℕ → Bool
-is_allocation contexts id = list_any (λ (c : Context). (c.id == id) && bytes_eq c.name allocation_name) contexts
+is_allocation contexts id =
+    list_any (λ (c : Context). (c.id == id) && bytes_eq c.name (codes "base:allocation")) contexts
 
 -- what extents call zero that follow one another from an offset on, as far as so many bytes go (proto.md, "Metadata
 -- querying")

@@ -1,5 +1,6 @@
 -- What is refused of a message of transmission, in lists of tests (`Tests`), each with its section of proto.md.
 use Rattle.std.specs.Prelude.{ℕ, List, [], ◌∷◌, ◌+◌, if◌then◌else◌, Option, Some, None, Bool, true, false, not, ◌&&◌, ◌||◌, ◌==◌, nat_le, nat_lt, length, is_some}
+use Rattle.std.specs.List.{list_all}
 use Rattle.nbd_wire.specs.declared.chunks.TheConstants as chunks
 use Rattle.nbd_wire.specs.declared.command_flags.TheConstants as command_flags
 use Rattle.nbd_wire.specs.declared.commands.TheConstants as commands
@@ -120,8 +121,7 @@ is_apart p q = nat_le (piece_offset p + piece_size p) (piece_offset q)
 
 -- it stands beside each of these
 abbrev pub is_apart_from : Piece → List Piece → Bool
-is_apart_from p [] = true
-is_apart_from p (q ∷ pieces) = is_apart p q && is_apart_from p pieces
+is_apart_from p pieces = list_all (is_apart p) pieces
 
 -- there is none
 abbrev pub is_no_piece : List Piece → Bool

@@ -6,7 +6,7 @@ use Rattle.nbd_wire.specs.declared.profile.Profile.TheVariants.{Base, Wide}
 use Rattle.nbd_wire.specs.protocol.Explains.{FitsImage, HasNoWrongByte, Start}
 use Rattle.nbd_wire.specs.protocol.Orders.{HasNoOrderFault}
 use Rattle.nbd_wire.specs.protocol.Reports.{Asked, Report, due_in, inside_in}
-use Rattle.nbd_wire.specs.protocol.Operations.{Outcome, Success, Failure, Pending}
+use Rattle.nbd_wire.specs.protocol.Operations.{Outcome, Pending}
 
 -- the order has no fault for the requests of the report, in the profile
 abbrev pub IsFaultless : Profile → Report → List Entry → Type 0
@@ -20,9 +20,8 @@ pub record Passes (profile : Profile) (r : Report) (order : List Entry) (initial
 
 -- the reply was finished
 abbrev pub is_answered : Outcome → Bool
-is_answered Success = true
-is_answered Failure = true
 is_answered Pending = false
+is_answered _ = true
 
 -- the counts of a yes: how many numbered requests there are
 abbrev pub request_count : Report → ℕ

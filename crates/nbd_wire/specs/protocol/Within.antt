@@ -2,7 +2,7 @@
 use Rattle.std.specs.Prelude.{ℕ, zero, suc, List, [], ◌∷◌, ◌++◌, ◌≡◌, length}
 use Rattle.nbd_wire.specs.declared.message.Message.{Message}
 use Rattle.nbd_wire.specs.declared.profile.Profile.{Profile}
-use Rattle.nbd_wire.specs.protocol.Marks.{Item, Byte, Starts, Completes, Serves, pairs}
+use Rattle.nbd_wire.specs.protocol.Marks.{Item, Byte, Completes, pairs}
 use Rattle.nbd_wire.specs.protocol.Captures.{Pair}
 use Rattle.nbd_wire.specs.protocol.Rules.{IsRunOf}
 
@@ -10,10 +10,9 @@ use Rattle.nbd_wire.specs.protocol.Rules.{IsRunOf}
 abbrev pub within : ℕ → List Item → List Message
 within n [] = []
 within n (Completes s m ∷ items) = m ∷ within n items
-within n (Starts s m ∷ items) = within n items
-within n (Serves e ∷ items) = within n items
 within zero (Byte s b ∷ items) = []
 within (suc n) (Byte s b ∷ items) = within n items
+within n (item ∷ items) = within n items
 
 -- the items begin with these bytes
 abbrev pub Begins : List Item → List Pair → Type 0

@@ -3,4 +3,4 @@ use Rattle.nbd_judge.proofs.orders.ShownLemmas.{ShownBefore}
 use Rattle.nbd_judge.proofs.due.least_shown.Given as goal
 
 abbrev pub invariant-loop-i : goal.invariant-loop-i
-invariant-loop-i l = IsLeast (ShownBefore (with_counts l.one.pieces.items l.one.shown.items) l.span l.i) l.least
+invariant-loop-i l = IsLeast (ShownBefore (with_counts l.one.pieces.items l.counts) l.span l.i) l.least

@@ -1,11 +1,11 @@
-use Rattle.nbd_order.proofs.Common.{◌≡◌, ℕ, suc, ◌+◌, ◌≤◌, length, inl, inr, sym, ◌∙◌, ap, Some, if◌then◌else◌, arith, false, slice_get, slice_get_cases, option_copied, Span, is_in, piece_offset, piece_size, first_shown, looked_up, read_shows}
+use Rattle.nbd_order.proofs.Common.{◌≡◌, ℕ, suc, ◌+◌, ◌≤◌, length, inl, inr, sym, ◌∙◌, ap, Some, if◌then◌else◌, arith, false, slice_get, slice_get_cases, option_copied, Span, is_in, piece_offset, piece_size, first_shown, with_counts, looked_up, read_shows}
 use Rattle.nbd_order.proofs.DueLemmas.{from_end, from_next, shown_from}
 use Rattle.nbd_order.proofs.due.shown_at.Goals as goal
 
 pub loop-i-preserved : goal.loop-i-preserved
 loop-i-preserved c =
     let ps = c.args.one.now.pieces.items in
-    let cs = c.args.one.now.shown.items in
+    let cs = c.counts-counts.result.now in
     let i : ℕ = c.loop-i.i in
     let x : ℕ = c.args.offset in
     let p = c.in_ok-get.field-0.now in
@@ -21,5 +21,5 @@ loop-i-preserved c =
 pub returns : goal.returns
 returns c =
     let ps = c.args.one.now.pieces.items in
-    let cs = c.args.one.now.shown.items in
-    sym (from_end ps cs c.loop-i.i c.args.offset (omega arith)) ∙ c.loop-i.invariant ∙ ap (λ ws. first_shown ws c.args.offset) (read_shows c.args.one.now c.requires)
+    let cs = c.counts-counts.result.now in
+    sym (from_end ps cs c.loop-i.i c.args.offset (omega arith)) ∙ c.loop-i.invariant ∙ ap (λ ws. first_shown ws c.args.offset) (ap (with_counts ps) c.counts-counts.ensures ∙ read_shows c.args.one.now c.requires)

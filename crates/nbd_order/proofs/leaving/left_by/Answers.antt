@@ -1,6 +1,5 @@
 use Rattle.nbd_order.proofs.Common.{ℕ, ◌<◌, Option, sym, ◌∙◌, subst}
-use Rattle.nbd_wire.specs.protocol.Explains.{FitsImage}
-use Rattle.nbd_wire.specs.protocol.Operations.{Exporting}
+use Rattle.nbd_wire.specs.Prelude.{FitsImage, Exporting}
 use Rattle.nbd_export.specs.Extents.{byte_of, size_of}
 use Rattle.nbd_judge.specs.Beginnings.{initial_of}
 use Rattle.nbd_judge.proofs.contents.StartLemmas.{exporting_of}

@@ -1,5 +1,5 @@
 use Rattle.nbd_order.proofs.Common.{ℕ, sym, ◌∙◌, ap, subst, arith, ◌≡◌, ◌+◌, ◌<◌, ◌≤◌}
-use Rattle.nbd_wire.specs.protocol.Explains.{known}
+use Rattle.nbd_wire.specs.Prelude.{known}
 use Rattle.nbd_export.specs.Extents.{byte_of, size_of}
 use Rattle.nbd_export.proofs.HeldLemmas.{slice_get-held_from, slice_get-held_from-none}
 use Rattle.nbd_order.proofs.offsets.given_byte.Goals as goal

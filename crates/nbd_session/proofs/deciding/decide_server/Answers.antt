@@ -1,7 +1,8 @@
-use Rattle.nbd_session.proofs.Common.{arith, ◌≡◌, ◌++◌, length, refl, sym, ◌∙◌, subst, Server, operation_counted, abort_answer, answer, greeting, reply_with, IsReplyHead, whole_head_by}
+use Rattle.nbd_session.proofs.Common.{◌≡◌, ◌++◌, length, refl, sym, ◌∙◌, subst, Server, operation_counted, abort_answer, answer, export_answer, greeting, has, ap, reply_with, IsReplyHead, whole_head_by}
+use Rattle.nbd_wire.specs.declared.handshake.TheConstants as handshake
 use Rattle.nbd_wire.specs.protocol.States as definitions
 use Rattle.nbd_state.specs.declared.state.Phase.{Phase}
-use Rattle.nbd_session.proofs.expecting.PhaseLemmas.{aborting_of, answering_of, expected_in, exported_head, greet_of, naming_of, refused_in, transmission_of}
+use Rattle.nbd_session.proofs.expecting.PhaseLemmas.{aborting_of, answering_of, expected_in, greet_of, naming_of, refused_in, transmission_of}
 use Rattle.nbd_session.proofs.expecting.ReplyLemmas.{if_err, if_ok, reply_head_is}
 use Rattle.nbd_session.proofs.deciding.decide_server.Goals as goal
 
@@ -18,7 +19,18 @@ returns-in-Greet c =
     }
 
 pub returns-in-Naming : goal.returns-in-Naming
-returns-in-Naming c = grind (arith, if_ok, expected_in, naming_of, if_err, refused_in, exported_head)
+returns-in-Naming c =
+    let head = c.args.head.now in
+    let len : length head ≡ 10 = subst (λ (p : Phase). whole_head_by p c.args.state.now.disconnected c.args.state.now.extended Server c.args.head.now) c.in-Naming.is c.requires in
+    record {
+      expected = if_ok c.exported.result _ _ c.exported.ensures.expected (λ x good core s payload.
+          expected_in c.args.counted core Server head payload 10 x definitions.Naming _ (naming_of core.phase (sym c.in-Naming.is ∙ s.phase_is)) refl len
+          (ap (λ f. export_answer (has f handshake.C_NO_ZEROES) (head ++ payload)) (sym s.client_flags_are) ∙ good core payload));
+      placed = if_ok c.exported.result _ _ c.exported.ensures.placed (λ x placed core s. placed core);
+      refused = if_err c.exported.result _ _ c.exported.ensures.refused (λ fault bad core s.
+          refused_in c.args.counted core Server head fault definitions.Naming _ (naming_of core.phase (sym c.in-Naming.is ∙ s.phase_is)) refl (sym len)
+          (ap (λ f. (export_answer (has f handshake.C_NO_ZEROES) head).head_fault) (sym s.client_flags_are) ∙ bad));
+    }
 
 pub returns-in-Aborting : goal.returns-in-Aborting
 returns-in-Aborting c =

@@ -1,7 +1,7 @@
 use Rattle.nbd_session.proofs.Common.{refl, sym, ◌∙◌, ap, Server, has, operation_counted, abort_answer, export_answer, greeting, reply_with, decision_with, reading_by_decision}
 use Rattle.nbd_wire.specs.declared.handshake.TheConstants as handshake
 use Rattle.nbd_wire.specs.protocol.States as definitions
-use Rattle.nbd_session.proofs.expecting.PhaseLemmas.{aborting_of, answering_of, decided_in, exported_head, greet_of, head_in, naming_of, transmission_of}
+use Rattle.nbd_session.proofs.expecting.PhaseLemmas.{aborting_of, answering_of, decided_in, greet_of, head_in, naming_of, transmission_of}
 use Rattle.nbd_session.proofs.expecting.ReplyLemmas.{if_err, if_ok, no_reply_bad, reply_begins, reply_whole}
 use Rattle.nbd_session.proofs.deciding.server_head_length.Goals as goal
 
@@ -11,9 +11,7 @@ returns-in-Greet-clause-known c = head_in c.args.state.now Server c.args.head.no
 
 pub returns-in-Naming-clause-known : goal.returns-in-Naming-clause-known
 returns-in-Naming-clause-known c = head_in c.args.state.now Server c.args.head.now 10 _ c.in-Naming.is
-    (λ core counted s. let no_zeroes = has core.client_flags handshake.C_NO_ZEROES in
-    let d = decided_in counted core Server c.args.head.now definitions.Naming (export_answer no_zeroes c.args.head.now) (naming_of core.phase (sym c.in-Naming.is ∙ s.phase_is)) refl in
-    (d.0, d.1, d.2 ∙ exported_head no_zeroes c.args.head.now)) (λ e. e)
+    (λ core counted s. decided_in counted core Server c.args.head.now definitions.Naming (export_answer (has core.client_flags handshake.C_NO_ZEROES) c.args.head.now) (naming_of core.phase (sym c.in-Naming.is ∙ s.phase_is)) refl) (λ e. e)
 
 pub returns-in-Aborting-clause-known : goal.returns-in-Aborting-clause-known
 returns-in-Aborting-clause-known c = head_in c.args.state.now Server c.args.head.now 20 _ c.in-Aborting.is

@@ -1,7 +1,7 @@
 //! The condition of `check` on the length of a capture, as a test.
 
 ghost use Rattle.std.specs.Prelude.{◌<◌, ◌^◌, ◌↔◌, IsTrue, length};
-ghost use Rattle.nbd_wire.specs.protocol.Captures.{flat};
+ghost use Rattle.nbd_wire.specs.Prelude.{flat};
 ghost use Rattle.nbd_judge.specs.Captures.{records_of};
 
 use nbd_wire::Side;

@@ -1,4 +1,4 @@
-use Rattle.nbd_judge.proofs.Common.{served_atomically, sizes_of}
+use Rattle.nbd_judge.proofs.Common.{◌∙◌, ap, sym, served_atomically, Parts, sizes_of}
 use Rattle.nbd_judge.proofs.orders.ServiceLemmas.{full, not_full}
 use Rattle.nbd_judge.proofs.service.Service.fault.Goals as goal
 
@@ -7,9 +7,9 @@ returns-in-Whole c = λ span within entries k is_span. rw c.in-Whole.is (λ h x 
 
 pub returns-then-left-eq0 : goal.returns-then-left-eq0
 returns-then-left-eq0 c = λ span within entries k is_span. rw c.in-InParts.is (λ h x u.
-    full span within is_span entries k (sizes_of c.in-InParts.spans) c.in-InParts.left h.1 h.0 c.if-left-eq0.true x)
+    full span within is_span entries k (sizes_of c.in-InParts.parts.value.spans) c.in-InParts.parts.value.left h.1 h.0 (ap (λ (p : Parts). p.left) (sym c.deref.ensures) ∙ c.if-left-eq0.true) x)
 
 pub returns-else-left-eq0 : goal.returns-else-left-eq0
 returns-else-left-eq0 c = λ span within entries k is_span. rw c.in-InParts.is (λ h.
-    let n = not_full span within is_span entries k (sizes_of c.in-InParts.spans) c.in-InParts.left h.1 c.if-left-eq0.false in
+    let n = not_full span within is_span entries k (sizes_of c.in-InParts.parts.value.spans) c.in-InParts.parts.value.left h.1 (λ e. c.if-left-eq0.false (ap (λ (p : Parts). p.left) c.deref.ensures ∙ e)) in
     ((n.0, tt, n.1), h.0))

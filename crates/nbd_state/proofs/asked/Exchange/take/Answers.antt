@@ -1,26 +1,26 @@
-use Rattle.nbd_state.proofs.Common.{◌≡◌, ◌++◌, ◌∷◌, [], ◌∙◌, ◌&&◌, ap, if◌then◌else◌, length, not, refl, subst, sym, noted, HasTaken}
-use Rattle.nbd_state.proofs.NotingLemmas.{counted_more, more_counts, noted_piece, open_still}
+use Rattle.nbd_state.proofs.Common.{◌≡◌, ◌++◌, ◌∙◌, ap, length, refl, subst, sym, noted, HasTaken}
+use Rattle.nbd_state.proofs.NotingLemmas.{counted_more, noted_piece, open_still}
 use Rattle.nbd_state.proofs.RecordingLemmas.{exchange_shows_reply, pieces_kept, told_kept}
 use Rattle.nbd_state.proofs.asked.Exchange.take.Goals as goal
 
 pub returns-clause-taken : goal.returns-clause-taken
 returns-clause-taken c = λ export e m s u n f p none.
     let x = c.args.self.now in
-    let pushed = c.in_ok-push_if.ensures in
-    let counts_are : c.count_if.new.shown.items ≡ x.asked.shown.items ++ more_counts c.args.piece c.args.ends c.args.counts.now =
-    c.in_ok-count_if.ensures ∙ ap (λ b. x.asked.shown.items ++ (if b && not c.args.ends then c.args.counts.now ∷ [] else [])) c.is_some.ensures in
+    let added = c.add.new.self in
+    let pushed = c.in_ok-add.ensures.items in
+    let counts_are = c.in_ok-add.ensures.counts in
     subst (λ y. HasTaken export e m c.args.counts.now x y) (sym c.note.ensures.kept) (
       exchange_shows_reply export e m x _ c.args.ends c.args.fails c.args.counts.known s u n f
           (record { flags = refl; command = refl; cookie = refl; offset = refl; length = refl; payload = refl; proper = refl; outside = refl })
           c.note.ensures.known refl c.note.ensures.outcome
           (pieces_kept export e m x.asked.pieces.items _ s.pieces_are (λ q. none) (pushed ∙ ap (λ l. x.asked.pieces.items ++ l) (sym p)))
-          (told_kept export e m x c.args.ends s u n _ none c.clear_if.ensures.kept)
+          (told_kept export e m x c.args.ends s u n added.told none c.in_ok-add.ensures.told)
           (λ g. (
             c.note.ensures.ended ∙ open_still x.asked.ended_at c.args.ends c.args.counts.now (s.is_open u).0 g,
-            λ q. ap (λ cs. length cs) counts_are ∙ counted_more x.asked.pieces.items x.asked.shown.items c.args.piece c.args.ends c.args.counts.now g ((s.is_open u).1 q) ∙ ap (λ ps. length ps) (sym pushed),
+            λ q. ap (λ cs. length cs) counts_are ∙ counted_more x.asked.pieces.items x.asked.pieces.counts c.args.piece c.args.ends c.args.counts.now g ((s.is_open u).1 q) ∙ ap (λ ps. length ps) (sym pushed),
           )),
       record {
         ended = c.note.ensures.ended ∙ ap (λ b. noted x.asked.ended_at b c.args.counts.now) (sym n);
-        shown = noted_piece export e m x c.args.piece c.args.ends c.args.counts.now c.push_if.new.pieces.items c.count_if.new.shown.items s u n p pushed counts_are;
+        shown = noted_piece export e m x c.args.piece c.args.ends c.args.counts.now added.items added.counts s u n p pushed counts_are;
       },
     )

@@ -1,5 +1,5 @@
 use Rattle.std.proofs.Common.{◌≡◌, ◌+◌, length, take}
-use Rattle.nbd_wire.specs.protocol.Captures.{flat}
+use Rattle.nbd_wire.specs.Prelude.{flat}
 use Rattle.nbd_judge.specs.Captures.{records_of}
 use Rattle.nbdcheck_first.proofs.tests.judge.countable.are_countable.Given as goal
 

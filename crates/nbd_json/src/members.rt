@@ -1,20 +1,8 @@
-//! What the commands print, as objects of JSON, a line each (docs/json.md). They are made of the lines that the commands print
-//! otherwise, in which nbd_story names the numbers.
+//! The members of the object that a line becomes: the values of its form, the fields of a message, or the numbers in words.
 
-ghost use Rattle.std.specs.Prelude.{◌≡◌, ◌⊎◌, Err, IfErr, IfOk, Ok};
-ghost use Rattle.nbd_files.specs.declared.fault.RunFault.TheVariants.{Memory, Write};
-
-use memchr::memchr;
-use nbd_capture::{WriteFault, write_whole};
-use nbd_files::RunFault;
-use nbd_lint::Object;
-use nbd_story::{BEGUN, DIGITS, ENDED, NAMED};
+use crate::marks::{BEGUN, DIGITS, ENDED, NAMED};
+use crate::object::Object;
 use std::alloc::{AllocError, Global};
-use std::io;
-use std::io::{ErrorKind, Write};
-
-/// Stands in the first object. A change that a reader of the objects would not bear raises it.
-const FORMAT: u64 = 1;
 
 /// The words behind what holds in whatever order the requests were served.
 const ANY: &str = " in any order";
@@ -55,151 +43,8 @@ open search gave up: {reason} at request {request} offset {offset}";
 /// What stands in a form for no word.
 const NONE: &str = "-";
 
-/// Which lines are told as objects.
-#[derive(Clone, Copy, Drop)]
-pub enum Lines {
-    /// Those of `show`.
-    Messages,
-    /// Those of `show --names`.
-    Words,
-    /// Those of the other commands.
-    Others,
-}
-
-/// A writer of lines, which writes an object for each.
-#[derive(Drop)]
-pub struct Objects<W> {
-    alloc: Global,
-    writer: W,
-    lines: Lines,
-    /// The line that has begun.
-    line: Vec<u8>,
-    is_first: bool,
-    /// Memory was refused.
-    is_refused: bool,
-}
-
-impl<W: Write> Objects<W> {
-    /// One over this writer; takes no memory.
-    pub fn new(alloc: Global, writer: W, lines: Lines) -> Objects<W> {
-        Objects {
-            alloc,
-            writer,
-            lines,
-            line: Vec::new(alloc),
-            is_first: true,
-            is_refused: false,
-        }
-    }
-
-    /// The answer of what wrote the lines, once all that is buffered is written; where memory was refused for an object, that.
-    pub fn end<A: Drop>(&mut self, answer: Result<A, RunFault>) -> Result<A, RunFault>
-        ensures answer { IfOk result (λ given. answer ≡ Ok given) }
-        ensures fault { IfErr result (λ fault. (answer ≡ Err fault) ⊎ (fault ≡ Write) ⊎ (fault ≡ Memory)) }
-    {
-        match answer {
-            Ok(_) if self.writer.flush().is_err() => Err(RunFault::Write),
-            Err(_) if self.is_refused => Err(RunFault::Memory),
-            answer => answer,
-        }
-    }
-
-    // Takes more of a line.
-    fn add(&mut self, bytes: &[u8]) -> io::Result<()> {
-        match self.line.extend_from_slice(bytes) {
-            Ok(()) => Ok(()),
-            Err(refused) => self.refuse(refused),
-        }
-    }
-
-    // The object of the line that has come.
-    fn object(&self) -> Result<Vec<u8>, AllocError> {
-        let line = str::from_utf8(&self.line).unwrap_or("");
-        object_of(self.alloc, line, self.lines, self.is_first)
-    }
-
-    // Writes it.
-    fn put(&mut self) -> io::Result<()> {
-        match self.object() {
-            Ok(object) => {
-                self.line.clear();
-                self.is_first = false;
-                written(write_whole(&mut self.writer, &object))
-            }
-            Err(refused) => self.refuse(refused),
-        }
-    }
-
-    fn refuse(&mut self, _: AllocError) -> io::Result<()> {
-        self.is_refused = true;
-        Err(ErrorKind::OutOfMemory.into())
-    }
-}
-
-impl<W: Write> Write for Objects<W> {
-    // (up to the end of a line)
-    fn write(&mut self, buf: &[u8]) -> io::Result<usize> {
-        match memchr(b'\n', buf) {
-            Some(place) => {
-                self.add(&buf[..place])?;
-                self.put()?;
-                Ok(place + 1)
-            }
-            None => {
-                self.add(buf)?;
-                Ok(buf.len())
-            }
-        }
-    }
-
-    fn flush(&mut self) -> io::Result<()> {
-        self.writer.flush()
-    }
-}
-
-fn written(whole: Result<(), WriteFault>) -> io::Result<()> {
-    match whole {
-        Ok(()) => Ok(()),
-        Err(_) => Err(ErrorKind::Other.into()),
-    }
-}
-
-// The object of a line; the first one tells the format.
-fn object_of(
-    alloc: Global,
-    line: &str,
-    lines: Lines,
-    is_first: bool,
-) -> Result<Vec<u8>, AllocError> {
-    let mut object = Object::new(alloc);
-    if is_first {
-        object.number("format", FORMAT);
-    }
-    match (lines, side_of(line)) {
-        (Lines::Messages, Some((side, fields))) => {
-            object.text("side", side);
-            tell_fields(alloc, fields, &mut object);
-        }
-        (Lines::Words, Some((side, words))) => {
-            object.text("side", side);
-            tell_words(alloc, words, &mut object);
-        }
-        _ => tell_line(alloc, line, &mut object),
-    }
-    object.line()
-}
-
-// The side of a message, and its line behind that.
-fn side_of(line: &str) -> Option<(&'static str, &str)> {
-    match line.split_once(" ")? {
-        ("C", behind) => Some(("client", behind)),
-        ("S", behind) => Some(("server", behind)),
-        _ => None,
-    }
-}
-
-// A line of one of the forms, or a fact.
-fn tell_line(alloc: Global, line: &str, object: &mut Object) {
+/// Adds the members of a line of one of the forms, or of a fact.
+pub fn tell_line(alloc: Global, line: &str, object: &mut Object) {
     for row in FORMS.split("\n") {
         let (verdict, behind) = row.split_once(" ").unwrap_or((row, ""));
         let (kind, form) = behind.split_once(" ").unwrap_or((behind, ""));
@@ -330,8 +175,8 @@ fn tell_value(name: &str, value: &str, object: &mut Object) {
     }
 }
 
-// The fields of a message, as `show` prints them.
-fn tell_fields(alloc: Global, fields: &str, object: &mut Object) {
+/// Adds the fields of a message, as `show` prints them.
+pub fn tell_fields(alloc: Global, fields: &str, object: &mut Object) {
     let mut is_name = true;
     for field in fields.split(" ") {
         match field.split_once("=") {
@@ -354,8 +199,8 @@ fn tell_cookie(alloc: Global, cookie: &str, object: &mut Object) {
     }
 }
 
-// The words of a message, and what became of a request.
-fn tell_words(alloc: Global, words: &str, object: &mut Object) {
+/// Adds the words of a message, and what became of a request.
+pub fn tell_words(alloc: Global, words: &str, object: &mut Object) {
     tell_named_numbers(alloc, "text", words, object);
     if let Some(result) = result_in(words) {
         object.text("result", result);

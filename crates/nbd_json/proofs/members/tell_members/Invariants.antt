@@ -1,6 +1,6 @@
 use denote.Text.{Utf8}
 use denote.Shadow.{shadow}
-use Rattle.nbd_explain.proofs.objects.tell_members.Given as goal
+use Rattle.nbd_json.proofs.members.tell_members.Given as goal
 
 -- says that each `&str` the loop changes is text: keep it, and add clauses with ×
 abbrev pub invariant-loop-part : goal.invariant-loop-part

@@ -1,6 +1,6 @@
 //! Verdicts.
 
-use nbd_session::WireFault;
+use crate::fault::WireFault;
 
 /// What is wrong with an order of service (this project's choice).
 #[derive(Clone, Copy, Drop)]

@@ -1,0 +1,200 @@
+//! The pieces that a request was answered, and what stands beside them.
+
+ghost use Rattle.std.specs.Prelude.{◌≡◌, ◌==◌, ◌&&◌, ◌++◌, ◌∷◌, ℕ, [], false, not, true, IfOk, IfSome, MatchOption, OnOk, if◌then◌else◌, is_some};
+ghost use Rattle.nbd_state.specs.Filters.{is_settled_by};
+ghost use Rattle.nbd_state.specs.Indexes.{Indexes};
+ghost use Rattle.nbd_state.specs.internal.Keeping.{nothing_told, pieces_kept};
+ghost use Rattle.nbd_wire.specs.Prelude.{chunk_piece};
+
+use crate::asking::Telling;
+use crate::index::SpanIndex;
+use crate::many::Many;
+use nbd_wire::Piece;
+use std::alloc::{AllocError, Global};
+use std::marker::Model;
+use std::ops::DerefSlice;
+use std::{mem, slice};
+
+/// What a READ was answered, in the order of the reply messages, or what a status called zero. Most requests have one
+/// piece at most, which stands here, and take no more memory.
+#[derive(Drop)]
+pub struct Pieces {
+    kept: Kept,
+}
+
+// The pieces, or where they stand.
+#[derive(Drop)]
+enum Kept {
+    Nothing,
+    One(Piece),
+    Many(Box<Many>),
+}
+
+impl Model for Pieces {
+    ghost use Rattle.nbd_state.specs.Pieces.{PiecesView};
+    ghost use Rattle.nbd_state.specs.internal.Keeping.{pieces_kept};
+
+    ghost Value = { PiecesView };
+
+    ghost view = { λ pieces. pieces_kept pieces.kept };
+}
+
+impl DerefSlice for Pieces {
+    type Elem = Piece;
+
+    ghost deref_gives = { λ pieces items. items ≡ pieces.items };
+
+    fn deref(&self) -> &[Piece] {
+        match &self.kept {
+            Kept::Nothing => &[],
+            Kept::One(piece) => slice::from_ref(piece),
+            Kept::Many(many) => many.pieces.as_slice(),
+        }
+    }
+}
+
+impl Pieces {
+    /// None yet, of a request whose reply need not tell these contexts. Where it has to tell each, this takes no memory.
+    pub(crate) fn none(alloc: Global, told: Telling) -> Result<Pieces, AllocError>
+        ensures items { IfOk result (λ pieces. pieces.items ≡ []) }
+        ensures counts { IfOk result (λ pieces. pieces.counts ≡ []) }
+        ensures told { IfOk result (λ pieces. (id : ℕ) → is_settled_by pieces.told id ≡ is_settled_by told id) }
+    {
+        let kept = if told.is_blank() {
+            Kept::Nothing
+        } else {
+            Kept::Many(Many::of(alloc, Vec::new(alloc), told)?)
+        };
+        Ok(Pieces { kept })
+    }
+
+    /// How many numbered requests had completed when the message with each piece had come; of the pieces that stand
+    /// behind these it was the last message of the reply.
+    pub fn counts(&self) -> &[u64]
+        ensures { result.now ≡ self.now.counts }
+    {
+        match &self.kept {
+            Kept::Many(many) => many.counts.as_slice(),
+            _ => &[],
+        }
+    }
+
+    /// What of the contexts the reply need not tell any more; None where it has to tell each.
+    pub(crate) fn told(&self) -> Option<&Telling>
+        ensures { MatchOption result ((id : ℕ) → is_settled_by self.now.told id ≡ false) (λ told. told.now ≡ self.now.told) }
+    {
+        match &self.kept {
+            Kept::Many(many) => Some(&many.told),
+            _ => None,
+        }
+    }
+
+    /// An index of the pieces, if there is one.
+    pub(crate) fn index(&self) -> Option<&SpanIndex>
+        ensures { IfSome result (λ index. Indexes index.now.sizes self.now.items) }
+    {
+        match &self.kept {
+            Kept::Many(many) => Some(&many.index),
+            _ => None,
+        }
+    }
+
+    /// A reply message gave this piece, if any, when so many requests had completed; the last one ends the reply. An
+    /// `Err` says that memory ran out.
+    pub(crate) fn add(
+        &mut self,
+        alloc: Global,
+        piece: Option<Piece>,
+        count: u64,
+        ends: bool,
+    ) -> Result<(), AllocError>
+        ensures items { IfOk result (λ _. self.new.items ≡ self.old.items ++ chunk_piece piece) }
+        ensures counts { IfOk result (λ _. self.new.counts ≡ self.old.counts
+            ++ (if is_some piece && not ends then count ∷ [] else [])) }
+        ensures told { IfOk result (λ _. ends ≡ false → (id : ℕ) →
+            is_settled_by self.new.told id ≡ is_settled_by self.old.told id) }
+    {
+        let kept = mem::replace(&mut self.kept, Kept::Nothing);
+        self.kept = kept.with(alloc, piece, count, ends)?;
+        Ok(())
+    }
+
+    /// A reply message was the status of the context with this id, which told these pieces; it may end the reply. An `Err`
+    /// says that memory ran out.
+    pub(crate) fn tell(
+        &mut self,
+        alloc: Global,
+        id: u32,
+        zeroes: Vec<Piece>,
+        ends: bool,
+    ) -> Result<(), AllocError>
+        ensures items { IfOk result (λ _. self.new.items ≡ self.old.items ++ zeroes.items) }
+        ensures counts { IfOk result (λ _. self.new.counts ≡ self.old.counts) }
+        ensures told { IfOk result (λ _. ends ≡ false → (q : ℕ) →
+            is_settled_by self.new.told q ≡ (if id == q then true else is_settled_by self.old.told q)) }
+    {
+        match mem::replace(&mut self.kept, Kept::Nothing) {
+            Kept::Nothing if ends && zeroes.is_empty() => Ok(()),
+            kept => {
+                let mut many = kept.into_many(alloc)?;
+                many.tell(alloc, id, zeroes, ends)?;
+                self.kept = Kept::Many(many);
+                Ok(())
+            }
+        }
+    }
+}
+
+impl Kept {
+    // The piece, if any, alone.
+    fn at_most_one(piece: Option<Piece>) -> Kept
+        ensures { pieces_kept result ≡ record { items = chunk_piece piece; counts = []; told = nothing_told } }
+    {
+        match piece {
+            Some(piece) => Kept::One(piece),
+            None => Kept::Nothing,
+        }
+    }
+
+    // After a reply message that gave this piece, if any, when so many requests had completed.
+    fn with(
+        self,
+        alloc: Global,
+        piece: Option<Piece>,
+        count: u64,
+        ends: bool,
+    ) -> Result<Kept, AllocError>
+        ensures items { IfOk result (λ kept. (pieces_kept kept).items ≡ (pieces_kept self).items ++ chunk_piece piece) }
+        ensures counts { IfOk result (λ kept. (pieces_kept kept).counts ≡ (pieces_kept self).counts
+            ++ (if is_some piece && not ends then count ∷ [] else [])) }
+        ensures told { IfOk result (λ kept. ends ≡ false → (id : ℕ) →
+            is_settled_by (pieces_kept kept).told id ≡ is_settled_by (pieces_kept self).told id) }
+    {
+        match self {
+            Kept::Nothing if ends || piece.is_none() => Ok(Kept::at_most_one(piece)),
+            kept => {
+                let mut many = kept.into_many(alloc)?;
+                many.add(alloc, piece, count, ends)?;
+                Ok(Kept::Many(many))
+            }
+        }
+    }
+
+    // The same, with room for what stands beside pieces.
+    fn into_many(self, alloc: Global) -> Result<Box<Many>, AllocError>
+        ensures items { IfOk result (λ many. many.value.pieces.items ≡ (pieces_kept self).items) }
+        ensures counts { IfOk result (λ many. many.value.counts.items ≡ (pieces_kept self).counts) }
+        ensures told { IfOk result (λ many. (id : ℕ) →
+            is_settled_by many.value.told id ≡ is_settled_by (pieces_kept self).told id) }
+    {
+        match self {
+            Kept::Nothing => Many::of(alloc, Vec::new(alloc), Telling::none(alloc)),
+            Kept::One(piece) => {
+                let mut pieces = Vec::new(alloc);
+                pieces.push(piece)?;
+                Many::of(alloc, pieces, Telling::none(alloc))
+            }
+            Kept::Many(many) => Ok(many),
+        }
+    }
+}
