@@ -71,7 +71,7 @@ impl Text {
         }
         self.came(&came, offset, sources.story)
             .expected(compared, offset, sources)
-            .differing(compared)
+            .differing(compared, sources.story)
             .say("assumes: the start is right, this is the only connection\n")
             .window(&sources.story.recording, came.place)
     }

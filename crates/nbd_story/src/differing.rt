@@ -1,9 +1,12 @@
 //! How many bytes of a READ are wrong, or of those that a BLOCK_STATUS called zero, and the first of them.
 
+use crate::content::found_byte;
 use crate::explanation::Sources;
-use crate::layers::{Brought, byte_at, first_of};
+use crate::layers::{Brought, byte_at};
+use crate::statuses::NO_DESCRIPTOR;
+use crate::story::Story;
 use crate::text::Text;
-use crate::told::{between, end_of, has_offset};
+use crate::told::{Request, between, common, end_of};
 use nbd_export::{Contents, Extents, HeldPart};
 use nbd_wire::{Entry, Part};
 use std::alloc::AllocError;
@@ -16,12 +19,10 @@ const SHOWN: u64 = 16;
 pub struct Compared<'a> {
     /// The place of the entry.
     pub place: usize,
-    is_status: bool,
+    request: &'a Request,
     part: Part,
     /// What the export held of it before.
     pub held: Extents,
-    /// What the READ got of it, or the BLOCK_STATUS called zero.
-    got: Vec<Brought<'a>>,
 }
 
 impl<'a> Compared<'a> {
@@ -36,35 +37,48 @@ impl<'a> Compared<'a> {
         let part = entry.part.unwrap_or(inside);
         Ok(Compared {
             place,
-            is_status: request.is_status(),
+            request,
             part,
             held: sources.held(place, part)?,
-            got: sources.story.got(entry.request, part)?,
         })
     }
 
     // The offsets at which what came is not what was held.
-    fn differing(&self) -> Differing {
+    fn differing(&self, story: &Story) -> Differing {
+        let number = self.request.number;
         let mut differing = Differing {
             among: 0,
             count: 0,
             first: 0,
             last: 0,
         };
-        for one in &self.got {
-            differing.hold(one, &self.held);
+        let status = story.zeroes_of(number);
+        let mut one = NO_DESCRIPTOR;
+        for _ in 0..status.count() {
+            one = status.after(&one);
+            let part = common(status.called_zero(&one), self.part);
+            let held = HeldPart::Zeroes;
+            differing.hold(&Brought { part, held }, &self.held);
+        }
+        for told in &story.told {
+            if told.answers(number) {
+                differing.hold(&story.brought(self.part, told), &self.held);
+            }
         }
         differing
     }
 
-    // The byte that came for an offset, if one did.
-    fn came_at(&self, offset: u64) -> Option<u8> {
-        for one in &self.got {
-            if has_offset(one.part, offset) {
-                return first_of(one.from(offset));
-            }
+    // The byte at an offset that came, or the one that was held.
+    fn byte(&self, offset: u64, is_came: bool, story: &Story) -> Option<u8> {
+        if !is_came {
+            return byte_at(&self.held, offset);
         }
-        None
+        let came = found_byte(self.request.number, offset, story);
+        if came.place == 0 {
+            None
+        } else {
+            Some(came.byte)
+        }
     }
 }
 
@@ -133,14 +147,14 @@ fn known(held: HeldPart<'_>, part: Part) -> Option<&[u8]> {
 
 impl Text {
     /// Adds how many bytes are wrong that a READ got, or that a BLOCK_STATUS called zero, and the first of them.
-    pub fn differing(self, compared: &Compared<'_>) -> Text {
-        let found = compared.differing();
+    pub fn differing(self, compared: &Compared<'_>, story: &Story) -> Text {
+        let found = compared.differing(story);
         let rest = end_of(compared.part).saturating_sub(found.first);
         let shown = Part {
             offset: found.first,
             length: rest.min(SHOWN),
         };
-        let (among, came) = if compared.is_status {
+        let (among, came) = if compared.request.is_status() {
             (" called zero", "  called  ")
         } else {
             ("", "  came    ")
@@ -155,21 +169,16 @@ impl Text {
             .say(among)
             .fill(places, &[found.first, found.last, found.first])
             .say(came)
-            .row(shown, compared, true)
+            .row(shown, compared, true, story)
             .say("  expected")
-            .row(shown, compared, false)
+            .row(shown, compared, false, story)
     }
 
     // The bytes of a part that came, or those that were held, and two points for one that is not known.
-    fn row(self, part: Part, compared: &Compared<'_>, is_came: bool) -> Text {
+    fn row(self, part: Part, compared: &Compared<'_>, is_came: bool, story: &Story) -> Text {
         let mut text = self;
         for offset in part.offset..end_of(part) {
-            let byte = if is_came {
-                compared.came_at(offset)
-            } else {
-                byte_at(&compared.held, offset)
-            };
-            text = text.byte_or(byte, " {:02x}", " ..");
+            text = text.byte_or(compared.byte(offset, is_came, story), " {:02x}", " ..");
         }
         text.end()
     }

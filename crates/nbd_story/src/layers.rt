@@ -1,7 +1,6 @@
 //! What the export held at an entry of an order, and what a request got for a part of it.
 
 use crate::explanation::Sources;
-use crate::statuses::NO_DESCRIPTOR;
 use crate::story::Story;
 use crate::told::{EMPTY, Request, Told, between, common, end_of, part_in};
 use nbd_export::{Contents, Extents, HeldPart, Kind, Start};
@@ -14,7 +13,7 @@ use std::rc::Rc;
 #[derive(Clone, Copy)]
 pub struct Brought<'a> {
     pub part: Part,
-    held: HeldPart<'a>,
+    pub held: HeldPart<'a>,
 }
 
 impl<'a> Brought<'a> {
@@ -54,8 +53,8 @@ impl Story {
         first_of(self.left_in(Part { offset, length: 1 }, change))
     }
 
-    // What a message brings of a part.
-    fn brought(&self, part: Part, told: &Told) -> Brought<'_> {
+    /// What a message brings of a part.
+    pub fn brought(&self, part: Part, told: &Told) -> Brought<'_> {
         let part = common(told.part, part);
         let before = told.before_last(end_of(told.part).saturating_sub(part.offset));
         let held = if told.is_hole() {
@@ -66,35 +65,15 @@ impl Story {
         Brought { part, held }
     }
 
-    /// What the request with this number got of a part, or called zero of it, in the order of its reply.
-    pub fn got(&self, number: u64, part: Part) -> Result<Vec<Brought<'_>>, AllocError> {
-        let mut got = Vec::new(self.alloc());
-        let status = self.zeroes_of(number);
-        let mut one = NO_DESCRIPTOR;
-        for _ in 0..status.count() {
-            one = status.after(&one);
-            got.push(Brought {
-                part: common(status.called_zero(&one), part),
-                held: HeldPart::Zeroes,
-            })?;
-        }
-        for told in &self.told {
-            if told.answers(number) {
-                got.push(self.brought(part, told))?;
-            }
-        }
-        Ok(got)
-    }
-
     /// The first bytes of a READ that its reply does not bring, with the refused chunk.
     pub fn unread(&self, chunk: &Told, read: &Request) -> Result<Part, AllocError> {
-        let mut got = self.got(chunk.number, read.range())?;
-        got.push(self.brought(read.range(), chunk))?;
         let mut brought = self.unknown()?;
-        for one in &got {
-            lay(&mut brought, one.part, HeldPart::Zeroes)?;
+        let mut is_refused = lay(&mut brought, chunk.part, HeldPart::Zeroes).is_err();
+        for told in &self.told {
+            let part = told.content_to(read.number);
+            is_refused |= lay(&mut brought, part, HeldPart::Zeroes).is_err();
         }
-        Ok(gap(&brought, read.range()))
+        gap(&brought, read.range(), is_refused)
     }
 }
 
@@ -158,11 +137,7 @@ impl Sources<'_> {
             let one = common(part_in(entry, number), part);
             is_refused |= lay(&mut served, one, HeldPart::Zeroes).is_err();
         }
-        if is_refused {
-            Err(AllocError)
-        } else {
-            Ok(gap(&served, part))
-        }
+        gap(&served, part, is_refused)
     }
 }
 
@@ -179,21 +154,22 @@ fn lay(contents: &mut Extents, part: Part, held: HeldPart<'_>) -> Result<(), All
     }
 }
 
-// The first bytes of a part that are not known; none where all are.
-fn gap(contents: &Extents, part: Part) -> Part {
+// The first bytes of a part that are not known, where no memory was refused for what is; none where all are.
+fn gap(contents: &Extents, part: Part, is_refused: bool) -> Result<Part, AllocError> {
     let end = end_of(part).min(contents.size());
     let mut at = part.offset;
+    let mut found = EMPTY;
     for _ in 0..contents.ranges() {
-        if at >= end {
+        if (at >= end) | (found.length != 0) {
             break;
         }
         let (kind, next) = contents.range_at(at);
         if kind == Kind::Unknown {
-            return between(at, next.min(end));
+            found = between(at, next.min(end));
         }
         at = next;
     }
-    EMPTY
+    if is_refused { Err(AllocError) } else { Ok(found) }
 }
 
 /// The first byte of what is held, where it is known.

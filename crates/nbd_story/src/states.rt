@@ -4,6 +4,7 @@
 use crate::content::found_byte;
 use crate::explanation::Sources;
 use crate::refutation::Contest;
+use crate::story::Story;
 use crate::text::Text;
 use crate::told::Request;
 use nbd_state::is_change;
@@ -26,20 +27,29 @@ struct Party {
 
 // The changes of a refutation, and behind them its READs.
 fn parties(contest: &Contest<'_>, sources: &Sources<'_>) -> Result<Vec<Party>, AllocError> {
-    let (story, offset) = (sources.story, contest.offset);
-    let mut parties = Vec::new(story.alloc());
-    for numbers in [contest.changes, contest.reads] {
-        for number in numbers {
-            let request = story.request_for(*number, Part { offset, length: 1 });
-            let byte = if is_change(request.head.command) {
-                story.byte_by(&request, offset)
-            } else {
-                Some(found_byte(*number, offset, story).byte)
-            };
-            parties.push(Party { request, byte })?;
-        }
+    let mut parties = Vec::new(sources.story.alloc());
+    let is_refused = add_parties(&mut parties, contest.changes, contest.offset, sources.story)
+        | add_parties(&mut parties, contest.reads, contest.offset, sources.story);
+    if is_refused {
+        Err(AllocError)
+    } else {
+        Ok(parties)
     }
-    Ok(parties)
+}
+
+// Adds the requests with these numbers; answers whether memory was refused for one.
+fn add_parties(parties: &mut Vec<Party>, numbers: &[u64], offset: u64, story: &Story) -> bool {
+    let mut is_refused = false;
+    for number in numbers {
+        let request = story.request_for(*number, Part { offset, length: 1 });
+        let byte = if is_change(request.head.command) {
+            story.byte_by(&request, offset)
+        } else {
+            Some(found_byte(*number, offset, story).byte)
+        };
+        is_refused |= parties.push(Party { request, byte }).is_err();
+    }
+    is_refused
 }
 
 // Whether one of them can be served next, once these were: it was not, and each that had to be served before it was.
