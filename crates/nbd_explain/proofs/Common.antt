@@ -63,7 +63,7 @@ pub use Rattle.nbd_state.specs.Transcripts.{size_and_flags}
 pub use Rattle.nbd_state.specs.declared.asked.Outcome.{Outcome}
 pub use Rattle.nbd_state.specs.declared.asked.Outcome.TheVariants.{Failure, Pending, Success}
 pub use Rattle.nbd_tool.proofs.JudgedLemmas.{verdict_on}
-pub use Rattle.nbd_tool.proofs.OverLemmas.{both_ok, both_on, capture_over, checked_over, fault_over, first_on, report_over, took_all}
+pub use Rattle.nbd_tool.proofs.OverLemmas.{capture_over, checked_over, fault_over, report_over, took_all}
 pub use Rattle.nbd_tool.specs.Beginnings.{IsBeginningOf, IsReadAs, room_in}
 pub use Rattle.nbd_tool.specs.Ends.{IsFinishOf, IsOver, IsOverText, IsWireAt, LeavesLast, is_accepted, last_line}
 pub use Rattle.nbd_tool.specs.Runs.{IsCapture, IsCause, IsOrder, flat_of}

@@ -1,22 +1,22 @@
 -- What the end of a session says of its capture.
-use Rattle.nbd_explain.proofs.Common.{◌≡◌, ℕ, List, Bool, sym, ◌∙◌, subst, Option, Result, Ok, Err, IfOk, IfErr, IsErrAnd, OnOk, ◌⊎◌, inl, inr, Appends, Appends-trans, Profile, SessionFault, IsComplete, IsOfRun, SessionView, fault_at_end, fault_of, RunFault, IsOverText, LeavesLast, is_accepted, last_line, flat_of, IsShowCause, IsShown, capture_over, NamesAll, AppendsNames}
+use Rattle.nbd_explain.proofs.Common.{◌≡◌, ℕ, List, Bool, sym, ◌∙◌, subst, Option, Result, Ok, Err, IfOk, IfErr, IsErrAnd, OnOk, ◌⊎◌, inl, inr, Appends, Appends-trans, Profile, SessionFault, IsComplete, IsOfRun, SessionView, fault_at_end, RunFault, IsOverText, LeavesLast, is_accepted, last_line, flat_of, IsShowCause, IsShown, capture_over, NamesAll, AppendsNames}
 use Rattle.nbd_files.specs.declared.fault.RunFault.TheVariants as faults
 use Rattle.nbd_explain.proofs.LastLineLemmas.{shown}
 use Rattle.nbd_explain.proofs.OutcomeLemmas.{named_by_report}
 
 -- the end of a session that is over, behind the lines of its messages
-pub named : {A : Type 0} {profile : Profile} (known : Option (List ℕ)) (r : SessionView) (finished : Result A SessionFault) (answer : Bool) (old mid new : Option (List ℕ)) → IsOverText profile known r → IsOfRun r → IsComplete r →
-    fault_of finished ≡ fault_at_end r → answer ≡ is_accepted (fault_of finished) → AppendsNames r.messages old mid → Appends mid new (last_line (fault_of finished)) → NamesAll profile known answer old new
-named {profile = profile} known r finished answer old mid new session run complete same is front written = record {
+pub named : {profile : Profile} (known : Option (List ℕ)) (r : SessionView) (ended : Option SessionFault) (answer : Bool) (old mid new : Option (List ℕ)) → IsOverText profile known r → IsOfRun r → IsComplete r →
+    ended ≡ fault_at_end r → answer ≡ is_accepted ended → AppendsNames r.messages old mid → Appends mid new (last_line ended) → NamesAll profile known answer old new
+named {profile = profile} known r ended answer old mid new session run complete same is front written = record {
   chunks = session.chunks;
   is_text = session.is_text;
   messages = r.messages;
-  last = last_line (fault_of finished);
-  is_shown = subst (λ yes. IsShown profile (flat_of session.chunks) yes r.messages (last_line (fault_of finished))) (sym is)
-      (subst (λ ended. IsShown profile (flat_of session.chunks) (is_accepted ended) r.messages (last_line ended)) (sym same) (shown (flat_of session.chunks) r session.over run complete));
+  last = last_line ended;
+  is_shown = subst (λ yes. IsShown profile (flat_of session.chunks) yes r.messages (last_line ended)) (sym is)
+      (subst (λ e. IsShown profile (flat_of session.chunks) (is_accepted e) r.messages (last_line e)) (sym same) (shown (flat_of session.chunks) r session.over run complete));
   lines = front.0;
   are_named = λ items client server run same. named_by_report front.1 items run same;
-  appended = Appends-trans old mid new front.0 (last_line (fault_of finished)) front.2 written;
+  appended = Appends-trans old mid new front.0 (last_line ended) front.2 written;
 }
 
 -- what a fault of the last line says of the capture
@@ -35,11 +35,11 @@ told_cause A known r (Err f) fault session is (inl e) = subst (IsShowCause known
 told_cause A known r (Err f) fault session is (inr e) = subst (IsShowCause known) (sym (is ∙ e)) tt
 
 -- the same of each capture text whose bytes a session took
-pub named_over : {A : Type 0} (r : SessionView) (finished : Result A SessionFault) (o : Result Bool RunFault) (old mid new : Option (List ℕ)) → IsOfRun r → IsComplete r →
-    fault_of finished ≡ fault_at_end r → AppendsNames r.messages old mid → IfOk o (λ b. b ≡ is_accepted (fault_of finished)) → OnOk o (Appends mid new (last_line (fault_of finished))) →
+pub named_over : (r : SessionView) (ended : Option SessionFault) (o : Result Bool RunFault) (old mid new : Option (List ℕ)) → IsOfRun r → IsComplete r →
+    ended ≡ fault_at_end r → AppendsNames r.messages old mid → IfOk o (λ b. b ≡ is_accepted ended) → OnOk o (Appends mid new (last_line ended)) →
     IfOk o (λ b. (profile : Profile) (known : Option (List ℕ)) → IsOverText profile known r → NamesAll profile known b old new)
-named_over r finished (Ok b) old mid new run complete same front is written = λ profile known session. named known r finished b old mid new session run complete same is front written
-named_over r finished (Err fault) old mid new run complete same front is written = tt
+named_over r ended (Ok b) old mid new run complete same front is written = λ profile known session. named known r ended b old mid new session run complete same is front written
+named_over r ended (Err fault) old mid new run complete same front is written = tt
 
 pub last_cause_over : (r : SessionView) (ended : Option SessionFault) (old new : Option (List ℕ)) (o : Result Bool RunFault) → IfErr o (LeavesLast ended old new) →
     IfErr o (λ fault. (profile : Profile) (known : Option (List ℕ)) → IsOverText profile known r → IsShowCause known fault)

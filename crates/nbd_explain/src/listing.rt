@@ -102,8 +102,9 @@ fn write_names<W: Write>(
         IsShowCause known fault) }
     ensures left { IfErr result (KeepsUnread (W.contents out.old) (W.contents out.new)) }
 {
-    write_story(alloc, session.messages(), story, out)?;
-    write_end(alloc, session.finish(), out)
+    let (messages, fault) = session.into_messages();
+    write_story(alloc, messages.as_slice(), story, out)?;
+    write_end(alloc, fault, out)
 }
 
 // Writes the line of each message.

@@ -1,8 +1,10 @@
 //! The command `show`, over any reader and writer.
-ghost use Rattle.std.specs.Prelude.{◌≡◌, IfErr, IfOk, OnOk, None, true};
+
+ghost use Rattle.std.specs.Prelude.{◌≡◌, IfErr, IfOk, OnErr, OnOk, None, true};
 ghost use Rattle.std.specs.Io.KnownBytes.{Appends};
 ghost use Rattle.nbd_wire.specs.declared.profile.Profile.TheVariants.{Base};
-ghost use Rattle.nbd_session.specs.Sessions.{fault_of};
+ghost use Rattle.nbd_capture.specs.Writing.{AppendsPrefix};
+ghost use Rattle.nbd_lines.specs.Script.{message_lines};
 ghost use Rattle.nbd_tool.specs.Runs.{IsCapture};
 ghost use Rattle.nbd_tool.specs.Ends.{LeavesLast, is_accepted, last_line};
 ghost use Rattle.nbd_files.specs.Starts.{IsWithinLimit};
@@ -11,10 +13,10 @@ ghost use Rattle.nbd_explain.specs.Shown.{IsShowCause, LeavesShown, WritesAll};
 use nbd_capture::write_whole;
 use nbd_files::RunFault;
 use nbd_judge::Verdict;
-use nbd_lines::show;
-use nbd_session::{SessionFault, Transcript};
+use nbd_lines::{OutputFault, show};
+use nbd_session::SessionFault;
 use nbd_tool::{Unseen, session_over, write_verdict};
-use nbd_wire::Profile;
+use nbd_wire::{Message, Profile};
 use std::alloc::Global;
 use std::io::{BufRead, Write};
 
@@ -44,8 +46,8 @@ pub fn run_show<C: BufRead + Drop, W: Write>(
 /// where it was accepted.
 ///
 /// An `Err` is a fault of the text, of its reader or of the writer, or out of memory. Nothing is written unless the
-/// capture was read whole and is well formed. After `Write` a prefix of the lines stands written, after `Memory` a
-/// prefix of the message lines, possibly nothing.
+/// capture was read whole and is well formed; from then on each message is let go with its line. After `Write` a prefix of
+/// the lines stands written, after `Memory` a prefix of the message lines, possibly nothing.
 pub fn run_show_of<C: BufRead + Drop, W: Write>(
     alloc: Global,
     profile: Profile,
@@ -60,29 +62,47 @@ pub fn run_show_of<C: BufRead + Drop, W: Write>(
     ensures left { IfErr result (LeavesShown profile (C.remaining capture) (W.contents out.old) (W.contents out.new)) }
 {
     let session = session_over(alloc, profile, capture, &mut Unseen)?;
-    let finished = show(alloc, session.messages(), out).and(Ok(session.finish()))?;
-    write_end(alloc, finished, out)
+    let (messages, fault) = session.into_messages();
+    write_messages(alloc, messages, out)?;
+    write_end(alloc, fault, out)
 }
 
-/// Writes how the session ended: `ok`, or where and why it was refused. Answers true where it was
-/// accepted.
+// Writes the lines of messages, and lets each message go with its line.
+fn write_messages<W: Write>(
+    alloc: Global,
+    messages: Vec<Message>,
+    out: &mut W,
+) -> Result<(), OutputFault>
+    ensures ok { OnOk result
+        (Appends (W.contents out.old) (W.contents out.new) (message_lines messages.items)) }
+    ensures err { OnErr result
+        (AppendsPrefix (W.contents out.old) (W.contents out.new) (message_lines messages.items)) }
+{
+    for message in messages {
+        show(alloc, &[message], out)?;
+    }
+    Ok(())
+}
+
+/// Writes how a session ended: `ok`, or where and why it was refused, by its fault if there is one. Answers true where it
+/// was accepted.
 ///
 /// After `Write` a prefix of the line stands written, after `Memory` nothing of it.
 pub fn write_end<W: Write>(
     alloc: Global,
-    finished: Result<Transcript, SessionFault>,
+    fault: Option<SessionFault>,
     out: &mut W,
 ) -> Result<bool, RunFault>
-    ensures answer { IfOk result (λ yes. yes ≡ is_accepted (fault_of finished)) }
-    ensures written { OnOk result (Appends (W.contents out.old) (W.contents out.new) (last_line (fault_of finished))) }
-    ensures left { IfErr result (LeavesLast (fault_of finished) (W.contents out.old) (W.contents out.new)) }
+    ensures answer { IfOk result (λ yes. yes ≡ is_accepted fault) }
+    ensures written { OnOk result (Appends (W.contents out.old) (W.contents out.new) (last_line fault)) }
+    ensures left { IfErr result (LeavesLast fault (W.contents out.old) (W.contents out.new)) }
 {
-    match finished {
-        Ok(_) => write_accepted(out),
-        Err(SessionFault::Wire { at, fault }) => {
+    match fault {
+        None => write_accepted(out),
+        Some(SessionFault::Wire { at, fault }) => {
             write_verdict(alloc, Verdict::Wire { at, fault }, out)
         }
-        Err(SessionFault::Memory) => Err(RunFault::Memory),
+        Some(SessionFault::Memory) => Err(RunFault::Memory),
     }
 }
 

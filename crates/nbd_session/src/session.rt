@@ -143,4 +143,16 @@ impl Session {
     {
         self.monitor.finish()
     }
+
+    /// Ends the session as `finish` does, and hands out the accepted messages and the fault, if there is one. What was noted of the
+    /// requests is let go, so that nobody else holds the payloads. Takes no memory.
+    pub fn into_messages(self) -> (Vec<Message>, Option<SessionFault>)
+        ensures messages { result.0.items ≡ self.messages }
+        ensures fault { result.1 ≡ fault_at_end self }
+        ensures run { IsOfRun self }
+        ensures complete { IsComplete self }
+    {
+        let fault = self.monitor.finish().err();
+        (self.log.messages, fault)
+    }
 }

@@ -171,19 +171,6 @@ pub of_err : {A B E : Type 0} (P : B → Type 0) (Q : B → E → Type 0) (o : R
 of_err P Q (Ok a) h b p = tt
 of_err P Q (Err e) h b p = h b p
 
--- what such a pair says of its parts
-pub both_ok : {A B E : Type 0} (o : Result A E) (b second : B) → Ok second ≡ result_and o (Ok b) → second ≡ b
-both_ok (Ok a) b second e = cc
-both_ok (Err fault) b second e = absurd (cc)
-
-pub both_on : {A B E P : Type 0} (o : Result A E) (b second : B) → Ok second ≡ result_and o (Ok b) → OnOk o P → P
-both_on (Ok a) b second e holds = holds
-both_on (Err fault) b second e holds = absurd (cc)
-
-pub first_on : {A B E P : Type 0} (o : Result A E) (b : B) (fault : E) → Err fault ≡ result_and o (Ok b) → OnErr o P → P
-first_on (Ok a) b fault e holds = absurd (cc)
-first_on (Err other) b fault e holds = holds
-
 -- a capture that a session is over is a capture text
 pub capture_over : {profile : Profile} (known : Option (List ℕ)) (r : SessionView) → IsOverText profile known r → IsCapture known
 capture_over None r session = tt

@@ -72,9 +72,10 @@ pub struct Asked<'a> {
 impl<'a> Asked<'a> {
     /// What the words behind the command of this name say, or what is wrong where one of them is malformed.
     pub fn of(name: &str, words: &ArgMatches<'a>) -> Result<Asked<'a>, BadWord> {
+        let (start, profile) = session_in(words)?;
         Ok(Asked {
-            start: start_in(words)?,
-            profile: profile_in(words)?,
+            start,
+            profile,
             scope: scope_in(words)?,
             command: command_of(name, words)?,
             input: input_in(words),
@@ -86,7 +87,11 @@ impl<'a> Asked<'a> {
     }
 }
 
-// (a command that does not have one of these words asks for nothing by it)
+// What the export held at first, and what the session is held to; a command that does not have one of these words asks for nothing by it.
+fn session_in<'a>(words: &ArgMatches<'a>) -> Result<(StartWord<'a>, Profile), BadWord> {
+    Ok((start_in(words)?, profile_in(words)?))
+}
+
 fn start_in<'a>(words: &ArgMatches<'a>) -> Result<StartWord<'a>, BadWord> {
     match start_of(words.get_str("start").unwrap_or("unknown")) {
         Some(start) => Ok(start),

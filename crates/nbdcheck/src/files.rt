@@ -19,7 +19,7 @@ use nbd_words::{Asked, Linting};
 use std::alloc::Global;
 use std::fs::File;
 use std::io;
-use std::io::{BufReader, BufWriter, Write};
+use std::io::{BufRead, BufReader, BufWriter, Write};
 
 /// What is written on standard output, first to a buffer.
 type Buffered<'a> = BufWriter<FinalWriter<io::Printer<'a, HostRuntime>>>;
@@ -191,10 +191,20 @@ fn contents_into<W: Write>(
     asked: &Asked<'_>,
     out: &mut W,
 ) -> Result<bool, RunFault> {
-    let alloc = files.rt.alloc();
     let capture = files.open_buffered(asked.input, RunFault::CaptureRead)?;
+    contents_over(files, asked, capture, out)
+}
+
+// The same over a capture that was opened.
+fn contents_over<C: BufRead + Drop, W: Write>(
+    files: &mut Files<'_>,
+    asked: &Asked<'_>,
+    capture: C,
+    out: &mut W,
+) -> Result<bool, RunFault> {
     let order = opened(files, asked.order, RunFault::OrderRead)?;
     let (start, against) = opened_last(files, asked)?;
+    let alloc = files.rt.alloc();
     run_contents(alloc, asked.profile, capture, order, start, against, out)
 }
 

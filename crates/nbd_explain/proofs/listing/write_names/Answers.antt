@@ -9,9 +9,9 @@ returns-in_err-write_story-clause-cause g c =
 
 pub returns-clause-written : goal.returns-clause-written
 returns-clause-written g c =
-    named_over c.args.session c.finish.result c.write_end.result (g.W.Write.contents c.args.out.now) (g.W.Write.contents c.write_story.new.out) (g.W.Write.contents c.write_end.new.out)
-    c.messages.ensures.run c.messages.ensures.complete c.finish.ensures.fault
-    (subst (λ ms. AppendsNames ms (g.W.Write.contents c.args.out.now) (g.W.Write.contents c.write_story.new.out)) c.messages.ensures.messages c.in_ok-write_story.ensures.appends) c.write_end.ensures.answer c.write_end.ensures.written
+    named_over c.args.session _ c.write_end.result (g.W.Write.contents c.args.out.now) (g.W.Write.contents c.write_story.new.out) (g.W.Write.contents c.write_end.new.out)
+    c.into_messages.ensures.run c.into_messages.ensures.complete c.into_messages.ensures.fault
+    (subst (λ ms. AppendsNames ms (g.W.Write.contents c.args.out.now) (g.W.Write.contents c.write_story.new.out)) c.into_messages.ensures.messages c.in_ok-write_story.ensures.appends) c.write_end.ensures.answer c.write_end.ensures.written
 
 pub returns-clause-cause : goal.returns-clause-cause
 returns-clause-cause g c = last_cause_over c.args.session _ _ _ c.write_end.result c.write_end.ensures.left
