@@ -1,5 +1,4 @@
-use Rattle.nbd_explain.proofs.Common.{ap, subst, ◌∙◌, Appends, AppendsPrefix, message_lines, fault_of, both_ok, both_on, capture_over, first_on}
-use Rattle.nbd_explain.proofs.LastLineLemmas.{all_shown, last_stopped, output_cause, stopped}
+use Rattle.nbd_explain.proofs.{Common.{ap, subst, ◌∙◌, Appends, AppendsPrefix, message_lines, fault_of, both_ok, both_on, capture_over, first_on}, LastLineLemmas.{all_shown, last_stopped, output_cause, stopped}}
 use Rattle.nbd_explain.proofs.show.run_show_of.Goals as goal
 
 pub returns-in_err-finished-clause-left : goal.returns-in_err-finished-clause-left
