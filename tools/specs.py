@@ -15,7 +15,7 @@ from pathlib import Path
 
 TOP = Path(__file__).resolve().parent.parent
 TACTIC = re.compile(r"(?<![\w'.-])(omega|search|grind|simp|cc|rw|assumption|hlevel|first_of)(?![\w'-])")
-USE = re.compile(r"^\s*(?:ghost )?(?:pub )?use (Rattle\.[^\s{;]+?)(?:\.\{(.*)\})?(?: as (\S+?))?;?$")
+USE = re.compile(r"^\s*(?:ghost )?(?:unfoldable )?(?:pub )?use (Rattle\..*?);?$")
 WORD = re.compile(r"[A-Za-z_ℕℤ][\w'-]*(?:\.[A-Za-z_][\w'-]*)*|◌[^\s]+◌")
 # How long a line of a definition is at most. A payload that is written out may be longer.
 WIDTH = 120
@@ -35,6 +35,26 @@ def module_of(path):
 
 def path_of(module):
     return "crates/" + "/".join(module.split(".")[1:]) + ".antt"
+
+
+def imports(line):
+    """What a use line brings: the module, a name of it or None, and under which name. Lists may stand in lists."""
+    match = USE.match(line.rstrip())
+    found, ways, part = [], [""], ""
+    for piece in re.findall(r"[{},]|[^{},]+", f"{match[1]}," if match else ""):
+        if piece == "{":
+            ways.append(ways[-1] + part.strip())
+        elif piece not in "},":
+            part = piece
+            continue
+        elif part.strip():
+            old, _, new = part.strip().partition(" as ")
+            module, _, name = (ways[-1] + old).rpartition(".")
+            found.append((module, name, new or name) if len(ways) > 1 else (ways[-1] + old, None, new or name))
+        if piece == "}":
+            ways.pop()
+        part = ""
+    return found
 
 
 def declarations(text):
@@ -86,9 +106,16 @@ def passed_on():
     """Where the names are declared that a module passes on."""
     found = {}
     for path in files_of("specs/**/*.antt"):
-        for match in filter(None, map(USE.match, re.findall(r"^pub use .*$", open(path, encoding="utf8").read(), re.MULTILINE))):
-            found |= {(module_of(path), name): match.group(1) for name in match.group(2).split(", ")}
+        for line in re.findall(r"^pub use .*$", open(path, encoding="utf8").read(), re.MULTILINE):
+            found |= {(module_of(path), new): (module, name) for module, name, new in imports(line)}
     return found
+
+
+def source_of_name(module, name):
+    """Where a name is declared that is taken from this module: modules may pass on what others pass on."""
+    while (module, name) in passed_on():
+        module, name = passed_on()[module, name]
+    return module, name
 
 
 class Names:
@@ -97,17 +124,11 @@ class Names:
     def __init__(self, text):
         self.names, self.aliases = {}, {}
         for line in text.split("\n"):
-            match = USE.match(line.rstrip())
-            if not match:
-                continue
-            module, items, alias = match.groups()
-            if items is None:
-                self.aliases[alias or module.split(".")[-1]] = module
-            else:
-                for item in filter(None, (i.strip() for i in items.split(","))):
-                    old, _, new = item.partition(" as ")
-                    source = passed_on().get((module, old.strip()), module)
-                    self.names[(new or old).strip()] = (source, old.strip())
+            for module, name, new in imports(line):
+                if name is None:
+                    self.aliases[new] = module
+                else:
+                    self.names[new] = source_of_name(module, name)
 
     def refer(self, text):
         found = set()

@@ -1,13 +1,11 @@
 -- The lines of a contents text, taken apart: a line tells one thing, or none.
 use Rattle.nbd_capture.proofs.Common.{◌≡◌, ℕ, ◌^◌, ◌<◌, ◌≤◌, List, [], ◌∷◌, ◌++◌, ◌⊎◌, inl, inr, length, get_or, refl, sym, ap, ◌∙◌, subst, arith, length-append, codes, Result, Ok, Err, IfOk, Option, Some, None, MatchOption, Bool, IsTrue, true, false, not, nat_eq, eq-eqb, eqb-true, slice_index, IsNumber, hash, space, IsLaid, up_to, word_text, Held, IsContentsLine, IsValue, Piece, Told, held_from, known, nothing, part, told, unknown, word, zeroes, blank-line, comment-line, piece-line, size-line}
-use Rattle.nbd_export.specs.Extents.{byte_of, size_of}
-use Rattle.nbd_export.specs.declared.extents.Extents.{Extents}
+use Rattle.nbd_capture.proofs.{FormLemmas.{IsSilent, same_bytes}, OrderLineLemmas.{IsWord, digits_word, first_words, one_word}}
+use Rattle.nbd_export.specs.{Extents.{byte_of, size_of}, declared.extents.Extents.Extents}
 use Rattle.nbd_capture.specs.declared.contents_line.Word.{Word}
 use Rattle.nbd_capture.specs.declared.contents_line.Word.TheVariants as words
 use Rattle.std.specs.Cmp.Lexicographic.{pointwise, same_text}
-use Rattle.nbd_capture.proofs.FormLemmas.{IsSilent, same_bytes}
 use Rattle.nbd_export.proofs.HeldLemmas.{length-held_from}
-use Rattle.nbd_capture.proofs.OrderLineLemmas.{IsWord, digits_word, first_words, one_word}
 
 pub record Sizes (before : Told) (line : List ℕ) (after : Told) : Type 0 where
   pub digits : List ℕ

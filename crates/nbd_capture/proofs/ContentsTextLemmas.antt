@@ -1,13 +1,10 @@
 -- Contents texts: one reading at most, none where a line is bad, and how far a text was read.
 use Rattle.nbd_capture.proofs.Common.{◌≡◌, ℕ, ◌+◌, ◌≤◌, List, [], ◌∷◌, ◌++◌, ◌⊎◌, inl, inr, length, refl, sym, ap, ◌∙◌, subst, arith, append_assoc, append-nil, length-append, true, false, eqb-true, ◌==◌, IsUnbroken, line_feed, lines_ended, AreContentsLines, Held, IsContentsLine, IsContentsText, IsFirstBadContentsLine, IsContentsFault, Told, next-line, no-line, nothing, part, Seen, up_to}
+use Rattle.nbd_capture.proofs.{ReadingLemmas.{broken, first_lines, not_empty}, ReadingStepLemmas.{ended-append, none_ended}, ContentsLineLemmas.one_line}
 use Rattle.nbd_capture.specs.declared.contents.ContentsFault.{ContentsFault}
 use Rattle.nbd_capture.specs.declared.contents.ContentsFault.TheVariants as contents_faults
-use Rattle.nbd_capture.proofs.ReadingLemmas.{broken, first_lines, not_empty}
-use Rattle.nbd_capture.proofs.ReadingStepLemmas.{ended-append, none_ended}
-use Rattle.nbd_capture.proofs.ContentsLineLemmas.{one_line}
 use Rattle.nbd_export.proofs.HeldLemmas.{length-held_from}
-use Rattle.nbd_export.specs.Extents.{size_of}
-use Rattle.nbd_export.specs.declared.extents.Extents.{Extents}
+use Rattle.nbd_export.specs.{Extents.size_of, declared.extents.Extents.Extents}
 
 -- the first of some lines, and the others
 pub record Next (before : Told) (text : List ℕ) (after : Told) : Type 0 where

@@ -1,7 +1,5 @@
 -- The forms of a capture line, taken apart.
-use Rattle.nbd_capture.proofs.Common.{◌≡◌, ℕ, ◌⊎◌, List, [], ◌∷◌, Err, arith, Side, AreDigits, Chunk, IsCaptureLine, hash, letter, space, decode_of, FromHexError}
-use Rattle.nbd_capture.proofs.DigitLemmas.{decodes}
-use Rattle.nbd_capture.proofs.ReadingLemmas.{IsFunctional}
+use Rattle.nbd_capture.proofs.{Common.{◌≡◌, ℕ, ◌⊎◌, List, [], ◌∷◌, Err, arith, Side, AreDigits, Chunk, IsCaptureLine, hash, letter, space, decode_of, FromHexError}, DigitLemmas.decodes, ReadingLemmas.IsFunctional}
 
 -- an empty line, or a comment
 abbrev pub IsSilent : List ℕ → Type 0

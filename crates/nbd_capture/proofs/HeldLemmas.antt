@@ -1,11 +1,9 @@
 -- What an export holds, as a list, and bytes that are laid behind the first ones.
 use Rattle.nbd_capture.proofs.Common.{◌≡◌, ℕ, ◌+◌, ◌-◌, ◌<◌, ◌≤◌, List, ◌++◌, length, get_or, sym, ap, ◌∙◌, arith, Option, Some, None, slice_get, Held, held_from, known, told, unknown, zeroes}
-use Rattle.nbd_export.proofs.HeldLemmas.{held_from-append, held_from-list, held_from-same}
-use Rattle.nbd_export.proofs.ExtentLemmas.{changed_before, changed_inside}
+use Rattle.nbd_export.proofs.{HeldLemmas.{held_from-append, held_from-list, held_from-same}, ExtentLemmas.{changed_before, changed_inside}}
 use Rattle.nbd_export.specs.Ranges as ranges
 use Rattle.nbd_export.specs.Ranges.{AreSameBelow, overlay}
-use Rattle.std.proofs.lemmas.List.{get_or-map, get_or-replicate, length-map, length-replicate}
-use Rattle.std.proofs.lemmas.Option.{slice_get-get_or}
+use Rattle.std.proofs.lemmas.{List.{get_or-map, get_or-replicate, length-map, length-replicate}, Option.slice_get-get_or}
 
 -- how many bytes a piece has
 pub length-unknown : (n : ℕ) → length (told (unknown n)) ≡ n

@@ -1,6 +1,5 @@
 -- The two forms of an order line.
-use Rattle.nbd_capture.proofs.Common.{◌≡◌, ℕ, List, [], ◌∷◌, ◌++◌, ◌⊎◌, inl, inr, refl, sym, ◌∙◌, subst, arith, Some, AllDigits, Entry, Part, whole, space, IsNumber, IsOrderLine, IsPart, atomically, of_part}
-use Rattle.nbd_capture.proofs.PartingLemmas.{Lacks, digits_lack, first_parts, none_parted}
+use Rattle.nbd_capture.proofs.{Common.{◌≡◌, ℕ, List, [], ◌∷◌, ◌++◌, ◌⊎◌, inl, inr, refl, sym, ◌∙◌, subst, arith, Some, AllDigits, Entry, Part, whole, space, IsNumber, IsOrderLine, IsPart, atomically, of_part}, PartingLemmas.{Lacks, digits_lack, first_parts, none_parted}}
 
 -- no space is among these bytes
 abbrev pub IsWord : List ℕ → Type 0

@@ -1,7 +1,7 @@
 -- What one look at a reader's bytes gives of a line.
 use Rattle.nbd_capture.proofs.Common.{◌≡◌, ℕ, Bool, true, true≢false, Ok, Err, refl, IsTrue, ◌+◌, ◌-◌, ◌<◌, ◌≤◌, List, [], ◌∷◌, ◌++◌, length, take, sym, ap, subst, ◌∙◌, arith, ◌==◌, false, take-take, length-take-le, IfSome, Option, StartsWith, Consumes, Keeps, DropsConsumable, Consumes_shown, length-append, append_assoc, append-nil, take-append-add, IsUnbroken, line_feed, CaptureFault, Line, Memory, Read, LineFeed, Text, Last, Chunk, IsCaptureLine, IsReaderFault, Reading, Reads, Refuses, Takes, IsChunkFault, Adds, IsKept, IsPartOf, Kept, IsLine, IsPiece}
-use Rattle.nbd_capture.specs.declared.source.Piece.TheVariants.{End, Part}
 use Rattle.nbd_capture.proofs.ReadingStepLemmas.{none_ended, one_ended, reads-append, reads_line, refuses_chunk, refuses_end, still_known, stops, takes-append, unbroken-append}
+use Rattle.nbd_capture.specs.declared.source.Piece.TheVariants.{End, Part}
 
 pub some_left : (bytes : List ℕ) → false ≡ (length bytes == 0) → 0 < length bytes
 some_left bytes some = grind arith

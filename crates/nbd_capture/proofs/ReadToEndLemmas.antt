@@ -1,8 +1,6 @@
 -- What the steps of a reader of captures say of the whole text.
 use Rattle.nbd_capture.proofs.Common.{◌≡◌, ℕ, suc, ◌+◌, ◌<◌, ◌≤◌, length, List, [], ◌∷◌, ◌++◌, IfSome, sym, ap, ◌∙◌, subst, arith, append_assoc, append-nil, IsUnbroken, line_feed, empty, line, formless, unended, later, Chunk, IsCaptureText, IsFirstBadCaptureLine, CaptureFault, Line, Memory, Read, IsReaderFault, NamesFirstBadLine, Reading, Reads, ReadsToEnd, Refuses, lines_ended}
-use Rattle.nbd_capture.proofs.FormLemmas.{one_saying}
-use Rattle.nbd_capture.proofs.ReadingLemmas.{rest_reading}
-use Rattle.nbd_capture.proofs.ReadingStepLemmas.{ended-append, one_ended, reads-append, still_known, text-append, takes-append}
+use Rattle.nbd_capture.proofs.{FormLemmas.one_saying, ReadingLemmas.rest_reading, ReadingStepLemmas.{ended-append, one_ended, reads-append, still_known, text-append, takes-append}}
 
 -- the steps up to the end, one after another
 pub reads_to_end : (a b c : Reading) (xs ys : List Chunk) → Reads a b xs → ReadsToEnd b c ys → ReadsToEnd a c (xs ++ ys)

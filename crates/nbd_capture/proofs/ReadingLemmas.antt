@@ -1,6 +1,5 @@
 -- Texts of lines: what a text's first line is, that a text has one reading at most, and none where a line is bad.
-use Rattle.nbd_capture.proofs.Common.{arith, ◌≡◌, ℕ, suc, List, [], ◌∷◌, ◌++◌, ◌⊎◌, inl, inr, refl, sym, ap, ◌∙◌, subst, append_assoc, line_feed, IsUnbroken, IsText, IsFirstBadLine, empty, line, formless, unended, later}
-use Rattle.nbd_capture.proofs.PartingLemmas.{first_parts, none_parted}
+use Rattle.nbd_capture.proofs.{Common.{arith, ◌≡◌, ℕ, suc, List, [], ◌∷◌, ◌++◌, ◌⊎◌, inl, inr, refl, sym, ap, ◌∙◌, subst, append_assoc, line_feed, IsUnbroken, IsText, IsFirstBadLine, empty, line, formless, unended, later}, PartingLemmas.{first_parts, none_parted}}
 
 pub first_lines : (a b x y : List ℕ) → IsUnbroken a → IsUnbroken b → a ++ line_feed ∷ x ≡ b ++ line_feed ∷ y → (a ≡ b) × (x ≡ y)
 first_lines a b x y = first_parts line_feed a b x y

@@ -1,8 +1,7 @@
 -- Digits that come in parts, and the lines that they stand in.
 use Rattle.nbd_capture.proofs.Common.{◌≡◌, ℕ, ◌+◌, ◌*◌, ◌%◌, ◌≤◌, List, [], ◌∷◌, ◌++◌, length, Some, None, Result, Ok, Err, refl, sym, ap, ◌∙◌, arith, subst, append_assoc, append-nil, ◌⊎◌, IfOk, MatchBool, is_ok, take, slice_get, take-append_seam, length-append, take_all, decode_sized-twice, decode_sized, FromHexError, Side, AreDigits, Chunk, IsCaptureLine, letter, space, none, byte, blank, chunk, comment, Form, Empty, Letter, Digits, Comment, Bad, IsOf, Spell}
+use Rattle.nbd_capture.proofs.{DigitLemmas.{decodes, even, spelled}, FormLemmas.{forms, same_parts, silent_sends}}
 use Rattle.std.proofs.Common.{Option, MatchResult}
-use Rattle.nbd_capture.proofs.DigitLemmas.{decodes, even, spelled}
-use Rattle.nbd_capture.proofs.FormLemmas.{forms, same_parts, silent_sends}
 
 pub join : (a b x y : List ℕ) → AreDigits a x → AreDigits b y → AreDigits (a ++ b) (x ++ y)
 join a b x y none d = d

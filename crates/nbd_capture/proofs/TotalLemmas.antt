@@ -1,10 +1,6 @@
 -- Each line has a form of its grammar, or none.
 use Rattle.nbd_capture.proofs.Common.{◌≡◌, ◌≢◌, ℕ, ◌^◌, ◌<◌, ◌≤◌, List, [], ◌∷◌, length, slice_index, ◌⊎◌, inl, inr, refl, sym, subst, arith, Result, Ok, Err, Some, digit_value, AllDigits, IsNumeral, digits_value, cases_eq, cases_lt, decode_of, Side, Client, Server, Chunk, IsCaptureLine, hash, letter, space, chunk, blank, comment, Part, whole, BeginsPlainly, IsNumber, IsOrderLine, IsPart, atomically, of_part}
-use Rattle.nbd_capture.proofs.TotalTextLemmas.{Decided}
-use Rattle.nbd_capture.proofs.DigitLemmas.{spelled}
-use Rattle.nbd_capture.proofs.FormLemmas.{forms, undecodable}
-use Rattle.nbd_capture.proofs.PartingLemmas.{parted}
-use Rattle.nbd_capture.proofs.OrderLineLemmas.{no_number, no_numbers, no_part, no_parted}
+use Rattle.nbd_capture.proofs.{TotalTextLemmas.Decided, DigitLemmas.spelled, FormLemmas.{forms, undecodable}, PartingLemmas.parted, OrderLineLemmas.{no_number, no_numbers, no_part, no_parted}}
 
 abbrev pub Either : Type 0 → Type 0
 Either P = P ⊎ (P → ⊥)

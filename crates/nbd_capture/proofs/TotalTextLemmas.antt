@@ -1,6 +1,5 @@
 -- Each text has a reading or a first bad line, where each line has a form or none.
-use Rattle.nbd_capture.proofs.Common.{ℕ, zero, suc, ◌≤◌, List, [], ◌∷◌, ◌++◌, length, ◌⊎◌, inl, inr, sym, ap, subst, arith, length-append, line_feed, IsUnbroken, IsText, IsFirstBadLine, empty, line, formless, unended, later}
-use Rattle.nbd_capture.proofs.PartingLemmas.{parted}
+use Rattle.nbd_capture.proofs.{Common.{ℕ, zero, suc, ◌≤◌, List, [], ◌∷◌, ◌++◌, length, ◌⊎◌, inl, inr, sym, ap, subst, arith, length-append, line_feed, IsUnbroken, IsText, IsFirstBadLine, empty, line, formless, unended, later}, PartingLemmas.parted}
 
 -- a line has a form, or none
 abbrev pub Decided : {V : Type 0} → (List ℕ → List V → Type 0) → List ℕ → Type 0

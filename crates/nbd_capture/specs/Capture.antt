@@ -1,9 +1,7 @@
 -- Capture texts. The format is this project's choice.
-use Rattle.std.specs.Prelude.{◌≡◌, ℕ, ◌+◌, ◌*◌, ◌<◌, ◌⊎◌, List, [], ◌∷◌, ◌++◌, map, slice_index, Vec}
-use Rattle.std.specs.declared.alloc.Global.{Global}
+use Rattle.std.specs.{Prelude.{◌≡◌, ℕ, ◌+◌, ◌*◌, ◌<◌, ◌⊎◌, List, [], ◌∷◌, ◌++◌, map, slice_index, Vec}, declared.alloc.Global.Global}
 use Rattle.hex.specs.Hex.{lower_digits, upper_digits, encode_lower}
-use Rattle.nbd_wire.specs.declared.message.Side.{Side}
-use Rattle.nbd_wire.specs.declared.message.Side.TheVariants.{Client, Server}
+use Rattle.nbd_wire.specs.declared.message.Side.{Side, TheVariants.{Client, Server}}
 use Rattle.nbd_capture.specs.Lines.{line_feed, IsText, IsFirstBadLine}
 
 -- bytes that one side sent, recorded together
@@ -41,8 +39,7 @@ pub data AreDigits : List ℕ → List ℕ → Type 0 where
       → IsDigit first high → IsDigit second low → AreDigits digits bytes
       → AreDigits (first ∷ second ∷ digits) ((high * 16 + low) ∷ bytes)
 
--- the forms of a line: a side's letter, one space and the digits of a chunk's bytes, possibly none; nothing; a `#`, and
--- anything after it
+-- the forms of a line: a side's letter, a space and the digits of a chunk's bytes, if any; nothing; a `#` and anything
 pub data IsCaptureLine : List ℕ → List Chunk → Type 0 where
   chunk : (side : Side) (digits bytes : List ℕ)
       → AreDigits digits bytes → IsCaptureLine (letter side ∷ space ∷ digits)

@@ -1,12 +1,10 @@
 -- Contents texts: what an export holds, as lines that are read and printed. The format is this project's choice.
-use Rattle.std.specs.Prelude.{◌≡◌, ℕ, ◌+◌, ◌<◌, ◌≤◌, ◌^◌, ◌%◌, ◌==◌, Bool, true, false, if◌then◌else◌, List, [], ◌∷◌, ◌++◌, Some, None, codes, length, map, replicate}
-use Rattle.std.specs.Fmt.{decimal}
+use Rattle.std.specs.{Prelude.{◌≡◌, ℕ, ◌+◌, ◌<◌, ◌≤◌, ◌^◌, ◌%◌, ◌==◌, Bool, true, false, if◌then◌else◌, List, [], ◌∷◌, ◌++◌, Some, None, codes, length, map, replicate}, Fmt.decimal}
 use Rattle.hex.specs.Hex.{encode_lower}
 use Rattle.nbd_export.specs.Held.{Held}
-use Rattle.nbd_capture.specs.Capture.{AreDigits, hash, space}
-use Rattle.nbd_capture.specs.Lines.{IsUnbroken, line_feed}
-use Rattle.nbd_capture.specs.Order.{IsNumber}
-use Rattle.nbd_capture.specs.Reading.{lines_ended}
+use Rattle.nbd_capture.specs.{Capture.{AreDigits, hash, space}, Lines.{IsUnbroken, line_feed}, Order.{IsNumber, IsFirstBadOrderLine}, Reading.lines_ended, declared.{contents.ContentsFault.ContentsFault, order.OrderTextFault.OrderTextFault}}
+use Rattle.nbd_capture.specs.declared.contents.ContentsFault.TheVariants as contents_faults
+use Rattle.nbd_capture.specs.declared.order.OrderTextFault.TheVariants as order_faults
 
 -- what one line tells of the next bytes: so many are unknown, so many are zeroes, or they are these
 pub data Piece : Type 0 where
@@ -130,3 +128,13 @@ size_line n = codes "size" ++ space ∷ (decimal n ++ line_feed ∷ [])
 -- what an export holds, as it is printed
 abbrev pub printed : Held → List ℕ
 printed bytes = size_line (length bytes) ++ piece_lines 0 (joined (cut 0 bytes))
+
+-- of an order text: a line fault names the first bad line; out of memory says nothing of the text
+abbrev pub IsOrderTextFault : List ℕ → OrderTextFault → Type 0
+IsOrderTextFault text (order_faults.Line n) = IsFirstBadOrderLine text n
+IsOrderTextFault text order_faults.Memory = Unit {0}
+
+-- the same of a contents text
+abbrev pub IsContentsFault : List ℕ → ContentsFault → Type 0
+IsContentsFault text (contents_faults.Line n) = IsFirstBadContentsLine text n
+IsContentsFault text contents_faults.Memory = Unit {0}

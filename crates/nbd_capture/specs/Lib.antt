@@ -1,6 +1,5 @@
 pub mod Capture
 pub mod Contents
-pub mod Faults
 pub mod Lines
 pub mod Order
 pub mod Reading

@@ -1,6 +1,5 @@
 -- Texts as sequences of lines, each ended by a line feed: what the grammars of captures and of orders share.
-use Rattle.std.specs.Prelude.{◌≢◌, ℕ, suc, List, [], ◌∷◌, ◌++◌}
-use Rattle.std.specs.List.{AllByRecursion}
+use Rattle.std.specs.{Prelude.{◌≢◌, ℕ, suc, List, [], ◌∷◌, ◌++◌}, List.AllByRecursion}
 
 -- LF, the byte that ends a line
 abbrev pub line_feed : ℕ

@@ -1,13 +1,7 @@
 -- Order texts. The format is this project's choice.
-use Rattle.std.specs.Prelude.{◌≡◌, ℕ, ◌<◌, ◌^◌, List, [], ◌∷◌, ◌++◌, Option, Some, None, slice_index, length}
-use Rattle.std.specs.Char.{IsAsciiDigit}
-use Rattle.std.specs.Fmt.{decimal}
-use Rattle.std.specs.Str.Parse.{IsNumeral, digits_value}
-use Rattle.nbd_wire.specs.declared.entry.Entry.{Entry}
-use Rattle.nbd_wire.specs.declared.entry.Part.{Part}
-use Rattle.nbd_wire.specs.Prelude.{whole}
-use Rattle.nbd_capture.specs.Capture.{space}
-use Rattle.nbd_capture.specs.Lines.{IsText, IsFirstBadLine}
+use Rattle.std.specs.{Prelude.{◌≡◌, ℕ, ◌<◌, ◌^◌, List, [], ◌∷◌, ◌++◌, Option, Some, None, slice_index, length}, Char.IsAsciiDigit, Fmt.decimal, Str.Parse.{IsNumeral, digits_value}}
+use Rattle.nbd_wire.specs.{declared.entry.{Entry.Entry, Part.Part}, Prelude.whole}
+use Rattle.nbd_capture.specs.{Capture.space, Lines.{IsText, IsFirstBadLine}}
 
 -- a first byte from `0` to `9`, and `0` only where it is the only one
 abbrev pub BeginsPlainly : List ℕ → Type 0

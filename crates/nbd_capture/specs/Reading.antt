@@ -5,14 +5,8 @@
 -- `None` the laws `steps_are_joined` and `chunks_read_to_the_end` say that these are the text's chunks; after a line
 -- fault `refused_line_is_the_first_bad_one` says that the text's first bad line has this number. Such a caller is
 -- crates/nbdcheck_first/src/tests/whole.rt.
-use Rattle.std.specs.Prelude.{◌≡◌, ◌+◌, ◌++◌, ◌==◌, ℕ, List, [], Option, Some, None, OnSome, IfSome, Result, Ok, Err, count_by, length}
-use Rattle.std.specs.Io.KnownBytes.{Consumes, IsAtEnd}
-use Rattle.nbd_capture.specs.declared.capture.CaptureFault.{CaptureFault}
-use Rattle.nbd_capture.specs.declared.capture.CaptureFault.TheVariants.{Line, Memory, Read}
-use Rattle.nbd_capture.specs.declared.reader.State.{State}
-use Rattle.nbd_capture.specs.declared.reader.State.TheVariants.{Open, Ended, Failed}
-use Rattle.nbd_capture.specs.Lines.{IsUnbroken, line_feed}
-use Rattle.nbd_capture.specs.Capture.{Chunk, IsCaptureText, IsFirstBadCaptureLine}
+use Rattle.std.specs.{Prelude.{◌≡◌, ◌+◌, ◌++◌, ◌==◌, ℕ, List, [], Option, Some, None, OnSome, IfSome, Result, Ok, Err, count_by, length}, Io.KnownBytes.{Consumes, IsAtEnd}}
+use Rattle.nbd_capture.specs.{declared.{capture.CaptureFault.{CaptureFault, TheVariants.{Line, Memory, Read}}, reader.State.{State, TheVariants.{Open, Ended, Failed}}}, Lines.{IsUnbroken, line_feed}, Capture.{Chunk, IsCaptureText, IsFirstBadCaptureLine}}
 
 -- A capture reader: the bytes that its reader has left, where these are known; how many bytes the rest of the text may
 -- have; how many lines were read; and whether there may be more to read.

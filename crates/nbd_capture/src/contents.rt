@@ -1,12 +1,8 @@
 //! Contents texts: what an export holds, a line for each range.
 
 ghost use Rattle.std.specs.Prelude.{◌≡◌, ◌+◌, ◌<◌, ◌^◌, [], ℕ, List, IfOk, IfErr, MatchResult, OnOk, length};
-ghost use Rattle.nbd_export.specs.Extents.{size_of};
-ghost use Rattle.nbd_export.specs.Held.{Held, held};
-ghost use Rattle.nbd_capture.specs.Contents.{IsContentsText, part};
-ghost use Rattle.nbd_capture.specs.Faults.{IsContentsFault};
-ghost use Rattle.nbd_capture.specs.internal.Telling.{Seen};
-ghost use Rattle.nbd_capture.specs.declared.contents.ContentsFault.TheVariants.{Memory};
+ghost use Rattle.nbd_export.specs.{Extents.size_of, Held.{Held, held}};
+ghost use Rattle.nbd_capture.specs.{Contents.{IsContentsText, part, IsContentsFault}, internal.Telling.Seen, declared.contents.ContentsFault.TheVariants.Memory};
 
 use crate::contents_line::{is_silent, size_on, take_line};
 use crate::lines::first_line;

@@ -2,10 +2,7 @@
 
 ghost use Rattle.std.specs.Prelude.{◌≡◌, ◌+◌, ◌++◌, ◌∷◌, [], ◌<◌, ◌≤◌, ◌^◌, ◌↔◌, ℕ, List, IfOk, IsTrue, MatchBool, MatchOption, length};
 ghost use Rattle.nbd_export.specs.Extents.{byte_of, size_of};
-ghost use Rattle.nbd_capture.specs.Capture.{AreDigits, space};
-ghost use Rattle.nbd_capture.specs.Contents.{IsContentsLine, Piece, Told, known, nothing, part, unknown, word, zeroes};
-ghost use Rattle.nbd_capture.specs.Order.{IsNumber};
-ghost use Rattle.nbd_capture.specs.internal.Telling.{IsLaid, up_to, word_text};
+ghost use Rattle.nbd_capture.specs.{Capture.{AreDigits, space}, Contents.{IsContentsLine, Piece, Told, known, nothing, part, unknown, word, zeroes}, Order.IsNumber, internal.Telling.{IsLaid, up_to, word_text}};
 
 use crate::form::append_spelled;
 use crate::lines::cut;

@@ -2,9 +2,7 @@
 
 ghost use Rattle.std.specs.Prelude.{◌≡◌, ◌++◌, ◌∷◌, ◌↔◌, ◌+◌, ◌/◌, ◌%◌, ◌<◌, [], ℕ, List, IfOk, IfErr, IsTrue, MatchBool, Option, Some, OnErr, OnOk, length, vec_capacity, vec_len};
 ghost use Rattle.nbd_wire.specs.declared.message.Side.{Side};
-ghost use Rattle.nbd_capture.specs.Capture.{AreDigits, IsCaptureLine, letter, space};
-ghost use Rattle.nbd_capture.specs.internal.Kept.{IsOf, Spell, said_into};
-ghost use Rattle.nbd_capture.specs.internal.Steps.{IsChunkFault};
+ghost use Rattle.nbd_capture.specs.{Capture.{AreDigits, IsCaptureLine, letter, space}, internal.{IsOf, Spell, said_into, IsChunkFault}};
 
 use crate::capture::CaptureFault;
 use nbd_wire::Side;

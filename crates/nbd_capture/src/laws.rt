@@ -3,10 +3,7 @@
 ghost use Rattle.std.specs.Prelude.{IfSome, length, ◌≤◌, ◌≡◌, ◌⊎◌, ◌++◌, ℕ, List};
 ghost use Rattle.nbd_wire.specs.declared.entry.Entry.{Entry};
 ghost use Rattle.nbd_export.specs.Held.{Held};
-ghost use Rattle.nbd_capture.specs.Contents.{IsContentsText, IsFirstBadContentsLine};
-ghost use Rattle.nbd_capture.specs.Capture.{Chunk, IsCaptureText, IsFirstBadCaptureLine};
-ghost use Rattle.nbd_capture.specs.Reading.{Reading, Reads, ReadsToEnd, Refuses};
-ghost use Rattle.nbd_capture.specs.Order.{IsOrderText, IsFirstBadOrderLine};
+ghost use Rattle.nbd_capture.specs.{Contents.{IsContentsText, IsFirstBadContentsLine}, Capture.{Chunk, IsCaptureText, IsFirstBadCaptureLine}, Reading.{Reading, Reads, ReadsToEnd, Refuses}, Order.{IsOrderText, IsFirstBadOrderLine}};
 
 /// A text has one reading as a capture at most.
 pub fn one_capture_reading()

@@ -1,7 +1,6 @@
 //! The lines of a text, and the words of a line.
 
-ghost use Rattle.std.specs.Prelude.{◌≡◌, ◌≢◌, ◌++◌, ◌∷◌, MatchOption};
-ghost use Rattle.std.specs.List.{AllByRecursion};
+ghost use Rattle.std.specs.{Prelude.{◌≡◌, ◌≢◌, ◌++◌, ◌∷◌, MatchOption}, List.AllByRecursion};
 ghost use Rattle.nbd_capture.specs.Lines.{IsUnbroken, line_feed};
 
 use memchr::memchr;

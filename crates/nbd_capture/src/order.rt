@@ -1,11 +1,8 @@
 //! Order texts: an entry on each line.
 
 ghost use Rattle.std.specs.Prelude.{◌≡◌, ◌≤◌, ◌↔◌, ◌∷◌, ◌++◌, [], ℕ, List, Err, IfOk, IfErr, IsTrue, MatchOption, MatchResult, OnOk, vec_capacity, vec_len};
-ghost use Rattle.nbd_wire.specs.declared.entry.Entry.{Entry};
-ghost use Rattle.nbd_wire.specs.declared.entry.Part.{Part};
-ghost use Rattle.nbd_capture.specs.Order.{BeginsPlainly, IsNumber, IsOrderLine, IsOrderText, IsPart};
-ghost use Rattle.nbd_capture.specs.Faults.{IsOrderTextFault};
-ghost use Rattle.nbd_capture.specs.declared.order.OrderTextFault.TheVariants.{Memory};
+ghost use Rattle.nbd_wire.specs.declared.entry.{Entry.Entry, Part.Part};
+ghost use Rattle.nbd_capture.specs.{Order.{BeginsPlainly, IsNumber, IsOrderLine, IsOrderText, IsPart}, Contents.IsOrderTextFault, declared.order.OrderTextFault.TheVariants.Memory};
 
 use crate::lines::{cut, first_line};
 use nbd_wire::{Entry, Part};

@@ -51,9 +51,7 @@ impl<R: BufRead> Model for CaptureReader<R> {
 }
 
 impl<R: BufRead> CaptureReader<R> {
-    ghost use Rattle.nbd_capture.specs.Capture.{chunk_of};
-    ghost use Rattle.nbd_capture.specs.Reading.{IsReaderFault, Reads, ReadsToEnd, at_start, state_after};
-    ghost use Rattle.nbd_capture.specs.declared.reader.State.TheVariants.{Ended, Failed, Open};
+    ghost use Rattle.nbd_capture.specs.{Capture.chunk_of, Reading.{IsReaderFault, Reads, ReadsToEnd, at_start, state_after}, declared.reader.State.TheVariants.{Ended, Failed, Open}};
 
     /// A reader of a capture that may have `limit` bytes. It reads nothing yet, and takes no memory.
     pub fn new(alloc: Global, reader: R, limit: u64) -> CaptureReader<R>

@@ -1,7 +1,7 @@
 //! A capture that is read line by line, from a reader that gives it in whatever pieces.
 
 ghost use Rattle.std.specs.Prelude.{◌+◌, ◌<◌, ◌≤◌, ◌^◌, length};
-ghost use Rattle.nbd_capture.specs.internal.Kept.{IsPartOf};
+ghost use Rattle.nbd_capture.specs.internal.{IsPartOf};
 
 use crate::capture::CaptureFault;
 use crate::form::Form;
@@ -41,10 +41,7 @@ pub(crate) struct Source<R> {
 
 impl<R: BufRead> Source<R> {
     ghost use Rattle.std.specs.Prelude.{◌≡◌, IfOk, IfSome};
-    ghost use Rattle.nbd_capture.specs.declared.reader.State.TheVariants.{Open};
-    ghost use Rattle.nbd_capture.specs.Reading.{at_start};
-    ghost use Rattle.nbd_capture.specs.internal.Kept.{kept};
-    ghost use Rattle.nbd_capture.specs.internal.Pieces.{IsAnswer, IsLine, IsPiece, reading};
+    ghost use Rattle.nbd_capture.specs.{declared.reader.State.TheVariants.Open, Reading.at_start, internal.{kept, Pieces.{IsAnswer, IsLine, IsPiece, reading}}};
 
     // A text that may have `limit` bytes. It takes no memory and reads nothing yet.
     pub(crate) fn new(reader: R, limit: u64) -> Source<R>

@@ -1,7 +1,6 @@
 //! Writing bytes to a writer.
 
-ghost use Rattle.std.specs.Prelude.{OnOk, OnErr};
-ghost use Rattle.std.specs.Io.KnownBytes.{Appends};
+ghost use Rattle.std.specs.{Prelude.{OnOk, OnErr}, Io.KnownBytes.Appends};
 ghost use Rattle.nbd_capture.specs.Writing.{AppendsPrefix};
 
 use std::io::Write;

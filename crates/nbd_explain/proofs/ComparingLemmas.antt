@@ -1,23 +1,11 @@
 -- What is left, compared with an image that is read portion by portion.
-use Rattle.nbd_explain.proofs.Common.{◌≡◌, ℕ, ◌+◌, ◌-◌, ◌<◌, ◌≤◌, zero, suc, refl, sym, ◌∙◌, ap, subst, arith, Option, Some, None, IfSome, Bool, List, ◌++◌, length, length-append, slice_get, Appends}
-use Rattle.std.specs.Prelude.{[], ◌∷◌, count_by, is_none, is_some}
-use Rattle.std.specs.Io.KnownBytes.{Consumes}
-use Rattle.std.proofs.KnownBytes.{Consumes-nil, Consumes-trans}
-use Rattle.std.proofs.lemmas.Bool.{cases_lt}
-use Rattle.std.proofs.Common.{⊎_elim}
+use Rattle.nbd_explain.proofs.{Common.{◌≡◌, ℕ, ◌+◌, ◌-◌, ◌<◌, ◌≤◌, zero, suc, refl, sym, ◌∙◌, ap, subst, arith, Option, Some, None, IfSome, Bool, List, ◌++◌, length, length-append, slice_get, Appends}, CountLemmas.both_counts}
+use Rattle.std.specs.{Prelude.{[], ◌∷◌, count_by, is_none, is_some}, Io.KnownBytes.Consumes}
+use Rattle.std.proofs.{KnownBytes.{Consumes-nil, Consumes-trans}, lemmas.Bool.cases_lt, Common.{⊎_elim}}
 use Rattle.nbd_wire.specs.Prelude.{known}
-use Rattle.nbd_export.specs.declared.extents.Extents.{Extents}
-use Rattle.nbd_export.specs.Extents.{byte_of, size_of}
-use Rattle.nbd_export.specs.Held.{Held, held, held_from}
-use Rattle.nbd_export.specs.Ranges.{DiffersIn, IsLeast, bytes_from}
-use Rattle.nbd_export.proofs.HeldLemmas.{length-held_from, slice_get-held_from, slice_get-held_from-none}
-use Rattle.nbd_export.proofs.LeastLemmas.{least_in_part, none_in_part}
-use Rattle.nbd_explain.specs.Compared.{DiffersAt, WritesCompared, agreeing_line, differing_line, sizes_line}
-use Rattle.nbd_explain.specs.Compared.Compares.{agree, differ, sizes}
-use Rattle.nbd_explain.specs.declared.comparing.Compared.{Compared}
-use Rattle.nbd_explain.specs.declared.comparing.Compared.TheVariants.{Agree, Differ, Sizes}
-use Rattle.nbd_explain.specs.internal.Comparing.{IsComparison, IsLeastOther, compared_line, is_agreement}
-use Rattle.nbd_explain.proofs.CountLemmas.{both_counts}
+use Rattle.nbd_export.specs.{declared.extents.Extents.Extents, Extents.{byte_of, size_of}, Held.{Held, held, held_from}, Ranges.{DiffersIn, IsLeast, bytes_from}}
+use Rattle.nbd_export.proofs.{HeldLemmas.{length-held_from, slice_get-held_from, slice_get-held_from-none}, LeastLemmas.{least_in_part, none_in_part}}
+use Rattle.nbd_explain.specs.{Compared.{DiffersAt, WritesCompared, agreeing_line, differing_line, sizes_line, Compares.{agree, differ, sizes}}, declared.comparing.Compared.{Compared, TheVariants.{Agree, Differ, Sizes}}, internal.Comparing.{IsComparison, IsLeastOther, compared_line, is_agreement}}
 
 -- an element of two lists, one behind the other
 get_front : (front behind : List ℕ) (i : ℕ) → i < length front → slice_get (front ++ behind) i ≡ slice_get front i

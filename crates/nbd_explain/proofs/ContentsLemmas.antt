@@ -1,29 +1,14 @@
 -- What a run of `contents` writes of what is left.
 use Rattle.nbd_explain.proofs.Common.{◌≡◌, ℕ, List, true, false, refl, sym, ◌∙◌, ap, subst, Option, Some, None, Result, Ok, Err, IfOk, IfErr, Entry, Profile, Pair, FitsImage, IsExplainedOf, Start, start_byte, Report, report, SessionFault, EndsIn, IsReported, SessionView, fault_at_end, fault_of, IsChecked, IsFaultOf, IsOtherSize, HasReport, IsOverText, WireFault, fault_over, flat_of, checked_over, no_run_of, report_over}
-use Rattle.std.specs.Prelude.{Bool}
-use Rattle.std.specs.declared.alloc.Global.{Global}
-use Rattle.std.specs.declared.vec.Vec.{Vec}
-use Rattle.nbd_tool.specs.Beginnings.{IsBeginningOf, IsReadAs, room_in}
-use Rattle.nbd_tool.specs.declared.beginning.Beginning.{Beginning}
-use Rattle.nbd_wire.specs.Prelude.{Exporting}
+use Rattle.std.specs.{Prelude.Bool, declared.{alloc.Global.Global, vec.Vec.Vec}}
+use Rattle.nbd_tool.specs.{Beginnings.{IsBeginningOf, IsReadAs, room_in}, declared.beginning.Beginning.Beginning, Ends.IsOver, Verdicts.IsYes}
+use Rattle.nbd_wire.specs.{Prelude.Exporting, declared.verdict.Verdict.Verdict}
 use Rattle.nbd_export.specs.Held.{held, held_from}
-use Rattle.nbd_judge.specs.Captures.{SaysYes}
-use Rattle.nbd_judge.specs.Conclusions.{VerdictsAnswerRuns}
-use Rattle.nbd_judge.specs.Verdicts.{IsVerdict}
-use Rattle.nbd_wire.specs.declared.verdict.Verdict.{Verdict}
+use Rattle.nbd_judge.specs.{Captures.SaysYes, Conclusions.VerdictsAnswerRuns, Verdicts.IsVerdict}
 use Rattle.nbd_wire.specs.declared.verdict.Verdict.TheVariants as verdict
 use Rattle.nbd_session.specs.declared.fault.SessionFault.TheVariants as session
-use Rattle.nbd_order.specs.Leaving.{left}
-use Rattle.nbd_order.specs.Sure.{sure}
-use Rattle.nbd_order.specs.declared.leaving.Left.{Left}
-use Rattle.nbd_order.specs.declared.leaving.Left.TheVariants.{Contents, NoExport, Refused}
-use Rattle.nbd_tool.specs.Ends.{IsOver}
-use Rattle.nbd_tool.specs.Verdicts.{IsYes}
-use Rattle.nbd_explain.specs.Contents.{HasEntries, IsLeftByEachOf, IsLeftOf, IsRefusedGiven, IsRefusedOf, WritesContents, WritesLeft}
-use Rattle.nbd_explain.specs.Contents.IsLeftByEachOf.{held as each-bytes, nothing as each-nothing}
-use Rattle.nbd_explain.specs.Contents.IsRefusedOf.{no_run as refuses-bytes, other_size as refuses-size}
-use Rattle.nbd_explain.specs.Contents.IsLeftOf.{held as leaves-bytes, nothing as leaves-nothing}
-use Rattle.nbd_explain.specs.Contents.WritesLeft.{contents as writes-bytes, no_export as writes-nothing, refused as writes-verdict}
+use Rattle.nbd_order.specs.{Leaving.left, Sure.sure, declared.leaving.Left.{Left, TheVariants.{Contents, NoExport, Refused}}}
+use Rattle.nbd_explain.specs.Contents.{HasEntries, IsLeftByEachOf, IsLeftOf, IsRefusedGiven, IsRefusedOf, WritesContents, WritesLeft, IsLeftByEachOf.{held as each-bytes, nothing as each-nothing}, IsRefusedOf.{no_run as refuses-bytes, other_size as refuses-size}, IsLeftOf.{held as leaves-bytes, nothing as leaves-nothing}, WritesLeft.{contents as writes-bytes, no_export as writes-nothing, refused as writes-verdict}}
 use Rattle.nbd_explain.specs.internal.Leaving.{IsLeftBehind, IsLeftFrom, IsLeftIn, IsLeftOver, TellsLeft, entries_of}
 
 -- a verdict of yes explains

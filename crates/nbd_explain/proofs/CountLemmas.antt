@@ -1,11 +1,8 @@
 -- How many bytes of a list or of a range are known.
 use Rattle.nbd_explain.proofs.Common.{◌≡◌, ℕ, ◌+◌, ◌-◌, ◌<◌, ◌≤◌, zero, suc, refl, sym, ◌∙◌, ap, arith, Option, Some, None, Bool, true, false, List, if◌then◌else◌, is_some, length, ◌⊎◌}
 use Rattle.std.specs.Prelude.{[], ◌∷◌, cond, count_by, is_none}
-use Rattle.std.proofs.Common.{⊎_elim}
-use Rattle.std.proofs.lemmas.List.Sums.{sum_by-append, sum_by-cons}
-use Rattle.nbd_export.specs.declared.kind.Kind.{Kind}
-use Rattle.nbd_export.specs.declared.kind.Kind.TheVariants.{Bytes, Unknown, Zeroes}
-use Rattle.nbd_export.specs.RangeKinds.{IsOfKind}
+use Rattle.std.proofs.{Common.{⊎_elim}, lemmas.List.Sums.{sum_by-append, sum_by-cons}}
+use Rattle.nbd_export.specs.{declared.kind.Kind.{Kind, TheVariants.{Bytes, Unknown, Zeroes}}, RangeKinds.IsOfKind}
 unfoldable use Rattle.nbd_export.specs.Held.{held_from}
 use Rattle.nbd_export.proofs.HeldLemmas.{held_from-append}
 

@@ -1,13 +1,8 @@
 -- The verdict that is explained, what faults say, and the lines of an order of arrival.
 use Rattle.nbd_explain.proofs.Common.{◌≡◌, ℕ, List, true, false, sym, subst, Option, Some, None, Result, Ok, Err, IfOk, IfErr, IfSome, OnOk, length, Appends, Keeps, Entry, WireFault, Profile, Start, Report, IsOrderText, SessionFault, Wire, EndsIn, IsReported, SessionView, fault_at_end, fault_of, no_run_of, IsFaultOf, HasReport, IsOverText, Beginning, IsBeginningOf, room_in, flat_of, verdict_on, checked_over, fault_over, report_over, Arrives, number_lines, Answer, Explains, IsFinishOf, IsToldOn, OnWritten}
-use Rattle.std.specs.declared.alloc.Global.{Global}
-use Rattle.std.specs.declared.vec.Vec.{Vec}
-use Rattle.nbd_explain.specs.Arrival.HasArrival.{accepted, refused}
-use Rattle.nbd_explain.specs.Contents.{HasEntries}
-use Rattle.nbd_explain.specs.Explained.{IsExplained}
-use Rattle.nbd_explain.specs.internal.Leaving.{entries_of}
-use Rattle.nbd_explain.specs.internal.Lines.{IsToldGiven}
 use Rattle.nbd_explain.proofs.OrderlessLemmas.{searched}
+use Rattle.std.specs.declared.{alloc.Global.Global, vec.Vec.Vec}
+use Rattle.nbd_explain.specs.{Arrival.HasArrival.{accepted, refused}, Contents.HasEntries, Explained.IsExplained, internal.{Leaving.entries_of, Lines.IsToldGiven}}
 
 -- what holds of a value holds of another claim that follows
 pub map_ok : {A E : Type 0} {P Q : A → Type 0} (o : Result A E) → ((a : A) → P a → Q a) → IfOk o P → IfOk o Q

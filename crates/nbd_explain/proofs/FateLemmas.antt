@@ -1,6 +1,11 @@
 -- What became of each message, and the lines that say so.
-use Rattle.nbd_explain.proofs.Common.{◌≡◌, ◌∙◌, ◌++◌, ◌∷◌, ◌+◌, ◌-◌, ◌<◌, ◌≤◌, ℕ, zero, suc, List, [], Option, append_assoc, append-nil, length, drop, refl, sym, ap, subst, arith, drop_of_length-le, get_or, get_or_append_left, length-append, get_or-append_seam, Appends-trans, Message, Outcome, AppendsFront, AppendsLine, AppendsNames, AreLines, EndsWith, fate, fates_behind, named, none}
+use Rattle.nbd_explain.proofs.Common.{◌≡◌, ◌∙◌, ◌++◌, ◌∷◌, ◌+◌, ◌-◌, ◌<◌, ◌≤◌, ℕ, zero, suc, List, [], Option, append_assoc, append-nil, length, drop, refl, sym, ap, subst, arith, drop_of_length-le, get_or, get_or_append_left, length-append, get_or-append_seam, Appends-trans, Message, Outcome, Appends, AppendsLine, AppendsNames, AreLines, EndsWith, fate, fates_behind, named, none}
 use Rattle.std.specs.Prelude.{codes}
+
+-- lines were written that name messages, whatever names the rest of them is written behind
+abbrev pub AppendsFront : (messages later : List Message) → (old new : Option (List ℕ)) → Type 0
+AppendsFront messages later old new = (front : List ℕ)
+    × ((rest : List ℕ) → AreLines later rest → AreLines messages (front ++ rest)) × Appends old new front
 
 -- there is one for each message
 fates_length : (ms : List Message) → length (fates_behind ms) ≡ length ms

@@ -1,9 +1,7 @@
 -- An image as the bytes of a READ of the whole export.
 use Rattle.nbd_explain.proofs.Common.{◌≡◌, ℕ, ◌<◌, ◌≤◌, refl, sym, ◌∙◌, ap, arith, Option, Some, None, true}
 use Rattle.std.specs.Prelude.{◌+◌, length, nat_le, nat_lt, slice_get}
-use Rattle.std.proofs.lemmas.Bool.{and_from, and_parts, le-leb, lt-ltb, ltb-true}
-use Rattle.std.proofs.Common.{inl}
-use Rattle.std.proofs.lemmas.Option.{slice_get_within}
+use Rattle.std.proofs.{lemmas.{Bool.{and_from, and_parts, le-leb, lt-ltb, ltb-true}, Option.slice_get_within}, Common.inl}
 use Rattle.nbd_wire.specs.Prelude.{known, is_in}
 use Rattle.nbd_export.specs.Held.{Held, held_from}
 use Rattle.nbd_export.proofs.HeldLemmas.{length-held_from, slice_get-held_from}

@@ -1,8 +1,7 @@
 -- What the end of a session says of its capture.
-use Rattle.nbd_explain.proofs.Common.{◌≡◌, ℕ, List, Bool, sym, ◌∙◌, subst, Option, Result, Ok, Err, IfOk, IfErr, IsErrAnd, OnOk, ◌⊎◌, inl, inr, Appends, Appends-trans, Profile, SessionFault, IsComplete, IsOfRun, SessionView, fault_at_end, RunFault, IsOverText, LeavesLast, is_accepted, last_line, flat_of, IsShowCause, IsShown, capture_over, NamesAll, AppendsNames}
-use Rattle.nbd_files.specs.declared.fault.RunFault.TheVariants as faults
-use Rattle.nbd_explain.proofs.LastLineLemmas.{shown}
+use Rattle.nbd_explain.proofs.{Common.{◌≡◌, ℕ, List, Bool, sym, ◌∙◌, subst, Option, Result, Ok, Err, IfOk, IfErr, IsErrAnd, OnOk, ◌⊎◌, inl, inr, Appends, Appends-trans, Profile, SessionFault, IsComplete, IsOfRun, SessionView, fault_at_end, RunFault, IsOverText, LeavesLast, is_accepted, last_line, flat_of, IsShowCause, IsShown, capture_over, NamesAll, AppendsNames}, LastLineLemmas.shown}
 use Rattle.nbd_explain.proofs.OutcomeLemmas.{named_by_report}
+use Rattle.nbd_files.specs.declared.fault.RunFault.TheVariants as faults
 
 -- the end of a session that is over, behind the lines of its messages
 pub named : {profile : Profile} (known : Option (List ℕ)) (r : SessionView) (ended : Option SessionFault) (answer : Bool) (old mid new : Option (List ℕ)) → IsOverText profile known r → IsOfRun r → IsComplete r →

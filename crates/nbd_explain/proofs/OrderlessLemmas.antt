@@ -1,12 +1,10 @@
 -- What is told of a session without an order.
 use Rattle.nbd_explain.proofs.Common.{IsAnswered, Refuted, found_text, ordered_of, wire, ◌≡◌, ℕ, List, ◌++◌, sym, subst, Option, Some, None, Result, Ok, Err, IfSome, Appends, Entry, WireFault, Profile, Pair, IsExplainedOf, Start, start_byte, Report, report, request_count, SessionFault, Wire, no_run_of, IsChecked, IsFaultOf, IsOtherSize, size_of, HasReport, Verdict, checked, IsFound, IsWanted, Says, arrival, IsRefutedBy, IsUnexplained, Found, GaveUp, Image, NoneWhole, Order, Unexplained, Any, IsBeginningOf, IsReadAs, room_in, IsUnexplainedBy, unexplained_line, flat_of, IsYes, line, Beginning, fault_over, report_over, Answer, No, Open, Yes, answer_to, BeginsWithLine, IsTold, Tells, found, Begins, IsFinishOf, IsLineOf, IsToldBySearch, IsToldOfFound, OnWritten}
+use Rattle.nbd_explain.proofs.OrderingLemmas.{answered}
 use Rattle.nbd_session.specs.declared.fault.SessionFault.TheVariants.{Memory}
 use Rattle.nbd_wire.specs.declared.verdict.Verdict.TheVariants as verdict
-use Rattle.nbd_explain.specs.Orderless.{IsToldFrom}
-use Rattle.nbd_explain.specs.Orderless.IsTold.{refuted, undecided}
-use Rattle.nbd_explain.specs.Orderless.{BeginsWith}
+use Rattle.nbd_explain.specs.Orderless.{IsToldFrom, BeginsWith, IsTold.{refuted, undecided}}
 use Rattle.nbd_explain.specs.declared.ordering.Ordered.TheVariants as ordered
-use Rattle.nbd_explain.proofs.OrderingLemmas.{answered}
 
 -- the verdict on an order that explains a capture is a yes
 yes_of : {profile : Profile} (capture : List Pair) (entries : List Entry) (initial : Start) (v : Verdict) → IsExplainedOf profile capture entries initial → IsChecked profile capture entries initial v → IsYes v

@@ -1,13 +1,7 @@
 -- The answers of `explain`.
 use Rattle.std.specs.Prelude.{ℕ, Result, Ok, Err}
-use Rattle.nbd_wire.specs.declared.verdict.Verdict.{Verdict}
-use Rattle.nbd_order.specs.declared.finding.Found.{Found}
+use Rattle.nbd_explain.specs.{Common.{Verdict, Found, RunFault, status, IsYes}, declared.answer.Answer.{Answer, TheVariants.{No, Open, Yes}}}
 use Rattle.nbd_order.specs.declared.finding.Found.TheVariants as found
-use Rattle.nbd_files.specs.declared.fault.RunFault.{RunFault}
-use Rattle.nbd_files.specs.RunFaults.{status}
-use Rattle.nbd_tool.specs.Verdicts.{IsYes}
-use Rattle.nbd_explain.specs.declared.answer.Answer.{Answer}
-use Rattle.nbd_explain.specs.declared.answer.Answer.TheVariants.{No, Open, Yes}
 
 -- the answer to a verdict: it is never open
 abbrev pub IsAnswerTo : Verdict → Answer → Type 0

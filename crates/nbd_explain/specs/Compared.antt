@@ -1,10 +1,7 @@
 -- How bytes that are left compare with an image, and the line that says so.
-use Rattle.std.specs.Prelude.{◌≡◌, ◌++◌, ◌↔◌, ℕ, List, [], Bool, true, false, Option, Some, None, codes, count_by, is_none, is_some, length, slice_get}
-use Rattle.std.specs.Fmt.{decimal}
-use Rattle.std.specs.Io.KnownBytes.{Appends}
+use Rattle.std.specs.{Prelude.{◌≡◌, ◌++◌, ◌↔◌, ℕ, List, [], Bool, true, false, Option, Some, None, codes, count_by, is_none, is_some, length, slice_get}, Fmt.decimal, Io.KnownBytes.Appends}
 use Rattle.nbd_wire.specs.declared.commands.TheConstants as commands
-use Rattle.nbd_wire.specs.Prelude.{known, Effect, IsWrongIn, IsFirst}
-use Rattle.nbd_export.specs.Held.{Held, held_from}
+use Rattle.nbd_explain.specs.Common.{known, Effect, IsWrongIn, IsFirst, Held, held_from}
 
 -- byte x is known, and the image has not this byte there
 abbrev pub DiffersAt : Held → (image : List ℕ) → ℕ → Type 0
@@ -49,8 +46,7 @@ read_of image = record {
   read = slice_get image;
 }
 
--- an image of the export's size has each byte that is known exactly where such a READ, served where the export holds
--- these bytes, serves no wrong byte
+-- an image of the export's size has each byte that is known exactly where such a READ of these bytes is not wrong
 abbrev pub ImagesCompareAsReads : Type 0
 ImagesCompareAsReads = (bytes : ℕ → Option ℕ) (size : ℕ) (image : List ℕ) → length image ≡ size
     → ((x : ℕ) → DiffersAt (held_from bytes 0 size) image x → ⊥)

@@ -1,32 +1,10 @@
 -- What a run of `contents` writes, where the readers and the writer state their bytes.
-use Rattle.std.specs.Prelude.{◌≡◌, ℕ, List, Bool, true, false, Option, Some, None, IfSome, codes}
-use Rattle.std.specs.Io.KnownBytes.{Appends}
-use Rattle.nbd_wire.specs.declared.entry.Entry.{Entry}
-use Rattle.nbd_wire.specs.declared.fault.WireFault.{WireFault}
-use Rattle.nbd_wire.specs.declared.message.Message.{Message}
-use Rattle.nbd_wire.specs.declared.profile.Profile.{Profile}
-use Rattle.nbd_wire.specs.Prelude.{Pair, FitsImage, IsExplainedOf, Start, start_byte, Item, pairs, Exporting, report, IsRunOf, IsOfNoRunOf}
-use Rattle.nbd_capture.specs.Capture.{Chunk, IsCaptureText}
-use Rattle.nbd_capture.specs.Contents.{printed}
-use Rattle.nbd_capture.specs.Order.{IsOrderText}
-use Rattle.nbd_export.specs.Held.{Held, held_from}
-use Rattle.nbd_session.specs.Refusals.{IsWireFaultOf}
-use Rattle.nbd_judge.specs.Captures.{IsChecked, SaysYes}
-use Rattle.nbd_judge.specs.Images.{IsOtherSize}
-use Rattle.nbd_wire.specs.declared.verdict.Verdict.{Verdict}
-use Rattle.nbd_wire.specs.declared.verdict.Verdict.TheVariants.{Image, Wire}
-use Rattle.nbd_order.specs.Leaving.{left}
-use Rattle.nbd_order.specs.Sure.{sure}
-use Rattle.nbd_files.specs.declared.fault.RunFault.{RunFault}
-use Rattle.nbd_files.specs.declared.fault.RunFault.TheVariants.{AgainstRead}
-use Rattle.nbd_files.specs.declared.start.StartFrom.{StartFrom}
-use Rattle.nbd_tool.specs.Runs.{IsCapture, flat_of}
-use Rattle.nbd_tool.specs.Verdicts.{line}
-use Rattle.nbd_explain.specs.Compared.{WritesCompared}
+use Rattle.std.specs.{Prelude.{◌≡◌, ℕ, List, Bool, true, false, Option, Some, None, IfSome, codes}, Io.KnownBytes.Appends}
+use Rattle.nbd_explain.specs.{Common.{Entry, WireFault, Message, Profile, Verdict, Pair, FitsImage, IsExplainedOf, Start, start_byte, Item, pairs, Exporting, report, IsRunOf, IsOfNoRunOf, Chunk, IsCaptureText, printed, IsOrderText, Held, held_from, IsWireFaultOf, IsChecked, SaysYes, IsOtherSize, left, sure, RunFault, AgainstRead, StartFrom, IsCapture, flat_of, line}, Compared.WritesCompared}
 use Rattle.nbd_explain.specs.Explained.{IsExplainCause}
+use Rattle.nbd_wire.specs.declared.verdict.Verdict.TheVariants.{Image, Wire}
 
--- what an order leaves that explains a capture from a start, in the profile: its bytes, or nothing where transmission
--- was not reached
+-- what an order leaves that explains a capture from a start: bytes, or nothing where transmission was not reached
 pub data IsLeftOf (profile : Profile) (capture : List Pair) (order : List Entry) (initial : Start)
     : Option Held → Type 0 where
   held : (items : List Item) (export : Exporting) → IsRunOf profile items → pairs items ≡ capture
@@ -65,8 +43,7 @@ abbrev pub IsRefusedGiven : Profile → List Pair → Option (List Entry) → St
 IsRefusedGiven profile capture (Some order) initial v = IsChecked profile capture order initial v × (SaysYes v → ⊥)
 IsRefusedGiven profile capture None initial v = IsRefusedOf profile capture initial v
 
--- what was written of bytes that are left, and the answer: their text; or, where an image's bytes are known, how they
--- compare with it
+-- what was written of bytes that are left, and the answer: their text; or how an image compares, where it is known
 abbrev pub WritesBytes : {A : Type 0} → (A → Option (List ℕ)) → Option A → Held → (old new : Option (List ℕ)) → Bool
     → Type 0
 WritesBytes of_image None bytes old new answer = Appends old new (printed bytes) × (answer ≡ true)
@@ -94,8 +71,7 @@ HasEntries of_order (Some order) (Some entries) = IfSome (of_order order) (λ te
 HasEntries of_order None None = Unit {0}
 HasEntries of_order order entries = ⊥
 
--- what was written of some capture, entries and start, which are those of the texts and of the start as far as they are
--- known
+-- what was written of some capture, entries and start: those of the texts and of the start, as far as they are known
 pub record WritesContents {O A : Type 0} (profile : Profile) (of_order : O → Option (List ℕ))
     (of_image : A → Option (List ℕ)) (known : Option (List ℕ)) (order : Option O) (start : Option Start)
     (against : Option A) (old new : Option (List ℕ)) (answer : Bool) : Type 0 where

@@ -1,24 +1,12 @@
 -- What a run of `explain` writes, where the readers and the writer state their bytes.
 use Rattle.std.specs.Prelude.{ℕ, List, Option, Some, None}
-use Rattle.nbd_wire.specs.declared.profile.Profile.{Profile}
-use Rattle.nbd_wire.specs.Prelude.{Start}
-use Rattle.nbd_wire.specs.declared.verdict.Verdict.{Verdict}
-use Rattle.nbd_files.specs.declared.fault.RunFault.{RunFault}
-use Rattle.nbd_files.specs.declared.start.StartFrom.{StartFrom}
-use Rattle.nbd_explain.specs.Ordering.{IsOrderingCause}
-use Rattle.nbd_tool.specs.Runs.{IsCause, IsVerdictOn}
-use Rattle.nbd_files.specs.Starts.{IsWithinLimit}
-use Rattle.nbd_tool.specs.Verdicts.{line}
-use Rattle.nbd_explain.specs.declared.answer.Answer.{Answer}
-use Rattle.nbd_explain.specs.Answering.{IsAnswerTo}
-use Rattle.nbd_explain.specs.Orderless.{BeginsWith, Tells}
+use Rattle.nbd_explain.specs.{Common.{Profile, Verdict, Start, RunFault, StartFrom, IsWithinLimit, IsCause, IsVerdictOn, line}, Ordering.IsOrderingCause, declared.answer.Answer.Answer, Answering.IsAnswerTo, Orderless.{BeginsWith, Tells}}
 
 -- the whole line of a verdict was written, and some text behind it
 abbrev pub BeginsWithLine : Verdict → (old new : Option (List ℕ)) → Type 0
 BeginsWithLine verdict old new = BeginsWith (line verdict) old new
 
--- the whole line of one verdict of the profile was written, and some text behind it; yes was answered exactly where the
--- verdict is a yes, and else no
+-- the whole line of a verdict of the profile was written, and text behind it; the answer is yes exactly where that is
 pub record Explains (profile : Profile) (capture order : Option (List ℕ)) (initial : Option Start) (answered : Answer)
     (old new : Option (List ℕ)) : Type 0 where
   pub verdict : Verdict

@@ -1,5 +1,6 @@
 pub mod Answering
 pub mod Arrival
+pub mod Common
 pub mod Compared
 pub mod Contents
 pub mod Explained

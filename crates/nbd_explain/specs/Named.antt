@@ -1,19 +1,9 @@
 -- What a run of `show --names` writes, where the reader and the writer state their bytes.
-use Rattle.std.specs.Prelude.{◌≡◌, ◌++◌, ◌∷◌, ◌==◌, ℕ, List, [], Bool, false, not, Option, IfSome, codes}
-use Rattle.std.specs.List.{list_any}
-use Rattle.std.specs.Io.KnownBytes.{Appends, Keeps}
+use Rattle.std.specs.{Prelude.{◌≡◌, ◌++◌, ◌∷◌, ◌==◌, ℕ, List, [], Bool, false, not, Option, IfSome, codes}, List.list_any, Io.KnownBytes.{Appends, Keeps}}
 use Rattle.nbd_wire.specs.declared.commands.TheConstants as commands
-use Rattle.nbd_wire.specs.declared.message.Message.{Message}
-use Rattle.nbd_wire.specs.declared.message.Message.TheVariants.{Request, ExtendedRequest}
-use Rattle.nbd_wire.specs.declared.profile.Profile.{Profile}
-use Rattle.nbd_wire.specs.Prelude.{length_by, Item, completed_messages, Outcome, Success, Pending, Asked, report, IsRunBut, ends_at, filter_in, written, has_contexts, start_of}
-use Rattle.nbd_wire.specs.protocol.Operations.{Failure}
-use Rattle.nbd_capture.specs.Capture.{Chunk, IsCaptureText}
-use Rattle.nbd_capture.specs.Lines.{line_feed}
-use Rattle.nbd_files.specs.declared.fault.RunFault.{RunFault}
-use Rattle.nbd_files.specs.declared.fault.RunFault.TheVariants.{Write, Memory}
-use Rattle.nbd_tool.specs.Runs.{flat_of}
-use Rattle.nbd_explain.specs.Shown.{IsShown}
+use Rattle.nbd_explain.specs.{Common.{Message, Request, ExtendedRequest, Profile, length_by, Item, completed_messages, Asked, report, IsRunBut, ends_at, filter_in, written, has_contexts, start_of, Chunk, IsCaptureText, line_feed, RunFault, Write, flat_of}, Shown.IsShown}
+use Rattle.nbd_wire.specs.{Prelude.{Outcome, Success, Pending}, protocol.Operations.Failure}
+use Rattle.nbd_files.specs.declared.fault.RunFault.TheVariants.{Memory}
 
 -- a request with a number: each but DISC
 abbrev pub is_numbered : Message → Bool

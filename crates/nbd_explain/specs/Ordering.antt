@@ -1,37 +1,11 @@
 -- What a run of `order` writes, where the reader and the writer state their bytes.
-use Rattle.std.specs.Prelude.{◌≡◌, ℕ, List, [], ◌∷◌, ◌++◌, Option, Some, None, IfSome, Result, Ok, Err, codes, flat_map}
-use Rattle.std.specs.Fmt.{decimal}
-use Rattle.std.specs.Io.KnownBytes.{Appends, Keeps}
-use Rattle.nbd_wire.specs.declared.entry.Entry.{Entry}
-use Rattle.nbd_wire.specs.declared.fault.WireFault.{WireFault}
-use Rattle.nbd_wire.specs.declared.message.Message.{Message}
-use Rattle.nbd_wire.specs.declared.profile.Profile.{Profile}
-use Rattle.nbd_wire.specs.Prelude.{Pair, IsExplainedOf, Start, start_byte, Item, pairs, Report, report, IsRunOf, request_count, IsOfNoRunOf}
-use Rattle.nbd_capture.specs.Capture.{Chunk, IsCaptureText}
-use Rattle.nbd_capture.specs.Lines.{line_feed}
-use Rattle.nbd_capture.specs.Order.{entry_text}
-use Rattle.nbd_session.specs.Refusals.{IsWireFaultOf}
-use Rattle.nbd_judge.specs.Images.{IsOtherSize}
-use Rattle.nbd_judge.specs.Verdicts.{wrong_verdict}
+use Rattle.std.specs.{Prelude.{◌≡◌, ℕ, List, [], ◌∷◌, ◌++◌, Option, Some, None, IfSome, Result, Ok, Err, codes, flat_map}, Fmt.decimal, Io.KnownBytes.{Appends, Keeps}}
+use Rattle.nbd_explain.specs.Common.{Entry, WireFault, Message, Profile, Pair, IsExplainedOf, Start, start_byte, Item, pairs, Report, report, IsRunOf, request_count, IsOfNoRunOf, Chunk, IsCaptureText, line_feed, entry_text, IsWireFaultOf, IsOtherSize, wrong_verdict, Reason, Mistake, States, Steps, IsWantedOrder, arrival, IsRefutedBy, IsUnexplained, Found, Wanted, Whole, RunFault, CaptureLine, CaptureRead, Write, StartFrom, status, IsStartCause, IsCapture, IsCaptureCause, flat_of, line, words}
+use Rattle.nbd_explain.specs.declared.ordering.Ordered.{Ordered, TheVariants.{Found as IsFound, Open, Refuted}}
 use Rattle.nbd_wire.specs.declared.verdict.Verdict.TheVariants.{Wire}
 use Rattle.nbd_wire.specs.declared.verdict.Verdict.TheVariants as verdict
-use Rattle.nbd_search.specs.declared.proposal.Reason.{Reason}
-use Rattle.nbd_search.specs.declared.proposal.Reason.TheVariants.{Mistake, States, Steps}
-use Rattle.nbd_order.specs.Finding.{IsWantedOrder, arrival}
-use Rattle.nbd_order.specs.Unexplained.{IsRefutedBy, IsUnexplained}
-use Rattle.nbd_order.specs.declared.finding.Found.{Found}
 use Rattle.nbd_order.specs.declared.finding.Found.TheVariants as found
-use Rattle.nbd_order.specs.declared.finding.Wanted.{Wanted}
-use Rattle.nbd_order.specs.declared.finding.Wanted.TheVariants.{Whole}
-use Rattle.nbd_files.specs.declared.fault.RunFault.{RunFault}
-use Rattle.nbd_files.specs.declared.fault.RunFault.TheVariants.{CaptureLine, CaptureRead, Memory, Write}
-use Rattle.nbd_explain.specs.declared.ordering.Ordered.{Ordered}
-use Rattle.nbd_explain.specs.declared.ordering.Ordered.TheVariants.{Found as IsFound, Open, Refuted}
-use Rattle.nbd_files.specs.declared.start.StartFrom.{StartFrom}
-use Rattle.nbd_files.specs.RunFaults.{status}
-use Rattle.nbd_tool.specs.Runs.{IsCapture, IsCaptureCause, flat_of}
-use Rattle.nbd_files.specs.Starts.{IsStartCause}
-use Rattle.nbd_tool.specs.Verdicts.{line, words}
+use Rattle.nbd_files.specs.declared.fault.RunFault.TheVariants.{Memory}
 
 -- the lines of an order, an entry on each
 abbrev pub entry_lines : List Entry → List ℕ

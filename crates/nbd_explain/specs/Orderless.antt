@@ -1,20 +1,7 @@
 -- What a run of `explain` without an order writes, where the reader and the writer state their bytes.
-use Rattle.std.specs.Prelude.{ℕ, List, ◌++◌, Option, Some, None, IfSome, codes}
-use Rattle.std.specs.Io.KnownBytes.{Appends}
-use Rattle.nbd_wire.specs.declared.entry.Entry.{Entry}
-use Rattle.nbd_wire.specs.declared.profile.Profile.{Profile}
-use Rattle.nbd_wire.specs.Prelude.{Pair, IsExplainedOf, Start}
-use Rattle.nbd_capture.specs.Capture.{Chunk, IsCaptureText}
-use Rattle.nbd_judge.specs.Captures.{IsChecked}
-use Rattle.nbd_wire.specs.declared.verdict.Verdict.{Verdict}
-use Rattle.nbd_order.specs.declared.finding.Wanted.TheVariants.{Any}
-use Rattle.nbd_explain.specs.Ordering.{IsAnswered}
+use Rattle.std.specs.{Prelude.{ℕ, List, ◌++◌, Option, Some, None, IfSome, codes}, Io.KnownBytes.Appends}
+use Rattle.nbd_explain.specs.{Common.{Entry, Profile, Verdict, Pair, IsExplainedOf, Start, Chunk, IsCaptureText, IsChecked, Any, flat_of, IsYes, words}, Ordering.IsAnswered, declared.{ordering.Ordered.TheVariants.Refuted, answer.Answer.{Answer, TheVariants.{No, Open, Yes}}}}
 use Rattle.nbd_explain.specs.declared.ordering.Ordered.TheVariants as ordered
-use Rattle.nbd_explain.specs.declared.ordering.Ordered.TheVariants.{Refuted}
-use Rattle.nbd_tool.specs.Runs.{flat_of}
-use Rattle.nbd_tool.specs.Verdicts.{IsYes, words}
-use Rattle.nbd_explain.specs.declared.answer.Answer.{Answer}
-use Rattle.nbd_explain.specs.declared.answer.Answer.TheVariants.{No, Open, Yes}
 
 -- this text was written, and some text behind it
 abbrev pub BeginsWith : List ℕ → (old new : Option (List ℕ)) → Type 0

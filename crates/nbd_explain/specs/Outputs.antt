@@ -1,9 +1,6 @@
 -- A capture has one output of `show`.
 use Rattle.std.specs.Prelude.{◌≡◌, ℕ, List, Bool}
-use Rattle.nbd_wire.specs.declared.message.Message.{Message}
-use Rattle.nbd_wire.specs.declared.profile.Profile.{Profile}
-use Rattle.nbd_wire.specs.Prelude.{Pair}
-use Rattle.nbd_explain.specs.Shown.{IsShown}
+use Rattle.nbd_explain.specs.{Common.{Message, Profile, Pair}, Shown.IsShown}
 
 -- in a profile a capture has one output at most: one answer, the same messages and the same last line
 abbrev pub OneOutput : Type 0

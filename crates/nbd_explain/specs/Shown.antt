@@ -1,20 +1,8 @@
 -- What a run of `show` says of its capture and leaves written, where the reader and the writer state their bytes.
-use Rattle.std.specs.Prelude.{◌≡◌, ◌⊎◌, ℕ, List, [], ◌++◌, Bool, true, false, Option, IfSome, codes, length}
-use Rattle.std.specs.Io.KnownBytes.{Appends, Keeps}
-use Rattle.nbd_wire.specs.declared.message.Message.{Message}
-use Rattle.nbd_wire.specs.declared.profile.Profile.{Profile}
-use Rattle.nbd_wire.specs.Prelude.{Pair, IsOfNoRunOf}
-use Rattle.nbd_capture.specs.Capture.{Chunk, IsCaptureText}
-use Rattle.nbd_capture.specs.Writing.{AppendsPrefix}
-use Rattle.nbd_wire.specs.declared.fault.WireFault.{WireFault}
-use Rattle.nbd_session.specs.Refusals.{IsWireFaultOf}
-use Rattle.nbd_session.specs.Sessions.{HasRunOf}
+use Rattle.std.specs.{Prelude.{◌≡◌, ◌⊎◌, ℕ, List, [], ◌++◌, Bool, true, false, Option, IfSome, codes, length}, Io.KnownBytes.{Appends, Keeps}}
+use Rattle.nbd_explain.specs.Common.{Message, Profile, WireFault, Pair, IsOfNoRunOf, Chunk, IsCaptureText, AppendsPrefix, IsWireFaultOf, HasRunOf, message_lines, RunFault, Write, IsCapture, IsCaptureCause, flat_of, line}
 use Rattle.nbd_wire.specs.declared.verdict.Verdict.TheVariants.{Wire}
-use Rattle.nbd_lines.specs.Script.{message_lines}
-use Rattle.nbd_files.specs.declared.fault.RunFault.{RunFault}
-use Rattle.nbd_files.specs.declared.fault.RunFault.TheVariants.{Write, Memory}
-use Rattle.nbd_tool.specs.Runs.{IsCapture, IsCaptureCause, flat_of}
-use Rattle.nbd_tool.specs.Verdicts.{line}
+use Rattle.nbd_files.specs.declared.fault.RunFault.TheVariants.{Memory}
 
 -- the prefix of a capture's bytes is that of a run of the profile, but for bytes after each side's last message, and
 -- these messages complete in that run, in this order
@@ -25,9 +13,8 @@ pub record Leads (profile : Profile) (capture prefix : List Pair) (messages : Li
   pub parts : prefix ++ rest ≡ capture
   pub run : HasRunOf profile prefix messages client server
 
--- what is to be shown of a capture's bytes: the answer, the messages and the last line. A run of the profile has
--- exactly these bytes: all its messages and `ok`. Or no such run has them: the messages that completed before the
--- fault, and the line of the wire fault.
+-- what is to be shown of a capture's bytes: answer, messages and last line. Of a run of the profile all its messages
+-- and `ok`; where no such run has them the messages that completed before the fault, and the line of the wire fault.
 pub data IsShown (profile : Profile) (capture : List Pair) : Bool → List Message → List ℕ → Type 0 where
   accepted : (messages : List Message) → HasRunOf profile capture messages [] []
       → IsShown profile capture true messages (codes "ok\n")

@@ -1,11 +1,6 @@
 -- What contents by ranges show: their size, what is known of each byte, and how many ranges they have.
-use Rattle.std.specs.Prelude.{ℕ, Option}
-use Rattle.std.specs.BTreeMap.{btree_map_len}
-use Rattle.nbd_export.specs.declared.extents.Extents.{Extents}
-use Rattle.nbd_export.specs.Kinds.{kind_from, ranges_met}
-use Rattle.nbd_export.specs.Pages.{stored_byte}
-use Rattle.nbd_export.specs.RangeKinds.{byte_by_kind, kind_of}
-use Rattle.nbd_export.specs.Ranges.{AreSameBelow, overlay}
+use Rattle.std.specs.{Prelude.{ℕ, Option}, BTreeMap.btree_map_len}
+use Rattle.nbd_export.specs.{declared.extents.Extents.Extents, Kinds.{kind_from, ranges_met}, Pages.stored_byte, RangeKinds.{byte_by_kind, kind_of}, Ranges.{AreSameBelow, overlay}}
 
 -- the byte at an offset below the size, if it is known
 unfoldable pub byte_of : Extents → ℕ → Option ℕ

@@ -1,8 +1,6 @@
 -- What an export holds, as a list of its bytes.
-use Rattle.std.specs.Prelude.{ℕ, zero, suc, ◌+◌, ◌<◌, IfSome, List, [], ◌∷◌, Option}
-use Rattle.std.specs.List.{AllByRecursion}
-use Rattle.nbd_export.specs.declared.extents.Extents.{Extents}
-use Rattle.nbd_export.specs.Extents.{byte_of, size_of}
+use Rattle.std.specs.{Prelude.{ℕ, zero, suc, ◌+◌, ◌<◌, IfSome, List, [], ◌∷◌, Option}, List.AllByRecursion}
+use Rattle.nbd_export.specs.{declared.extents.Extents.Extents, Extents.{byte_of, size_of}}
 
 -- what an export holds: each of its bytes in order, None where it is unknown
 abbrev pub Held : Type 0

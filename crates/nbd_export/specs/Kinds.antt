@@ -1,7 +1,5 @@
 -- The kind of each byte of an export, by where the ranges of one kind begin.
-use Rattle.std.specs.Prelude.{ℕ, ◌≡◌, ◌+◌, ◌==◌, ◌||◌, zero, suc, Option, Some, None, if◌then◌else◌, is_some}
-use Rattle.std.specs.Ordering.{nat_cmp}
-use Rattle.std.specs.BTreeMap.{BTreeMap, get}
+use Rattle.std.specs.{Prelude.{ℕ, ◌≡◌, ◌+◌, ◌==◌, ◌||◌, zero, suc, Option, Some, None, if◌then◌else◌, is_some}, Ordering.nat_cmp, BTreeMap.{BTreeMap, get}}
 use Rattle.nbd_export.specs.declared.kind.Kind.{Kind}
 
 -- the kind of the range that begins at an offset, where one does
@@ -27,8 +25,7 @@ kind_before from (suc x) = kind_at from x
 abbrev pub IsApartAt : (ℕ → Option Kind) → ℕ → Type 0
 IsApartAt from x = (kind : Kind) → from x ≡ Some kind → kind_before from x ≡ Some kind → ⊥
 
--- in how many ranges n bytes from an offset on lie, by the kinds from each start: the first byte's, and those that
--- begin behind it
+-- how many ranges n bytes from an offset on meet, by the kinds from each start: the first byte's and those behind it
 unfoldable pub ranges_met : (ℕ → Option Kind) → (offset n : ℕ) → ℕ
 ranges_met from offset zero = 0
 ranges_met from offset (suc n) = ranges_met from offset n

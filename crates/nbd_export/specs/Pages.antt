@@ -1,10 +1,6 @@
 -- Bytes in pages: those of an image, and over them each page of which a byte was ever written.
-use Rattle.std.specs.Prelude.{ℕ, List, ◌/◌, ◌%◌, Option, Some, None, slice_index}
-use Rattle.std.specs.Ordering.{nat_cmp}
-use Rattle.std.specs.BTreeMap.{get}
-use Rattle.std.specs.Option.{option_map}
-use Rattle.nbd_export.specs.declared.pages.TheConstants.{PAGE}
-use Rattle.nbd_export.specs.declared.pages.Pages.{Pages}
+use Rattle.std.specs.{Prelude.{ℕ, List, ◌/◌, ◌%◌, Option, Some, None, slice_index}, Ordering.nat_cmp, BTreeMap.get, Option.option_map}
+use Rattle.nbd_export.specs.declared.pages.{TheConstants.PAGE, Pages.Pages}
 
 -- the page with a number, where one was written
 abbrev pub page_from : Pages → ℕ → Option (List ℕ)

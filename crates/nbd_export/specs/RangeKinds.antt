@@ -1,9 +1,6 @@
 -- The kind of each byte of an export, where ranges of one kind cover it, and what it says of the byte.
 use Rattle.std.specs.Prelude.{ℕ, ◌≡◌, Option, Some, None, IsSome}
-use Rattle.nbd_export.specs.declared.kind.Kind.{Kind}
-use Rattle.nbd_export.specs.declared.kind.Kind.TheVariants.{Unknown, Zeroes, Bytes}
-use Rattle.nbd_export.specs.declared.kinds.Kinds.{Kinds}
-use Rattle.nbd_export.specs.Kinds.{kind_at, kind_from}
+use Rattle.nbd_export.specs.{declared.{kind.Kind.{Kind, TheVariants.{Unknown, Zeroes, Bytes}}, kinds.Kinds.Kinds}, Kinds.{kind_at, kind_from}}
 
 -- the kind of the byte at an offset below the size
 abbrev pub kind_of : Kinds → ℕ → Option Kind

@@ -1,10 +1,7 @@
 -- What an export holds at first, and what it holds from an offset on.
 use Rattle.std.specs.Prelude.{ℕ, ◌≡◌, ◌-◌, Option, Some, None, length, slice_get}
-use Rattle.nbd_export.specs.declared.start.Start.{Start}
-use Rattle.nbd_export.specs.declared.start.Start.TheVariants.{Unknown, Zeroes, Image, Contents}
-use Rattle.nbd_export.specs.declared.start.HeldPart.{HeldPart}
+use Rattle.nbd_export.specs.{declared.start.{Start.{Start, TheVariants.{Unknown, Zeroes, Image, Contents}}, HeldPart.HeldPart}, Extents.{byte_of, size_of}}
 use Rattle.nbd_export.specs.declared.start.HeldPart.TheVariants as part
-use Rattle.nbd_export.specs.Extents.{byte_of, size_of}
 
 -- the byte at an offset below the size, if it is known
 abbrev pub start_byte : Start → ℕ → Option ℕ

@@ -1,10 +1,7 @@
 //! Contents by ranges: what costs is the ranges and the bytes that a call names, never the export's size.
 
 ghost use Rattle.std.specs.Prelude.{◌≡◌, ◌==◌, ◌+◌, ◌-◌, ◌<◌, ◌≤◌, ℕ, if◌then◌else◌, None, Some, IfOk, IsOk, OnErr, OnOk, length, slice_index};
-ghost use Rattle.nbd_export.specs.RangeKinds.{IsOfKind, byte_by_kind, kind_of};
-ghost use Rattle.nbd_export.specs.Ranges.{AreSameBelow, DiffersIn, IsLeast, bytes_from, unknown, zeroes};
-ghost use Rattle.nbd_export.specs.internal.Parts.{AreOneKind, DiffersFrom};
-ghost use Rattle.nbd_export.specs.internal.Seen.{HasZeroesAlone};
+ghost use Rattle.nbd_export.specs.{RangeKinds.{IsOfKind, byte_by_kind, kind_of}, Ranges.{AreSameBelow, DiffersIn, IsLeast, bytes_from, unknown, zeroes}, internal.{AreOneKind, DiffersFrom, HasZeroesAlone}};
 
 use crate::kind::Kind;
 use crate::kinds::Kinds;
@@ -32,8 +29,7 @@ pub struct Extents {
 }
 
 impl Extents {
-    ghost use Rattle.nbd_export.specs.Extents.{byte_of, range_count, ranges_met_by, size_of};
-    ghost use Rattle.nbd_export.specs.Starts.{FitsSize, HasBytes, IsOneRange, part_byte, start_byte};
+    ghost use Rattle.nbd_export.specs.{Extents.{byte_of, range_count, ranges_met_by, size_of}, Starts.{FitsSize, HasBytes, IsOneRange, part_byte, start_byte}};
 
     /// The contents of an export of `size` bytes that holds `start`. An image is taken over as it is; only
     /// the pages that are written later are copied from it. Contents are taken over where nobody shares them, and copied

@@ -1,7 +1,6 @@
 //! The kinds of an export's bytes, as ranges of one kind that lie side by side.
 
-ghost use Rattle.std.specs.Prelude.{◌≡◌, ◌==◌, ◌+◌, ◌-◌, ◌^◌, ◌<◌, ◌≤◌, ℕ, None, Some, if◌then◌else◌, IfOk, IsSome, IsTrue, OnErr, OnOk};
-ghost use Rattle.std.specs.BTreeMap.{btree_map_len};
+ghost use Rattle.std.specs.{Prelude.{◌≡◌, ◌==◌, ◌+◌, ◌-◌, ◌^◌, ◌<◌, ◌≤◌, ℕ, None, Some, if◌then◌else◌, IfOk, IsSome, IsTrue, OnErr, OnOk}, BTreeMap.btree_map_len};
 ghost use Rattle.nbd_export.specs.Kinds.{IsApartAt, kind_from, ranges_met};
 
 use crate::kind::Kind;

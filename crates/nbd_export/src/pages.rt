@@ -1,9 +1,7 @@
 //! Bytes in pages: those of an image, and over them each page of which a byte was ever written.
 
 ghost use Rattle.std.specs.Prelude.{◌≡◌, ◌+◌, ◌*◌, ◌/◌, ◌%◌, ◌^◌, ◌<◌, ◌≤◌, ℕ, Some, IsSome, OnOk, length, slice_index};
-ghost use Rattle.nbd_export.specs.Pages.{page_from, stored_byte};
-ghost use Rattle.nbd_export.specs.Ranges.{DiffersIn, IsLeast, zeroes};
-ghost use Rattle.nbd_export.specs.internal.Parts.{DiffersFrom};
+ghost use Rattle.nbd_export.specs.{Pages.{page_from, stored_byte}, Ranges.{DiffersIn, IsLeast, zeroes}, internal.DiffersFrom};
 
 use crate::slices::{first_nonzero, first_unequal, overwrite, part, zero_bytes};
 use std::alloc::{AllocError, Global};

@@ -1,8 +1,7 @@
 //! Slices of bytes: a part of one, and two of them compared.
 
 ghost use Rattle.std.specs.Prelude.{◌≡◌, ◌+◌, ◌<◌, ◌≤◌, ℕ, length, slice_index};
-ghost use Rattle.nbd_export.specs.Ranges.{IsLeast};
-ghost use Rattle.nbd_export.specs.internal.Slices.{DifferAt, IsNonzeroAt};
+ghost use Rattle.nbd_export.specs.{Ranges.IsLeast, internal.{DifferAt, IsNonzeroAt}};
 
 static ZEROES: [u8; 1024] = [0; 1024];
 

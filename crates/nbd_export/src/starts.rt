@@ -3,10 +3,8 @@
 //! Each call costs the logarithm of the number of ranges, and `clear_between` as much for each range that
 //! it takes away.
 
-ghost use Rattle.std.specs.Prelude.{◌≡◌, ◌≢◌, ◌+◌, ◌<◌, ◌≤◌, ◌⊎◌, ℕ, None, Some, false, if◌then◌else◌, IfOk, IsSome, IsTrue, OnErr, OnOk};
-ghost use Rattle.std.specs.BTreeMap.{IsUnchanged, btree_map_len};
-ghost use Rattle.nbd_export.specs.Kinds.{kind_at, kind_from};
-ghost use Rattle.nbd_export.specs.internal.Overlays.{IsJoin, IsOverlay};
+ghost use Rattle.std.specs.{Prelude.{◌≡◌, ◌≢◌, ◌+◌, ◌<◌, ◌≤◌, ◌⊎◌, ℕ, None, Some, false, if◌then◌else◌, IfOk, IsSome, IsTrue, OnErr, OnOk}, BTreeMap.{IsUnchanged, btree_map_len}};
+ghost use Rattle.nbd_export.specs.{Kinds.{kind_at, kind_from}, internal.{IsJoin, IsOverlay}};
 
 use crate::kind::Kind;
 use std::alloc::AllocError;

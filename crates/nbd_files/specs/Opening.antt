@@ -1,11 +1,7 @@
 -- Which files were opened, and in which order, where an opener and its inputs tell it.
 use Rattle.std.specs.Prelude.{◌≡◌, ◌++◌, ◌∷◌, [], ℕ, List, Option, Some, None, ⊤, IfSome}
-use Rattle.nbd_files.specs.declared.command_line.StartWord.{StartWord}
-use Rattle.nbd_files.specs.declared.command_line.StartWord.TheVariants.{Unknown, Zero, Image, Contents}
-use Rattle.nbd_files.specs.declared.start.StartFrom.{StartFrom}
+use Rattle.nbd_files.specs.declared.{command_line.StartWord.{StartWord, TheVariants.{Unknown, Zero, Image, Contents}}, start.StartFrom.StartFrom, fault.RunFault.{RunFault, TheVariants.{CaptureRead, OrderRead, ImageRead, ContentsRead}}}
 use Rattle.nbd_files.specs.declared.start.StartFrom.TheVariants as starts
-use Rattle.nbd_files.specs.declared.fault.RunFault.{RunFault}
-use Rattle.nbd_files.specs.declared.fault.RunFault.TheVariants.{CaptureRead, OrderRead, ImageRead, ContentsRead}
 
 -- a path, as its bytes
 abbrev pub Path : Type 0

@@ -1,13 +1,9 @@
 -- The faults of a run.
-use Rattle.std.specs.Prelude.{ℕ, List, ◌++◌, codes}
-use Rattle.std.specs.Fmt.{decimal}
-use Rattle.nbd_files.specs.declared.fault.RunFault.{RunFault}
-use Rattle.nbd_files.specs.declared.fault.RunFault.TheVariants.{CaptureLine, CaptureRead, OrderLine, OrderRead, ImageRead, ContentsLine, ContentsRead, AgainstRead, ScriptLine, ScriptRead, Write, Memory}
-use Rattle.nbd_capture.specs.declared.capture.CaptureFault.{CaptureFault}
+use Rattle.std.specs.{Prelude.{ℕ, List, ◌++◌, codes}, Fmt.decimal}
+use Rattle.nbd_files.specs.declared.fault.RunFault.{RunFault, TheVariants.{CaptureLine, CaptureRead, OrderLine, OrderRead, ImageRead, ContentsLine, ContentsRead, AgainstRead, ScriptLine, ScriptRead, Write, Memory}}
+use Rattle.nbd_capture.specs.declared.{capture.CaptureFault.CaptureFault, contents.ContentsFault.ContentsFault, order.OrderTextFault.OrderTextFault}
 use Rattle.nbd_capture.specs.declared.capture.CaptureFault.TheVariants as capture_faults
-use Rattle.nbd_capture.specs.declared.contents.ContentsFault.{ContentsFault}
 use Rattle.nbd_capture.specs.declared.contents.ContentsFault.TheVariants as contents_faults
-use Rattle.nbd_capture.specs.declared.order.OrderTextFault.{OrderTextFault}
 use Rattle.nbd_capture.specs.declared.order.OrderTextFault.TheVariants as order_faults
 
 -- the exit status: 4 for out of memory, 3 for anything else

@@ -4,10 +4,7 @@ use Rattle.nbd_wire.specs.protocol.Explains as definitions
 use Rattle.nbd_wire.specs.Prelude.{Start}
 use Rattle.nbd_export.specs.Held.{Held}
 use Rattle.nbd_capture.specs.Contents.{IsContentsText, IsFirstBadContentsLine}
-use Rattle.nbd_files.specs.declared.fault.RunFault.{RunFault}
-use Rattle.nbd_files.specs.declared.fault.RunFault.TheVariants.{ImageRead, ContentsLine, ContentsRead, Memory}
-use Rattle.nbd_files.specs.declared.start.StartFrom.{StartFrom}
-use Rattle.nbd_files.specs.declared.start.StartFrom.TheVariants.{Unknown, Zeroes, Image, Contents}
+use Rattle.nbd_files.specs.declared.{fault.RunFault.{RunFault, TheVariants.{ImageRead, ContentsLine, ContentsRead, Memory}}, start.StartFrom.{StartFrom, TheVariants.{Unknown, Zeroes, Image, Contents}}}
 
 -- an image of known bytes
 abbrev pub image_of : Option (List ℕ) → Option Start

@@ -1,7 +1,6 @@
 -- What is kept of an input's bytes.
 use Rattle.std.specs.Prelude.{ℕ, List, ◌≡◌, ◌<◌, length}
-use Rattle.nbd_files.specs.declared.input.Text.{Text}
-use Rattle.nbd_files.specs.declared.input.Text.TheVariants.{Longer, Whole}
+use Rattle.nbd_files.specs.declared.input.Text.{Text, TheVariants.{Longer, Whole}}
 
 -- the bytes; or where there are more than there is room for, how many
 abbrev pub IsText : (room : ℕ) → Text → List ℕ → Type 0

@@ -1,7 +1,6 @@
 //! Why a run of the program has no answer.
 ghost use Rattle.std.specs.Prelude.{◌≡◌};
-ghost use Rattle.nbd_files.specs.RunFaults.{of_capture, of_contents, of_order, status};
-ghost use Rattle.nbd_files.specs.internal.FaultWords.{line_of, name_of};
+ghost use Rattle.nbd_files.specs.{RunFaults.{of_capture, of_contents, of_order, status}, internal.{line_of, name_of}};
 
 use nbd_capture::{CaptureFault, ContentsFault, OrderTextFault, WriteFault};
 use std::alloc::AllocError;

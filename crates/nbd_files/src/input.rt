@@ -1,9 +1,6 @@
 //! Reading an input whole.
 ghost use Rattle.std.specs.Prelude.{◌≡◌, ◌+◌, ◌<◌, ◌≤◌, ℕ, [], Err, IfOk, IfSome, Ok, OnOk, length, vec_capacity, vec_len};
-ghost use Rattle.nbd_files.specs.declared.input.ReadFault.TheVariants.{Memory};
-ghost use Rattle.nbd_files.specs.declared.input.Text.TheVariants.{Longer};
-ghost use Rattle.nbd_files.specs.Starts.{IsWithinLimit};
-ghost use Rattle.nbd_files.specs.Texts.{IsText};
+ghost use Rattle.nbd_files.specs.{declared.input.{ReadFault.TheVariants.Memory, Text.TheVariants.Longer}, Starts.IsWithinLimit, Texts.IsText};
 
 use std::alloc::{AllocError, Global};
 use std::io::Read;

@@ -1,8 +1,6 @@
 -- What an export holds at first, as the definitions say it.
 use Rattle.nbd_wire.specs.protocol.Explains as definitions
-use Rattle.nbd_export.specs.declared.start.Start.{Start}
-use Rattle.nbd_export.specs.declared.start.Start.TheVariants.{Unknown, Zeroes, Image, Contents}
-use Rattle.nbd_export.specs.Held.{held}
+use Rattle.nbd_export.specs.{declared.start.Start.{Start, TheVariants.{Unknown, Zeroes, Image, Contents}}, Held.held}
 
 -- the start that the program's value stands for
 abbrev pub initial_of : Start → definitions.Start

@@ -1,19 +1,9 @@
 -- What the verdict on a capture says.
-use Rattle.std.specs.Prelude.{ℕ, List, ◌≡◌, ◌↔◌, map}
-use Rattle.std.specs.declared.alloc.Global.{Global}
-use Rattle.std.specs.declared.vec.Vec.{Vec}
-use Rattle.nbd_wire.specs.declared.entry.Entry.{Entry}
-use Rattle.nbd_wire.specs.declared.message.Message.{Message}
-use Rattle.nbd_wire.specs.declared.message.Side.{Side}
-use Rattle.nbd_wire.specs.declared.profile.Profile.{Profile}
-use Rattle.nbd_wire.specs.Prelude.{IsExplainedOf, Start, Item, pairs, Pair, report, IsRunOf}
-use Rattle.nbd_session.specs.declared.fault.SessionFault.{SessionFault}
+use Rattle.std.specs.{Prelude.{ℕ, List, ◌≡◌, ◌↔◌, map}, declared.{alloc.Global.Global, vec.Vec.Vec}}
+use Rattle.nbd_wire.specs.{declared.{entry.Entry.Entry, message.{Message.Message, Side.Side}, profile.Profile.Profile, verdict.Verdict.{Verdict, TheVariants.{Yes, Wire}}}, Prelude.{IsExplainedOf, Start, Item, pairs, Pair, report, IsRunOf}}
+use Rattle.nbd_session.specs.{declared.fault.SessionFault.SessionFault, Refusals.IsWireFaultOf}
 use Rattle.nbd_session.specs.declared.fault.SessionFault.TheVariants as session
-use Rattle.nbd_session.specs.Refusals.{IsWireFaultOf}
-use Rattle.nbd_wire.specs.declared.verdict.Verdict.{Verdict}
-use Rattle.nbd_wire.specs.declared.verdict.Verdict.TheVariants.{Yes, Wire}
-use Rattle.nbd_judge.specs.Conclusions.{Answers}
-use Rattle.nbd_judge.specs.Verdicts.{IsVerdict}
+use Rattle.nbd_judge.specs.{Conclusions.Answers, Verdicts.IsVerdict}
 
 -- each chunk's side and its bytes
 abbrev pub records_of : List (Side × Vec ℕ Global) → List (Side × List ℕ)

@@ -1,17 +1,12 @@
 -- What a verdict concludes from a session, and what it says of the runs with that session's report.
 use Rattle.std.specs.Prelude.{List, ◌≡◌, Result, Ok, Err}
-use Rattle.nbd_wire.specs.declared.entry.Entry.{Entry}
-use Rattle.nbd_wire.specs.declared.profile.Profile.{Profile}
-use Rattle.nbd_wire.specs.Prelude.{Start, Item, pairs, service_order, Pair, Report, report, IsRunOf}
+use Rattle.nbd_wire.specs.{declared.{entry.Entry.Entry, profile.Profile.Profile, verdict.Verdict.{Verdict, TheVariants.{Yes, Wire, Order}}}, Prelude.{Start, Item, pairs, service_order, Pair, Report, report, IsRunOf}}
 use Rattle.nbd_laws.specs.Explaining.{IsNoOf, IsYesOf}
 use Rattle.nbd_session.specs.declared.fault.SessionFault.{SessionFault}
 use Rattle.nbd_session.specs.declared.fault.SessionFault.TheVariants as session
-use Rattle.nbd_wire.specs.declared.verdict.Verdict.{Verdict}
-use Rattle.nbd_wire.specs.declared.verdict.Verdict.TheVariants.{Yes, Wire, Order}
 use Rattle.nbd_judge.specs.Verdicts.{IsVerdict}
 
--- the verdict on a finished session of the profile: that on its report, or its wire fault; none where it met out of
--- memory
+-- the verdict on a finished session of the profile: that on its report, or its wire fault; none when out of memory
 abbrev pub IsConclusion : Profile → Result Report SessionFault → List Entry → Start → Verdict → Type 0
 IsConclusion profile (Ok r) order initial v = IsVerdict profile r order initial v
 IsConclusion profile (Err (session.Wire at fault)) order initial v = v ≡ Wire at fault

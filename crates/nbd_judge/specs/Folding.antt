@@ -1,8 +1,7 @@
--- Contents taken forward, from one entry to the next.
-use Rattle.std.specs.Prelude.{ℕ, List, [], ◌∷◌, ◌≡◌, Option, Some, None, if◌then◌else◌, take}
-use Rattle.nbd_wire.specs.declared.entry.Entry.{Entry}
-use Rattle.nbd_wire.specs.declared.entry.Part.{Part}
-use Rattle.nbd_wire.specs.Prelude.{Effect, byte_before, effect_byte, touches}
+-- What an order of service leaves on the export, and how its entries change contents one after another.
+use Rattle.std.specs.Prelude.{ℕ, List, [], ◌∷◌, ◌≡◌, Option, Some, None, if◌then◌else◌, take, length}
+use Rattle.nbd_wire.specs.{declared.entry.{Entry.Entry, Part.Part}, Prelude.{Effect, byte_before, effect_byte, touches, effects, Report}}
+use Rattle.nbd_export.specs.Ranges.{AreSameBelow}
 
 -- the contents after an entry with this part serves a request, if there is one
 abbrev pub contents_with_effect : Option Part → Option Effect → (ℕ → Option ℕ) → ℕ → Option ℕ
@@ -19,3 +18,11 @@ contents_after requests (entry ∷ order) old =
 abbrev pub Folding : Type 0
 Folding = (requests : ℕ → Option Effect) (order : List Entry) (initial : ℕ → Option ℕ) (i x : ℕ) →
     contents_after requests (take i order) initial x ≡ byte_before requests order initial i x
+
+-- the byte at x behind the last entry: what the last change left, or else the byte at first
+abbrev pub byte_behind : Report → List Entry → (ℕ → Option ℕ) → ℕ → Option ℕ
+byte_behind r order initial x = byte_before (effects r) order initial (length order) x
+
+-- contents of this size, with these bytes at first, hold what the order leaves
+abbrev pub HoldsLeft : Report → List Entry → (size new_size : ℕ) → (old new : ℕ → Option ℕ) → Type 0
+HoldsLeft r order size new_size old new = (new_size ≡ size) × AreSameBelow size new (byte_behind r order old)

@@ -1,10 +1,7 @@
 -- A start of given bytes that is none of the export.
 use Rattle.std.specs.Prelude.{ℕ, ◌≡◌, Option, Some, Result, Ok, Err, length}
-use Rattle.nbd_wire.specs.Prelude.{FitsImage, Start, Held, start_byte, Exporting}
-use Rattle.nbd_export.specs.declared.extents.Extents.{Extents}
-use Rattle.nbd_export.specs.Extents.{byte_of, size_of}
-use Rattle.nbd_export.specs.Ranges.{AreSameBelow}
-use Rattle.nbd_wire.specs.declared.verdict.Verdict.{Verdict}
+use Rattle.nbd_wire.specs.{Prelude.{FitsImage, Start, Held, start_byte, Exporting}, declared.verdict.Verdict.Verdict}
+use Rattle.nbd_export.specs.{declared.extents.Extents.Extents, Extents.{byte_of, size_of}, Ranges.AreSameBelow}
 use Rattle.nbd_wire.specs.declared.verdict.Verdict.TheVariants as verdict
 
 -- the start has this many bytes, as an image or a contents text, and the export has this other size

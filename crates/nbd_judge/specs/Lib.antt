@@ -3,9 +3,6 @@ pub mod Captures
 pub mod Conclusions
 pub mod Folding
 pub mod Images
-pub mod Left
-pub mod Orders
-pub mod Profiles
 pub mod Servable
 pub mod Uniqueness
 pub mod Verdicts

@@ -1,13 +1,19 @@
 -- The verdict on a report, an order of service and what the export held at first.
-use Rattle.std.specs.Prelude.{ℕ, List, ◌≡◌, ◌==◌, Option, None, Some, if◌then◌else◌, slice_get}
-use Rattle.nbd_wire.specs.declared.entry.Entry.{Entry}
-use Rattle.nbd_wire.specs.Prelude.{IsWrong, effects, FitsImage, Start, start_byte, IsFirst, Asked, Report, asked_at, IsFaultless, answered_count, improper_count, request_count}
+use Rattle.std.specs.Prelude.{ℕ, List, length, ◌≡◌, ◌==◌, Option, None, Some, if◌then◌else◌, slice_get}
+use Rattle.nbd_wire.specs.declared.{entry.Entry.Entry, profile.Profile.Profile, verdict.{OrderFault.{OrderFault, TheVariants.{NoSuchRequest, Twice, Late, Missing, BadPart, NotCovered}}, Verdict.{Verdict, TheVariants.{Yes, Wire, Image, Order, Content, Status}}}}
+use Rattle.nbd_wire.specs.Prelude.{FirstBadPart, FirstLate, FirstNoSuchRequest, FirstTwice, LeastMissing, LeastNotCovered, Report, due_in, inside_in, IsWrong, effects, FitsImage, Start, start_byte, IsFirst, Asked, asked_at, IsFaultless, answered_count, improper_count, request_count}
 use Rattle.nbd_wire.specs.declared.commands.TheConstants as commands
-use Rattle.nbd_wire.specs.declared.profile.Profile.{Profile}
 use Rattle.nbd_judge.specs.Images.{IsOtherSize}
-use Rattle.nbd_judge.specs.Orders.{IsOrderFault}
-use Rattle.nbd_wire.specs.declared.verdict.Verdict.{Verdict}
-use Rattle.nbd_wire.specs.declared.verdict.Verdict.TheVariants.{Yes, Wire, Image, Order, Content, Status}
+
+-- the order's answer is this fault at this entry, counted from 1; for Missing and NotCovered of this request
+abbrev pub IsOrderFault : Profile → Report → List Entry → ℕ → OrderFault → Type 0
+IsOrderFault profile r order entry NoSuchRequest = FirstNoSuchRequest (length r.asked) (inside_in r) order entry
+IsOrderFault profile r order entry Twice = FirstTwice (length r.asked) (inside_in r) order entry
+IsOrderFault profile r order entry Late = FirstLate (length r.asked) (due_in profile r) (inside_in r) order entry
+IsOrderFault profile r order entry Missing = LeastMissing (length r.asked) (due_in profile r) (inside_in r) order entry
+IsOrderFault profile r order entry BadPart = FirstBadPart (length r.asked) (inside_in r) order entry
+IsOrderFault profile r order entry NotCovered =
+    LeastNotCovered (length r.asked) (due_in profile r) (inside_in r) order entry
 
 -- no entry of the order serves a wrong byte, where the export's bytes were these at first
 abbrev pub HasNoneWrongFrom : Report → List Entry → (ℕ → Option ℕ) → Type 0

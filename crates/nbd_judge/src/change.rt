@@ -4,8 +4,7 @@ ghost use Rattle.std.specs.Prelude.{◌≡◌, ◌+◌, ◌-◌, ◌≤◌, OnOk
 ghost use Rattle.nbd_export.specs.Ranges.{AreSameBelow, overlay, unknown};
 ghost use Rattle.nbd_wire.specs.Prelude.{effect};
 ghost use Rattle.nbd_state.specs.Transcripts.{report_of_request};
-ghost use Rattle.nbd_judge.specs.Folding.{contents_with_effect};
-ghost use Rattle.nbd_judge.specs.internal.Servable.{IsPartIn, IsServable, served_span};
+ghost use Rattle.nbd_judge.specs.{Folding.contents_with_effect, internal.{IsPartIn, IsServable, served_span}};
 
 use crate::compare::is_success;
 use nbd_export::Contents;

@@ -1,11 +1,8 @@
 //! The verdict on a capture.
 
 ghost use Rattle.std.specs.Prelude.{◌<◌, ◌^◌, IfErr, IfOk, length};
-ghost use Rattle.nbd_wire.specs.declared.profile.Profile.TheVariants.{Base};
-ghost use Rattle.nbd_wire.specs.Prelude.{flat};
-ghost use Rattle.nbd_judge.specs.Beginnings.{initial_of};
-ghost use Rattle.nbd_judge.specs.Captures.{AnswersExactly, IsChecked, IsFaultOf, records_of};
-ghost use Rattle.nbd_judge.specs.internal.Captures.{HasReport};
+ghost use Rattle.nbd_wire.specs.{declared.profile.Profile.TheVariants.Base, Prelude.flat};
+ghost use Rattle.nbd_judge.specs.{Beginnings.initial_of, Captures.{AnswersExactly, IsChecked, IsFaultOf, records_of}, internal.HasReport};
 
 use crate::{Verdict, conclude};
 use nbd_export::Start;

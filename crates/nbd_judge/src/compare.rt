@@ -4,10 +4,8 @@ ghost use Rattle.std.specs.Prelude.{◌≡◌, ◌==◌, ◌||◌, ◌+◌, ◌-
 ghost use Rattle.nbd_export.specs.Ranges.{IsLeast};
 ghost use Rattle.nbd_wire.specs.declared.commands.TheConstants as commands;
 ghost use Rattle.nbd_wire.specs.Prelude.{IsWrongIn, effect, is_success, piece_offset, piece_size};
-ghost use Rattle.nbd_state.specs.Transcripts.{report_of_request};
-ghost use Rattle.nbd_judge.specs.internal.Pieces.{AddsSorted, AreApart, AreInOrder, AreInside, DiffersInOneOf, DiffersInOneWithin, DiffersInPiece, DiffersWithin, IsSortedAt};
-ghost use Rattle.nbd_judge.specs.internal.Servable.{IsServable};
-ghost use Rattle.nbd_state.specs.Showing.{outcome_of};
+ghost use Rattle.nbd_state.specs.{Transcripts.report_of_request, Showing.outcome_of};
+ghost use Rattle.nbd_judge.specs.internal.{IsServable, Pieces.{AddsSorted, AreApart, AreInOrder, AreInside, DiffersInOneOf, DiffersInOneWithin, DiffersInPiece, DiffersWithin, IsSortedAt}};
 
 use crate::least::lesser;
 use crate::sorting::{SortedReads, by_offset, keep_sorted, meeting};

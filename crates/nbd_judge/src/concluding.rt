@@ -1,16 +1,10 @@
 //! The verdict on a finished session and a start.
 
 ghost use Rattle.std.specs.Prelude.{◌≡◌, ℕ, List, IfOk, Ok, Err};
-ghost use Rattle.nbd_wire.specs.Prelude.{Item, pairs, IsRunOf};
-ghost use Rattle.nbd_wire.specs.declared.profile.Profile.{Profile};
-ghost use Rattle.nbd_wire.specs.declared.fault.WireFault.{WireFault};
+ghost use Rattle.nbd_wire.specs.{Prelude.{Item, pairs, IsRunOf}, declared.{profile.Profile.Profile, fault.WireFault.WireFault}};
 ghost use Rattle.nbd_session.specs.declared.fault.SessionFault.TheVariants as session;
 ghost use Rattle.nbd_wire.specs.declared.verdict.Verdict.TheVariants as verdict;
-ghost use Rattle.nbd_judge.specs.Images.{IsBegun};
-ghost use Rattle.nbd_judge.specs.internal.Beginnings.{given_length};
-ghost use Rattle.nbd_judge.specs.Beginnings.{initial_of};
-ghost use Rattle.nbd_judge.specs.Conclusions.{Answers, IsConclusion, IsReportOf};
-ghost use Rattle.nbd_judge.specs.Verdicts.{IsVerdict};
+ghost use Rattle.nbd_judge.specs.{Images.IsBegun, internal.given_length, Beginnings.initial_of, Conclusions.{Answers, IsConclusion, IsReportOf}, Verdicts.IsVerdict};
 
 use crate::{Verdict, judge, laws};
 use nbd_export::{Contents, Extents, Start};

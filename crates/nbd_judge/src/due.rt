@@ -6,9 +6,7 @@ ghost use Rattle.nbd_laws.specs.Soundness.{IsSoundReport};
 ghost use Rattle.nbd_state.specs.Transcripts.{report_of_request};
 ghost use Rattle.nbd_wire.specs.declared.commands.TheConstants as commands;
 ghost use Rattle.nbd_wire.specs.Prelude.{is_in, due_in};
-ghost use Rattle.nbd_judge.specs.internal.Dues.{IsFair, IsLeastDue, ShowsIn};
-ghost use Rattle.nbd_judge.specs.internal.Pieces.{AreApart};
-ghost use Rattle.nbd_judge.specs.internal.Services.{span_of_asked};
+ghost use Rattle.nbd_judge.specs.internal.{IsFair, IsLeastDue, ShowsIn, Pieces.AreApart, Services.span_of_asked};
 
 use crate::compare::overlap;
 use crate::least::lesser;

@@ -1,14 +1,8 @@
 //! The verdict on the report of a session.
 
 ghost use Rattle.std.specs.Prelude.{◌≡◌, ℕ, List, Option, IfOk};
-ghost use Rattle.nbd_wire.specs.declared.profile.Profile.{Profile};
-ghost use Rattle.nbd_wire.specs.Prelude.{Pair, Item, pairs, report, IsRunOf, IsFaultless};
-ghost use Rattle.nbd_judge.specs.Conclusions.{LeavesUnserved};
-ghost use Rattle.nbd_judge.specs.Captures.{SaysYes};
-ghost use Rattle.nbd_judge.specs.Left.{HoldsLeft};
-ghost use Rattle.nbd_judge.specs.Servable.{size_of};
-ghost use Rattle.nbd_wire.specs.declared.entry.Entry.{Entry};
-ghost use Rattle.nbd_judge.specs.Verdicts.{FirstWrongFrom, IsJudged, wrong_verdict};
+ghost use Rattle.nbd_wire.specs.{declared.{profile.Profile.Profile, entry.Entry.Entry}, Prelude.{Pair, Item, pairs, report, IsRunOf, IsFaultless}};
+ghost use Rattle.nbd_judge.specs.{Conclusions.LeavesUnserved, Captures.SaysYes, Folding.HoldsLeft, Servable.size_of, Verdicts.{FirstWrongFrom, IsJudged, wrong_verdict}};
 
 use crate::Verdict;
 use crate::order::order_fault;

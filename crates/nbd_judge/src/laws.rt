@@ -1,9 +1,6 @@
 //! Laws over the definitions of verdicts: each is the contract of a function that does nothing.
 
-ghost use Rattle.nbd_judge.specs.Conclusions.{VerdictsAnswerRuns};
-ghost use Rattle.nbd_judge.specs.Folding.{Folding};
-ghost use Rattle.nbd_judge.specs.Profiles.{VerdictsAgree};
-ghost use Rattle.nbd_judge.specs.Uniqueness.{OneAnswer, OneJudgement, OneVerdict, OneWireFault};
+ghost use Rattle.nbd_judge.specs.{Conclusions.VerdictsAnswerRuns, Folding.Folding, Uniqueness.{VerdictsAgree, OneAnswer, OneJudgement, OneVerdict, OneWireFault}};
 
 use nbd_laws::laws::{explained_exactly, latest_moments, same_reports};
 

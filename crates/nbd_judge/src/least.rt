@@ -1,7 +1,7 @@
 //! The lesser of two numbers that may be absent.
 
 ghost use Rattle.std.specs.Prelude.{◌≡◌};
-ghost use Rattle.nbd_judge.specs.internal.Lesser.{is_above};
+ghost use Rattle.nbd_judge.specs.internal.{is_above};
 ghost use Rattle.nbd_wire.specs.Prelude.{lesser_of};
 
 /// The lesser of two numbers; if only one is there, that one.

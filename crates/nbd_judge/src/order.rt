@@ -1,14 +1,10 @@
 //! The faults of an order of service: each test is one pass over the order or over the requests.
 
 ghost use Rattle.std.specs.Prelude.{◌≡◌, ◌+◌, ◌<◌, ◌^◌, ℕ, IfOk, MatchOption, Some, replicate, slice_get};
-ghost use Rattle.nbd_wire.specs.Prelude.{IsFirst, IsLate, due_in, IsFaultless};
+ghost use Rattle.nbd_wire.specs.{Prelude.{IsFirst, IsLate, due_in, IsFaultless}, declared.entry.Entry.Entry};
 ghost use Rattle.nbd_state.specs.Transcripts.{report_of_request};
-ghost use Rattle.nbd_judge.specs.Orders.{IsOrderFault};
-ghost use Rattle.nbd_judge.specs.internal.Dues.{IsFair};
+ghost use Rattle.nbd_judge.specs.{Verdicts.IsOrderFault, internal.{IsFair, Services.{IsTable, TellsFaultOf, TellsFaultShown, TellsUnserved}}, declared.service.Service.TheVariants.Unnamed};
 ghost use Rattle.nbd_wire.specs.declared.commands.TheConstants as commands;
-ghost use Rattle.nbd_wire.specs.declared.entry.Entry.{Entry};
-ghost use Rattle.nbd_judge.specs.declared.service.Service.TheVariants.{Unnamed};
-ghost use Rattle.nbd_judge.specs.internal.Services.{IsTable, TellsFaultOf, TellsFaultShown, TellsUnserved};
 
 use crate::OrderFault;
 use crate::due::{inside, least_due, meet};

@@ -2,8 +2,7 @@
 
 ghost use Rattle.std.specs.Prelude.{◌≡◌, ◌+◌, ◌<◌, ◌^◌, ◌&&◌, ℕ, None, Some, IfOk, nat_le};
 ghost use Rattle.nbd_judge.specs.internal.Services.{IsPartsAfter, IsServiceAfter, TellsFault, TellsFaultIn};
-ghost use Rattle.nbd_state.specs.Sizes.{sizes_of};
-ghost use Rattle.nbd_state.specs.declared.span.Span.{Span};
+ghost use Rattle.nbd_state.specs.{Sizes.sizes_of, declared.span.Span.Span};
 
 use crate::OrderFault;
 use nbd_state::{Span, SpanIndex};

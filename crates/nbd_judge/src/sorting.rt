@@ -1,8 +1,6 @@
 //! The pieces of READs in the order of their offsets.
 
-ghost use Rattle.std.specs.Prelude.{◌≡◌, ◌+◌, ◌-◌, IfOk, IsSome, IsTrue, OnOk, map, nat_le, nat_lt};
-ghost use Rattle.std.specs.BTreeMap.{get};
-ghost use Rattle.std.specs.Ordering.{nat_cmp};
+ghost use Rattle.std.specs.{Prelude.{◌≡◌, ◌+◌, ◌-◌, IfOk, IsSome, IsTrue, OnOk, map, nat_le, nat_lt}, BTreeMap.get, Ordering.nat_cmp};
 ghost use Rattle.nbd_wire.specs.Prelude.{is_in, piece_offset, piece_size};
 ghost use Rattle.nbd_judge.specs.internal.Pieces.{AddsSorted, AreApart, AreInOrder, AreSorted, AreThose};
 

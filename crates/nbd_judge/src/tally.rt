@@ -2,8 +2,7 @@
 
 ghost use Rattle.std.specs.Prelude.{◌≡◌, not};
 ghost use Rattle.nbd_wire.specs.protocol.Verdicts as definitions;
-ghost use Rattle.nbd_state.specs.Showing.{outcome_of};
-ghost use Rattle.nbd_state.specs.Transcripts.{report_of_request};
+ghost use Rattle.nbd_state.specs.{Showing.outcome_of, Transcripts.report_of_request};
 
 use nbd_session::{Asked, Outcome, Transcript};
 use nbd_wire::Profile;

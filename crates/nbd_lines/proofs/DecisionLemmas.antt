@@ -1,15 +1,10 @@
 -- Each line of a script has a form or none.
 use Rattle.nbd_lines.proofs.Common.{nat_eq, pointwise, take, take-append-drop, take-append_seam, append-nil, ◌≤◌, ◌≡◌, ◌≢◌, ℕ, ◌^◌, ◌<◌, Bool, true, false, List, [], ◌∷◌, ◌++◌, length, drop, get_or, ◌⊎◌, inl, inr, refl, sym, ap, ◌∙◌, subst, arith, append_assoc, Result, Ok, Err, ◌==◌, if◌then◌else◌, codes, AllByRecursion, decimal, digits_value, cases_eq, decimal_is_IsNumeral, decode_of, FromHexError, Message, carries_payload, FitsItsHead, WRITE, hash, space, Decided, Field, Form, AreWithin, IsEnd, IsMessageLine, equals, numbers_text, payload_words, nothing, BeginsNumber, BeginsNumbers, EndsWord, IsSpaceless, ReadsNumber, ReadsNumbers, IsScriptLine, message, blank, comment, ok, payload_of, field_name, fields, has_payload, line_form, numbers, words}
+use Rattle.nbd_lines.proofs.{EndLemmas.{no_payload, not_nothing, payload_at, bad_digits_are_no_end}, MessageLineLemmas.{EndsSo, built, ends_so, fields_small, form_by, form_by-words, from_parts, misfit, no_end, no_form, no_numbers, nth}, NumberLemmas.{no_more, number_read, number_word, put_first, split_first}, ScriptLineLemmas.{formless_line, is_silent}}
 use Rattle.nbd_wire.specs.declared.message.Message.TheVariants as messages
-use Rattle.nbd_lines.proofs.EndLemmas.{no_payload, not_nothing, payload_at, bad_digits_are_no_end}
-use Rattle.nbd_lines.proofs.MessageLineLemmas.{EndsSo, built, ends_so, fields_small, form_by, form_by-words, from_parts, misfit, no_end, no_form, no_numbers, nth}
-use Rattle.nbd_lines.proofs.NumberLemmas.{no_more, number_read, number_word, put_first, split_first}
-use Rattle.nbd_lines.proofs.ScriptLineLemmas.{formless_line, is_silent}
 use Rattle.std.specs.Cmp.Lexicographic.{same_text}
 use Rattle.std.proofs.lemmas.Bool.{cases_Bool}
-use Rattle.nbd_capture.proofs.ContentsLineLemmas.{pointwise-refl}
-use Rattle.nbd_capture.proofs.PartingLemmas.{parted}
-use Rattle.nbd_capture.proofs.TotalLemmas.{Either, at_most, both, less}
+use Rattle.nbd_capture.proofs.{ContentsLineLemmas.pointwise-refl, PartingLemmas.parted, TotalLemmas.{Either, at_most, both, less}}
 
 same_list : (a b : List ℕ) → Either (a ≡ b)
 same_list a b = elim (cases_Bool (pointwise nat_eq a b)) [

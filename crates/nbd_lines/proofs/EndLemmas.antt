@@ -1,6 +1,5 @@
 -- Ends of lines, next to what `hex` says of its calls.
-use Rattle.nbd_lines.proofs.Common.{◌≡◌, ℕ, Bool, true, false, List, [], ◌∷◌, ◌++◌, Ok, Err, length, refl, sym, subst, arith, ◌==◌, eqb-true, append_cancel_left, decode_of, FromHexError, decodes, spelled, IsEnd, payload_words, nothing, payload}
-use Rattle.nbd_lines.proofs.MessageLineLemmas.{Carries, EndsSo, ends_so}
+use Rattle.nbd_lines.proofs.{Common.{◌≡◌, ℕ, Bool, true, false, List, [], ◌∷◌, ◌++◌, Ok, Err, length, refl, sym, subst, arith, ◌==◌, eqb-true, append_cancel_left, decode_of, FromHexError, decodes, spelled, IsEnd, payload_words, nothing, payload}, MessageLineLemmas.{Carries, EndsSo, ends_so}}
 
 pub nothing_at : (p : Bool) (bytes end : List ℕ) → p ≡ false → bytes ≡ [] → end ≡ [] → IsEnd p bytes end
 nothing_at p bytes end e b n = rw (e, b, n) nothing

@@ -1,8 +1,7 @@
 -- What the chunk lines of a script's messages are as a capture.
-use Rattle.nbd_lines.proofs.Common.{◌≡◌, ℕ, zero, suc, ◌<◌, true, List, [], ◌∷◌, ◌++◌, refl, ap, subst, arith, map, replicate, flat_map, byte_at, AllByRecursion, IsBytes, Message, AreBytes, enc, head, tail, slice_index-byte, IsSendable, IsCaptureText, chunk_line, chunk_lines, made_chunk, made_line}
+use Rattle.nbd_lines.proofs.{Common.{◌≡◌, ℕ, zero, suc, ◌<◌, true, List, [], ◌∷◌, ◌++◌, refl, ap, subst, arith, map, replicate, flat_map, byte_at, AllByRecursion, IsBytes, Message, AreBytes, enc, head, tail, slice_index-byte, IsSendable, IsCaptureText, chunk_line, chunk_lines, made_chunk, made_line}, PrintableLemmas.sendable_bytes}
 use Rattle.nbd_wire.specs.declared.message.Message.TheVariants as messages
 use Rattle.nbd_capture.specs.Capture.{Chunk}
-use Rattle.nbd_lines.proofs.PrintableLemmas.{sendable_bytes}
 
 below : (k n : ℕ) → byte_at k n < 256
 below k n = grind arith

@@ -1,6 +1,5 @@
 -- What `make` answers: that a script's messages fit, and what stands written after a fault.
-use Rattle.nbd_lines.proofs.Common.{ℕ, inl, inr, List, ◌++◌, sym, subst, AllByRecursion, Message, FitsItsHead, empty, line, IsScript}
-use Rattle.nbd_lines.proofs.ScriptLineLemmas.{forms}
+use Rattle.nbd_lines.proofs.{Common.{ℕ, inl, inr, List, ◌++◌, sym, subst, AllByRecursion, Message, FitsItsHead, empty, line, IsScript}, ScriptLineLemmas.forms}
 
 -- each message of a script fits its head
 pub all_fit : (text : List ℕ) (messages : List Message) → IsScript text messages → AllByRecursion FitsItsHead messages

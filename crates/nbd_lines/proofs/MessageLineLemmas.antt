@@ -1,7 +1,7 @@
 -- Message lines: a line stands for one message at most.
 use Rattle.nbd_lines.proofs.Common.{◌≡◌, ℕ, zero, suc, ◌^◌, ◌<◌, Bool, true, false, List, [], ◌++◌, drop, get_or, refl, sym, ◌∙◌, subst, arith, nat_eq, ◌==◌, if◌then◌else◌, AllByRecursion, append_cancel_left, Message, FitsItsHead, AreDigits, decodes, Field, Form, Greeting, ClientFlags, Choice, Answer, Exported, Request, Simple, Chunk, ExtendedRequest, ExtendedChunk, IsEnd, IsMessageLine, numbers_text, payload_words, BeginsNumbers, EndsWord, ReadsNumbers, payload_of, fields, has_payload, line_form, numbers, words}
-use Rattle.nbd_wire.specs.declared.message.Message.TheVariants as messages
 use Rattle.nbd_lines.proofs.NumberLemmas.{one_list}
+use Rattle.nbd_wire.specs.declared.message.Message.TheVariants as messages
 
 -- the first, the third and the fifth letter of a line state its form
 unfoldable pub form_by : List ℕ → Form

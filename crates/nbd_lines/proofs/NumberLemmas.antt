@@ -1,7 +1,6 @@
 -- The numbers of a line: how a text begins with them.
 use Rattle.nbd_lines.proofs.Common.{◌≡◌, ℕ, ◌+◌, ◌^◌, ◌<◌, ◌≤◌, List, [], ◌∷◌, ◌++◌, refl, sym, ap, ◌∙◌, append_assoc, append-nil, arith, add-one, drop, drop-cons, get_or, length, subst, take, slice_set, AllByRecursion, decimal, decimal_injective, append_cancel_left, drop_all, take_more_set, space, Field, AreWithin, equals, number_text, numbers_text, BeginsNumber, BeginsNumbers, EndsWord, IsSpaceless, ReadsNumber, ReadsNumbers, field_name}
-use Rattle.nbd_lines.proofs.DecimalLemmas.{decimal_is_spaceless}
-use Rattle.nbd_lines.proofs.WordLemmas.{same_word}
+use Rattle.nbd_lines.proofs.{DecimalLemmas.decimal_is_spaceless, WordLemmas.same_word}
 
 -- the parts of a text that begins with a field
 pub number_split : (f : Field) (n : ℕ) (behind : List ℕ) → number_text f n ++ behind ≡ space ∷ (field_name f.name ++ equals ∷ (decimal n ++ behind))

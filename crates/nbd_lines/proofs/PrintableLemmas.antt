@@ -1,8 +1,7 @@
 -- What is printed of a message that can be sent is read again.
 use Rattle.nbd_lines.proofs.Common.{Form, words, IsBytes, ◌≡◌, ℕ, ◌^◌, ◌<◌, Bool, true, false, List, [], ◌∷◌, ◌++◌, refl, sym, subst, arith, append_assoc, append-nil, ◌∙◌, codes, AllByRecursion, encode_lower, decode_of-encode_lower, Message, AreBytes, FitsItsHead, slice_index-byte, IsSendable, spelled, IsUnbroken, line_feed, empty, line, Field, Name, AreWithin, IsEnd, IsMessageLine, end_text, message_line, number_text, numbers_text, nothing, payload, IsScript, message_lines, shown_line, message, ok, payload_of, field_name, has_payload, line_form}
-use Rattle.nbd_lines.proofs.MessageLineLemmas.{fields_small}
+use Rattle.nbd_lines.proofs.{MessageLineLemmas.fields_small, WrittenLemmas.{unbroken_digits, unbroken_number}}
 use Rattle.nbd_capture.proofs.ReadingStepLemmas.{unbroken-append}
-use Rattle.nbd_lines.proofs.WrittenLemmas.{unbroken_digits, unbroken_number}
 
 pub sendable_bytes : (m : Message) → IsSendable m → AreBytes (payload_of m)
 unfolding IsSendable

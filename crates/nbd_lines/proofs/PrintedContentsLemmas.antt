@@ -1,19 +1,12 @@
 -- What is printed of contents is read again.
 use Rattle.nbd_lines.proofs.Common.{◌≡◌, ℕ, zero, suc, ◌+◌, ◌%◌, ◌==◌, ◌^◌, ◌<◌, ◌≤◌, Bool, true, false, if◌then◌else◌, List, [], ◌∷◌, ◌++◌, length, refl, sym, ap, ◌∙◌, subst, arith, append_assoc, append-nil, length-append, codes, decimal, decode_of-encode_lower, eqb-true, Option, Some, None, IsBytes, IsNumber, encode_lower, IsUnbroken, line_feed, space, AreContentsLines, AreHeld, Held, held, IsContentsLine, IsContentsText, IsValue, Piece, Told, are_zeroes, before_pieces, cut, join, joined, known, next-line, no-line, part, piece-line, piece_line, piece_lines, printed, shown, size-line, unknown, value_text, word, zeroes}
-use Rattle.nbd_capture.specs.Contents.Told.{nothing}
-use Rattle.nbd_capture.specs.Contents.{told}
-use Rattle.nbd_capture.proofs.ContentsTextLemmas.{one_reading}
-use Rattle.nbd_capture.proofs.DigitLemmas.{spelled}
-use Rattle.nbd_export.specs.Extents.{byte_of, size_of}
-use Rattle.nbd_export.specs.Ranges.{AreSameBelow}
-use Rattle.nbd_export.specs.declared.extents.Extents.{Extents}
-use Rattle.nbd_export.proofs.HeldLemmas.{held_from-same}
-use Rattle.nbd_capture.proofs.HeldLemmas.{length-unknown, length-zeroes}
 use Rattle.nbd_lines.proofs.WrittenLemmas.{printed_number, unbroken_digits, unbroken_number}
-use Rattle.std.proofs.Common.{map, replicate}
-use Rattle.std.proofs.lemmas.List.{replicate-append-replicate}
+use Rattle.nbd_capture.specs.Contents.{told, Told.nothing}
+use Rattle.nbd_capture.proofs.{ContentsTextLemmas.one_reading, DigitLemmas.spelled, HeldLemmas.{length-unknown, length-zeroes}, ReadingStepLemmas.unbroken-append}
+use Rattle.nbd_export.specs.{Extents.{byte_of, size_of}, Ranges.AreSameBelow, declared.extents.Extents.Extents}
+use Rattle.nbd_export.proofs.HeldLemmas.{held_from-same}
+use Rattle.std.proofs.{Common.{map, replicate}, lemmas.List.replicate-append-replicate}
 use Rattle.std.specs.List.{AllByRecursion}
-use Rattle.nbd_capture.proofs.ReadingStepLemmas.{unbroken-append}
 
 -- ---- what pieces tell
 

@@ -1,13 +1,10 @@
 -- The pieces of what an export holds, from an offset on, as the program finds them.
 use Rattle.nbd_lines.proofs.Common.{◌≡◌, ℕ, zero, suc, ◌+◌, ◌-◌, ◌%◌, ◌<◌, ◌≤◌, Bool, true, false, ◌⊎◌, List, ◌++◌, length, get_or, sym, ap, ◌∙◌, subst, arith, ne_eqb, eq-eqb, cases_lt, length-take-le, slice_index, take, Option, Some, None, Held, Piece, are_zeroes, cut, held_from, join, joined, known, shown, unknown, zeroes}
-use Rattle.nbd_export.proofs.HeldLemmas.{held_from-append, held_from-list}
 use Rattle.nbd_lines.proofs.PieceTextLemmas.{IsCut, cut_at_end, cut_at_multiple, cut_at_unknown, cut_known, cut_unknown, cut_zeroes}
-use Rattle.nbd_lines.specs.internal.Showing.{piece_of}
-use Rattle.nbd_export.specs.RangeKinds.{IsOfKind}
-use Rattle.nbd_export.specs.declared.kind.Kind.{Kind}
-use Rattle.nbd_export.specs.declared.kind.Kind.TheVariants.{Unknown, Zeroes, Bytes}
-use Rattle.std.proofs.Common.{IsSome, map, min, replicate}
-use Rattle.std.proofs.lemmas.List.{get_or-take, take-append-le, get_or-map, get_or-replicate, length-map, length-replicate}
+use Rattle.nbd_export.proofs.HeldLemmas.{held_from-append, held_from-list}
+use Rattle.nbd_lines.specs.internal.{piece_of}
+use Rattle.nbd_export.specs.{RangeKinds.IsOfKind, declared.kind.Kind.{Kind, TheVariants.{Unknown, Zeroes, Bytes}}}
+use Rattle.std.proofs.{Common.{IsSome, map, min, replicate}, lemmas.List.{get_or-take, take-append-le, get_or-map, get_or-replicate, length-map, length-replicate}}
 
 -- the pieces of bytes below a size, from an offset on
 abbrev pub pieces_from : (ℕ → Option ℕ) → (size at : ℕ) → List Piece

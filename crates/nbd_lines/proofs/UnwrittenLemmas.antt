@@ -1,14 +1,11 @@
 -- What of printed contents is not written yet, while their pieces are gone through.
 use Rattle.nbd_lines.proofs.Common.{◌≡◌, ℕ, zero, suc, ◌+◌, ◌-◌, ◌<◌, ◌≤◌, List, [], ◌∷◌, ◌++◌, AreHeld, IfSome, Some, cases_lt, length, refl, sym, ap, ◌∙◌, subst, arith, append-nil, ◌⊎◌, inl, inr, Option, Appends, AppendsPrefix, Piece, cut, held_from, join, joined, known, piece_line, piece_lines, printed, size_line, unknown, zeroes}
+use Rattle.nbd_lines.proofs.{PieceTextLemmas.{apart_unknown_zeroes, apart_zeroes_unknown, join_known, join_unknown, join_zeroes}, ShowingLemmas.pieces_from}
 use Rattle.nbd_capture.specs.Contents.{told}
 use Rattle.nbd_export.proofs.HeldLemmas.{length-held_from}
-use Rattle.nbd_capture.proofs.HeldLemmas.{length-known, length-unknown, length-zeroes}
-use Rattle.nbd_lines.proofs.PieceTextLemmas.{apart_unknown_zeroes, apart_zeroes_unknown, join_known, join_unknown, join_zeroes}
-use Rattle.nbd_lines.proofs.ShowingLemmas.{pieces_from}
-use Rattle.nbd_capture.proofs.WriterLemmas.{Wrote, broken_off, one_more, plainly}
-use Rattle.nbd_lines.specs.internal.Showing.{piece_of, run_line}
-use Rattle.nbd_export.specs.declared.kind.Kind.{Kind}
-use Rattle.nbd_export.specs.declared.kind.Kind.TheVariants.{Unknown, Zeroes, Bytes}
+use Rattle.nbd_capture.proofs.{HeldLemmas.{length-known, length-unknown, length-zeroes}, WriterLemmas.{Wrote, broken_off, one_more, plainly}}
+use Rattle.nbd_lines.specs.internal.{piece_of, run_line}
+use Rattle.nbd_export.specs.declared.kind.Kind.{Kind, TheVariants.{Unknown, Zeroes, Bytes}}
 
 -- the lines of pieces from an offset on, with that of the bytes of this kind before it
 abbrev pub unwritten : Kind → (from at : ℕ) → List Piece → List ℕ

@@ -1,11 +1,9 @@
 -- What is written in the forms of the two grammars is read again.
 use Rattle.nbd_lines.proofs.Common.{ℕ, suc, ◌/◌, ◌%◌, ◌^◌, ◌<◌, List, [], ◌∷◌, ◌++◌, refl, sym, ap, subst, arith, append_assoc, append-nil, Some, None, flat_map, AllByRecursion, decimal, decimal_is_IsNumeral, IsBytes, encode_lower, encode_with, decode_of-encode_lower, Side, line_feed, IsUnbroken, empty, line, IsCaptureText, chunk_line, letter, space, chunk, Entry, Part, EntryFits, IsNumber, IsOrderLine, IsOrderText, PartFits, entry_text, part_text, atomically, of_part}
+use Rattle.nbd_lines.proofs.DecimalLemmas.{plain_as_decimal}
 use Rattle.nbd_capture.specs.Capture.{Chunk}
 use Rattle.std.proofs.Common.{Option}
-use Rattle.nbd_capture.proofs.DigitLemmas.{lower_below, spelled}
-use Rattle.nbd_capture.proofs.PartingLemmas.{digits_lack}
-use Rattle.nbd_capture.proofs.ReadingStepLemmas.{unbroken-append}
-use Rattle.nbd_lines.proofs.DecimalLemmas.{plain_as_decimal}
+use Rattle.nbd_capture.proofs.{DigitLemmas.{lower_below, spelled}, PartingLemmas.digits_lack, ReadingStepLemmas.unbroken-append}
 
 -- no digit is a line feed
 pub unbroken_digits : (bytes : List ℕ) → IsBytes bytes → IsUnbroken (encode_lower bytes)

@@ -1,15 +1,11 @@
 -- What the answers and the faults of this crate say of a text and of a writer's bytes.
-use Rattle.std.specs.Prelude.{List, ℕ, ◌⊎◌, Option}
-use Rattle.std.specs.Io.KnownBytes.{Appends, Keeps}
+use Rattle.std.specs.{Prelude.{List, ℕ, ◌⊎◌, Option}, Io.KnownBytes.{Appends, Keeps}}
 use Rattle.nbd_wire.specs.declared.message.Message.{Message}
 use Rattle.nbd_capture.specs.Writing.{AppendsPrefix}
-use Rattle.nbd_lines.specs.declared.making.MakeFault.{MakeFault}
+use Rattle.nbd_lines.specs.{declared.{making.MakeFault.MakeFault, output.OutputFault.OutputFault, script.ScriptFault.ScriptFault}, Script.{IsFirstBadScriptLine, IsScript, chunk_lines}}
 use Rattle.nbd_lines.specs.declared.making.MakeFault.TheVariants as make_faults
-use Rattle.nbd_lines.specs.declared.output.OutputFault.{OutputFault}
 use Rattle.nbd_lines.specs.declared.output.OutputFault.TheVariants as output_faults
-use Rattle.nbd_lines.specs.declared.script.ScriptFault.{ScriptFault}
 use Rattle.nbd_lines.specs.declared.script.ScriptFault.TheVariants as script_faults
-use Rattle.nbd_lines.specs.Script.{IsFirstBadScriptLine, IsScript, chunk_lines}
 
 -- a line fault names the first bad line; out of memory says nothing of the text
 abbrev pub IsScriptFault : List ℕ → ScriptFault → Type 0
@@ -41,8 +37,7 @@ IsMakeCause text (make_faults.Line n) = IsFirstBadScriptLine text n
 IsMakeCause text make_faults.Write = (messages : List Message) × IsScript text messages
 IsMakeCause text make_faults.Memory = Unit {0}
 
--- what stands written after a fault of `make`: nothing unless the text is a script, and then a prefix of its chunk
--- lines
+-- what stands written after a fault of `make`: nothing unless the text is a script, then a prefix of its chunk lines
 abbrev pub LeavesMade : List ℕ → Option (List ℕ) → Option (List ℕ) → MakeFault → Type 0
 LeavesMade text old new (make_faults.Line n) = Keeps old new
 LeavesMade text old new make_faults.Write = MakesPrefix text old new

@@ -1,4 +1,3 @@
-pub mod Causes
 pub mod Faults
 pub mod Line
 pub mod MakeCommand

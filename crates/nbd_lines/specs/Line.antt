@@ -1,11 +1,9 @@
 -- Message lines: a kind's words, its numbers and its payload. The format is this project's choice.
-use Rattle.std.specs.Prelude.{◌≡◌, ℕ, ◌≤◌, Bool, true, false, List, [], ◌∷◌, ◌++◌, codes}
-use Rattle.std.specs.Fmt.{decimal}
+use Rattle.std.specs.{Prelude.{◌≡◌, ℕ, ◌≤◌, Bool, true, false, List, [], ◌∷◌, ◌++◌, codes}, Fmt.decimal}
 use Rattle.hex.specs.Hex.{encode_lower}
 use Rattle.nbd_wire.specs.declared.message.Message.{Message}
 use Rattle.nbd_capture.specs.Capture.{AreDigits, space}
-use Rattle.nbd_lines.specs.declared.forms.Field.{Field}
-use Rattle.nbd_lines.specs.Table.{payload_of, field_name, fields, has_payload, line_form, numbers, words}
+use Rattle.nbd_lines.specs.{declared.forms.Field.Field, Table.{payload_of, field_name, fields, has_payload, line_form, numbers, words}}
 
 -- `=`
 abbrev pub equals : ℕ

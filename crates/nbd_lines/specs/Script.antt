@@ -1,10 +1,7 @@
 -- Scripts: what `make` reads and writes, and what `show` writes. The formats are this project's choice.
 use Rattle.std.specs.Prelude.{ℕ, List, [], ◌∷◌, ◌++◌, codes, flat_map}
-use Rattle.nbd_wire.specs.declared.message.Message.{Message}
-use Rattle.nbd_wire.specs.Prelude.{enc, side}
-use Rattle.nbd_wire.specs.codec.Fits.{FitsItsHead}
-use Rattle.nbd_capture.specs.Capture.{Chunk, chunk_line, hash}
-use Rattle.nbd_capture.specs.Lines.{line_feed, IsText, IsFirstBadLine}
+use Rattle.nbd_wire.specs.{declared.message.Message.Message, Prelude.{enc, side}, codec.Fits.FitsItsHead}
+use Rattle.nbd_capture.specs.{Capture.{Chunk, chunk_line, hash}, Lines.{line_feed, IsText, IsFirstBadLine}}
 use Rattle.nbd_lines.specs.Line.{IsMessageLine, message_line}
 
 -- the forms of a line: a message that fits its head; nothing; a `#`, and anything after it; `ok`

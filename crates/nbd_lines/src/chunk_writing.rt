@@ -1,10 +1,8 @@
 //! Writing a chunk line, and the digits of bytes.
 
-ghost use Rattle.std.specs.Prelude.{◌≡◌, OnOk, OnErr};
-ghost use Rattle.std.specs.Io.KnownBytes.{Appends};
+ghost use Rattle.std.specs.{Prelude.{◌≡◌, OnOk, OnErr}, Io.KnownBytes.Appends};
 ghost use Rattle.hex.specs.Hex.{encode_lower};
-ghost use Rattle.nbd_capture.specs.Capture.{chunk_line, letter};
-ghost use Rattle.nbd_capture.specs.Writing.{AppendsPrefix};
+ghost use Rattle.nbd_capture.specs.{Capture.{chunk_line, letter}, Writing.AppendsPrefix};
 
 use nbd_capture::{WriteFault, write_whole};
 use nbd_wire::Side;

@@ -1,16 +1,9 @@
 //! Printing what an export holds.
 
-ghost use Rattle.std.specs.Prelude.{◌≡◌, ◌+◌, ◌++◌, ◌∷◌, ◌-◌, ◌<◌, ◌≤◌, ◌^◌, [], IfOk, IsSome, OnErr, OnOk, length, take};
-ghost use Rattle.std.specs.Fmt.{decimal};
-ghost use Rattle.std.specs.Io.KnownBytes.{Appends};
-ghost use Rattle.nbd_export.specs.Extents.{byte_of, size_of};
-ghost use Rattle.nbd_export.specs.declared.kind.Kind.TheVariants.{Bytes};
-ghost use Rattle.nbd_capture.specs.Capture.{space};
-ghost use Rattle.nbd_export.specs.Held.{held};
-ghost use Rattle.nbd_capture.specs.Contents.{IsContentsText, are_zeroes, join, known, piece_line, piece_lines, printed, size_line};
-ghost use Rattle.nbd_capture.specs.Lines.{line_feed};
-ghost use Rattle.nbd_capture.specs.Writing.{AppendsPrefix};
-ghost use Rattle.nbd_lines.specs.internal.Showing.{AreBytes, left, piece_of, run_line};
+ghost use Rattle.std.specs.{Prelude.{◌≡◌, ◌+◌, ◌++◌, ◌∷◌, ◌-◌, ◌<◌, ◌≤◌, ◌^◌, [], IfOk, IsSome, OnErr, OnOk, length, take}, Fmt.decimal, Io.KnownBytes.Appends};
+ghost use Rattle.nbd_export.specs.{Extents.{byte_of, size_of}, declared.kind.Kind.TheVariants.Bytes, Held.held};
+ghost use Rattle.nbd_capture.specs.{Capture.space, Contents.{IsContentsText, are_zeroes, join, known, piece_line, piece_lines, printed, size_line}, Lines.line_feed, Writing.AppendsPrefix};
+ghost use Rattle.nbd_lines.specs.internal.{AreBytes, left, piece_of, run_line};
 
 use crate::chunk_writing::write_digits;
 use itoa::Buffer;

@@ -1,9 +1,8 @@
 //! Reading the fields of a line.
 
-ghost use Rattle.std.specs.Prelude.{◌≡◌, ◌++◌, ◌<◌, ◌≤◌, ◌^◌, ◌↔◌, ℕ, List, IsTrue, MatchOption, length, take};
-ghost use Rattle.std.specs.Fmt.{decimal};
+ghost use Rattle.std.specs.{Prelude.{◌≡◌, ◌++◌, ◌<◌, ◌≤◌, ◌^◌, ◌↔◌, ℕ, List, IsTrue, MatchOption, length, take}, Fmt.decimal};
 ghost use Rattle.nbd_capture.specs.Order.{BeginsPlainly};
-ghost use Rattle.nbd_lines.specs.internal.Reading.{BeginsNumber, BeginsNumbers, EndsWord, IsSpaceless, ReadsNumber, ReadsNumbers};
+ghost use Rattle.nbd_lines.specs.internal.{BeginsNumber, BeginsNumbers, EndsWord, IsSpaceless, ReadsNumber, ReadsNumbers};
 
 use crate::forms::Field;
 use crate::parts::MOST_NUMBERS;

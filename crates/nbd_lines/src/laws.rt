@@ -1,22 +1,11 @@
 //! What holds of message lines, of scripts and of what is printed of captures, orders and contents, as contracts of functions that do nothing.
 
-ghost use Rattle.std.specs.Prelude.{◌≡◌, ◌⊎◌, ◌++◌, ◌<◌, ◌^◌, ◌↔◌, ◌∷◌, [], ℕ, List, codes, flat_map, length, map};
-ghost use Rattle.std.specs.List.{AllByRecursion};
+ghost use Rattle.std.specs.{Prelude.{◌≡◌, ◌⊎◌, ◌++◌, ◌<◌, ◌^◌, ◌↔◌, ◌∷◌, [], ℕ, List, codes, flat_map, length, map}, List.AllByRecursion};
 ghost use Rattle.hex.specs.Hex.{IsBytes};
-ghost use Rattle.nbd_wire.specs.declared.message.Message.{Message};
-ghost use Rattle.nbd_wire.specs.codec.Fits.{FitsItsHead};
-ghost use Rattle.nbd_wire.specs.Prelude.{IsSendable};
-ghost use Rattle.nbd_wire.specs.declared.entry.Entry.{Entry};
-ghost use Rattle.nbd_export.specs.Extents.{byte_of, size_of};
-ghost use Rattle.nbd_export.specs.Ranges.{AreSameBelow};
-ghost use Rattle.nbd_export.specs.declared.extents.Extents.{Extents};
-ghost use Rattle.nbd_export.specs.Held.{AreHeld, Held, held};
-ghost use Rattle.nbd_capture.specs.Capture.{Chunk, IsCaptureText, chunk_line};
-ghost use Rattle.nbd_capture.specs.Contents.{IsContentsText, printed};
-ghost use Rattle.nbd_capture.specs.Lines.{line_feed};
-ghost use Rattle.nbd_capture.specs.Order.{EntryFits, IsOrderText, entry_text};
-ghost use Rattle.nbd_lines.specs.Line.{IsMessageLine, message_line};
-ghost use Rattle.nbd_lines.specs.Script.{IsFirstBadScriptLine, IsScript, chunk_lines, made_chunk, message_lines};
+ghost use Rattle.nbd_wire.specs.{declared.{message.Message.Message, entry.Entry.Entry}, Prelude.IsSendable, codec.Fits.FitsItsHead};
+ghost use Rattle.nbd_export.specs.{Extents.{byte_of, size_of}, Ranges.AreSameBelow, declared.extents.Extents.Extents, Held.{AreHeld, Held, held}};
+ghost use Rattle.nbd_capture.specs.{Capture.{Chunk, IsCaptureText, chunk_line}, Contents.{IsContentsText, printed}, Lines.line_feed, Order.{EntryFits, IsOrderText, entry_text}};
+ghost use Rattle.nbd_lines.specs.{Line.{IsMessageLine, message_line}, Script.{IsFirstBadScriptLine, IsScript, chunk_lines, made_chunk, message_lines}};
 
 /// A line stands for one message at most.
 pub fn one_message_of_a_line()

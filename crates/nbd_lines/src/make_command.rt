@@ -1,8 +1,7 @@
 //! The command `make`, over any reader and writer.
 ghost use Rattle.std.specs.Prelude.{◌≡◌, ◌⊎◌, IfErr, IfOk, IfSome, OnOk};
-ghost use Rattle.nbd_files.specs.declared.fault.RunFault.TheVariants.{Memory, ScriptRead};
+ghost use Rattle.nbd_files.specs.{declared.fault.RunFault.TheVariants.{Memory, ScriptRead}, Starts.IsWithinLimit};
 ghost use Rattle.nbd_lines.specs.MakeCommand.{IsScriptCause, LeavesLines, MakesAll};
-ghost use Rattle.nbd_files.specs.Starts.{IsWithinLimit};
 
 use crate::making::make;
 use nbd_files::{ReadFault, RunFault, read_whole};

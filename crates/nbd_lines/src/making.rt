@@ -1,8 +1,7 @@
 //! A script as a capture.
 
 ghost use Rattle.std.specs.Prelude.{◌≡◌, IfErr, OnOk};
-ghost use Rattle.nbd_lines.specs.Causes.{of_make};
-ghost use Rattle.nbd_lines.specs.Faults.{IsMakeCause, LeavesMade, Makes, of_output, of_script};
+ghost use Rattle.nbd_lines.specs.{MakeCommand.of_make, Faults.{IsMakeCause, LeavesMade, Makes, of_output, of_script}};
 
 use crate::output::{OutputFault, write_chunks};
 use crate::script::{ScriptFault, parse_script};

@@ -1,13 +1,9 @@
 //! Writing messages to a writer: as their lines, and as chunk lines of a capture.
 
-ghost use Rattle.std.specs.Prelude.{◌≡◌, OnOk, OnErr};
-ghost use Rattle.std.specs.Io.KnownBytes.{Appends};
-ghost use Rattle.std.specs.List.{AllByRecursion};
+ghost use Rattle.std.specs.{Prelude.{◌≡◌, OnOk, OnErr}, Io.KnownBytes.Appends, List.AllByRecursion};
 ghost use Rattle.nbd_wire.specs.codec.Fits.{FitsItsHead};
 ghost use Rattle.nbd_capture.specs.Writing.{AppendsPrefix};
-ghost use Rattle.nbd_lines.specs.Script.{chunk_lines, message_lines};
-ghost use Rattle.nbd_lines.specs.Causes.{of_output};
-ghost use Rattle.nbd_lines.specs.declared.output.OutputFault.TheVariants.{Memory, Write};
+ghost use Rattle.nbd_lines.specs.{Script.{chunk_lines, message_lines}, MakeCommand.of_output, declared.output.OutputFault.TheVariants.{Memory, Write}};
 
 use crate::chunk_writing::write_chunk;
 use crate::printing::append_line;

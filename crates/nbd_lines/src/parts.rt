@@ -1,8 +1,7 @@
 //! A message as the parts of its line: a form, numbers and a payload.
 
 ghost use Rattle.std.specs.Prelude.{◌≡◌, ◌⊎◌, [], length, take, true};
-ghost use Rattle.nbd_lines.specs.Line.{AreWithin};
-ghost use Rattle.nbd_lines.specs.Table.{payload_of, fields, has_payload, line_form, numbers};
+ghost use Rattle.nbd_lines.specs.{Line.AreWithin, Table.{payload_of, fields, has_payload, line_form, numbers}};
 
 use crate::forms::Form;
 use nbd_wire::{Bytes, Message};

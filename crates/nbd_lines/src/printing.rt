@@ -1,8 +1,7 @@
 //! Printing a message's line.
 
 ghost use Rattle.std.specs.Prelude.{◌≡◌, ◌≤◌, ◌++◌, OnOk, OnErr, length};
-ghost use Rattle.nbd_lines.specs.Line.{end_text, message_line, number_text, numbers_text};
-ghost use Rattle.nbd_lines.specs.internal.Printing.{AddsPrefix};
+ghost use Rattle.nbd_lines.specs.{Line.{end_text, message_line, number_text, numbers_text}, internal.AddsPrefix};
 
 use crate::forms::Field;
 use crate::parts::{MOST_NUMBERS, form_of, numbers_of, payload_of};

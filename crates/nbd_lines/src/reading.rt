@@ -1,11 +1,8 @@
 //! Reading a message's line.
 
 ghost use Rattle.std.specs.Prelude.{◌≡◌, ◌++◌, ℕ, List, IfOk, MatchOption};
-ghost use Rattle.nbd_wire.specs.declared.message.Message.{Message};
-ghost use Rattle.nbd_wire.specs.codec.Fits.{FitsItsHead};
-ghost use Rattle.nbd_lines.specs.declared.forms.Form.{Form};
-ghost use Rattle.nbd_lines.specs.Line.{IsEnd, IsMessageLine};
-ghost use Rattle.nbd_lines.specs.Table.{has_payload, words};
+ghost use Rattle.nbd_wire.specs.{declared.message.Message.Message, codec.Fits.FitsItsHead};
+ghost use Rattle.nbd_lines.specs.{declared.forms.Form.Form, Line.{IsEnd, IsMessageLine}, Table.{has_payload, words}};
 
 use crate::fields::{after_prefix, numbers_at};
 use crate::forms::{FORMS, Form};

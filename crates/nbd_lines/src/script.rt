@@ -2,10 +2,7 @@
 
 ghost use Rattle.std.specs.Prelude.{◌≡◌, ◌≤◌, ◌↔◌, ◌++◌, [], List, IfOk, IfErr, IsTrue, MatchResult, OnErr, OnOk, vec_capacity, vec_len};
 ghost use Rattle.nbd_wire.specs.declared.message.Message.{Message};
-ghost use Rattle.nbd_lines.specs.Faults.{IsScriptFault};
-ghost use Rattle.nbd_lines.specs.Script.{IsScript, IsScriptLine};
-ghost use Rattle.nbd_lines.specs.internal.Steps.{IsLineFault, said_by};
-ghost use Rattle.nbd_lines.specs.declared.script.ScriptFault.TheVariants.{Memory};
+ghost use Rattle.nbd_lines.specs.{Faults.IsScriptFault, Script.{IsScript, IsScriptLine}, internal.{IsLineFault, said_by}, declared.script.ScriptFault.TheVariants.Memory};
 
 use crate::reading::parse_message;
 use nbd_capture::first_line;

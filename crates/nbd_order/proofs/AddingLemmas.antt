@@ -1,15 +1,9 @@
 -- Ranges, added request by request.
-use Rattle.nbd_order.proofs.Common.{◌≡◌, ℕ, ◌+◌, List, [], ◌∷◌, sym, ◌∙◌, ap, Some, drop, slice_get, Asked, Piece, Span, is_in}
+use Rattle.nbd_order.proofs.{Common.{◌≡◌, ℕ, ◌+◌, List, [], ◌∷◌, sym, ◌∙◌, ap, Some, drop, slice_get, Asked, Piece, Span, is_in}, HereLemmas.joined_assoc, LeavingLemmas.drop_next, StretchLemmas.touches_push}
 use Rattle.std.specs.Prelude.{◌++◌}
 use Rattle.nbd_state.specs.Spans.{span_of}
 use Rattle.nbd_wire.specs.Prelude.{holds}
-use Rattle.nbd_order.specs.declared.here.Here.{Here}
-use Rattle.nbd_order.specs.declared.touches.Touch.{Touch}
-use Rattle.nbd_order.specs.internal.Here.{here_if, joined, of_piece, pieces_here, request_here, requests_here}
-use Rattle.nbd_order.specs.internal.Stretches.{touch_here, touches_here}
-use Rattle.nbd_order.proofs.HereLemmas.{joined_assoc}
-use Rattle.nbd_order.proofs.LeavingLemmas.{drop_next}
-use Rattle.nbd_order.proofs.StretchLemmas.{touches_push}
+use Rattle.nbd_order.specs.{declared.{here.Here.Here, touches.Touch.Touch}, internal.Here.{here_if, joined, of_piece, pieces_here, request_here, requests_here, touch_here, touches_here}}
 
 -- one piece more of a READ
 pub piece_added : (touches : List Touch) (k : ℕ) (pieces : List Piece) (x i : ℕ) (p : Piece) (t : Touch) → slice_get pieces i ≡ Some p → t.span ≡ span_of p → t.here ≡ of_piece k i

@@ -1,13 +1,10 @@
 -- Starts that know less, and sessions one after another.
-use Rattle.nbd_order.proofs.Common.{arith, take_all, ◌≡◌, ◌&&◌, ◌||◌, ℕ, List, [], ◌∷◌, refl, sym, ap, ◌∙◌, Bool, true, false, Option, Some, None, take, if◌then◌else◌, Entry, Part, is_in, start_byte, Effect, byte_before, byte_or_start, effects, last_touch, later, touch_of, Asked, Report, report, IsFaultless, Passes, ExplainedPasses, PassingIsExplained}
+use Rattle.nbd_order.proofs.{Common.{arith, take_all, ◌≡◌, ◌&&◌, ◌||◌, ℕ, List, [], ◌∷◌, refl, sym, ap, ◌∙◌, Bool, true, false, Option, Some, None, take, if◌then◌else◌, Entry, Part, is_in, start_byte, Effect, byte_before, byte_or_start, effects, last_touch, later, touch_of, Asked, Report, report, IsFaultless, Passes, ExplainedPasses, PassingIsExplained}, TouchLemmas.{later_later, later_none}}
 use Rattle.std.specs.Prelude.{◌++◌, length}
 use Rattle.nbd_wire.specs.Prelude.{IsWrongOf, IsExplainedOf, pairs}
 use Rattle.nbd_laws.specs.Soundness.{ReportsAreSound}
-use Rattle.nbd_judge.proofs.contents.CompareLemmas.{wrong_there}
-use Rattle.nbd_judge.proofs.contents.StartLemmas.{left_same, wrong_more}
-use Rattle.nbd_order.specs.Chains.{ChainsAreOneHistory, ExplainedFromLess, HasNoneWrongInChain, LeavesLess, Link, byte_in_chain, last_served, left_by_chain, served_by_chain, served_of, trim_of, trims}
-use Rattle.nbd_order.specs.Leaving.{are_open_at, is_open, is_open_at, left}
-use Rattle.nbd_order.proofs.TouchLemmas.{later_later, later_none}
+use Rattle.nbd_judge.proofs.contents.{CompareLemmas.wrong_there, StartLemmas.{left_same, wrong_more}}
+use Rattle.nbd_order.specs.{Chains.{ChainsAreOneHistory, ExplainedFromLess, HasNoneWrongInChain, LeavesLess, Link, byte_in_chain, last_served, left_by_chain, served_by_chain, served_of, trim_of, trims}, Leaving.{are_open_at, is_open, is_open_at, left}}
 
 pub explained_from_less : ReportsAreSound → PassingIsExplained → ExplainedPasses → ExplainedFromLess
 explained_from_less sound passing only profile items order less more is_run fits knows explained =

@@ -1,9 +1,7 @@
 -- What earlier and later requests tell, joined.
 use Rattle.nbd_order.proofs.Common.{◌≡◌, ℕ, Option, Bool, ◌||◌, arith}
-use Rattle.std.specs.Prelude.{max, min}
-use Rattle.std.specs.Option.{option_or}
-use Rattle.nbd_order.specs.declared.here.Here.{Here}
-use Rattle.nbd_order.specs.internal.Here.{joined, nothing}
+use Rattle.std.specs.{Prelude.{max, min}, Option.option_or}
+use Rattle.nbd_order.specs.{declared.here.Here.Here, internal.Here.{joined, nothing}}
 
 pub joined_nothing : (h : Here) → joined h nothing ≡ h
 joined_nothing h = grind arith

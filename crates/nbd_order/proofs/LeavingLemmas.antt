@@ -1,22 +1,14 @@
 -- Changes that no reply has finished, request by request.
 use Rattle.nbd_order.proofs.Common.{◌≡◌, ℕ, List, ◌∷◌, sym, ap, ◌∙◌, Option, Some, None, arith, subst, drop, take, inl, inr}
 use Rattle.std.specs.Prelude.{◌+◌, ◌<◌, ◌≤◌, ◌||◌, suc, true, false, length, slice_get, if◌then◌else◌, Result, Ok, Err, IfOk}
-use Rattle.std.proofs.Math.Seq.{drop-cons}
-use Rattle.std.proofs.lemmas.Option.{get_or_from_slice_get, slice_get_cases, slice_get_within}
-use Rattle.nbd_wire.specs.declared.entry.Entry.{Entry}
-use Rattle.nbd_wire.specs.declared.profile.Profile.{Profile}
-use Rattle.nbd_wire.specs.Prelude.{effects, last_touch, FitsImage, Start, start_byte, Exporting, Asked, Report, asked_at}
-use Rattle.nbd_export.specs.declared.extents.Extents.{Extents}
-use Rattle.nbd_export.specs.Extents.{byte_of, size_of}
-use Rattle.nbd_export.specs.Held.{held, held_from}
-use Rattle.nbd_export.specs.Ranges.{AreSameBelow, overlay, unknown}
+use Rattle.std.proofs.{Math.Seq.drop-cons, lemmas.Option.{get_or_from_slice_get, slice_get_cases, slice_get_within}}
+use Rattle.nbd_wire.specs.{declared.{entry.Entry.Entry, profile.Profile.Profile}, Prelude.{effects, last_touch, FitsImage, Start, start_byte, Exporting, Asked, Report, asked_at}}
+use Rattle.nbd_export.specs.{declared.extents.Extents.Extents, Extents.{byte_of, size_of}, Held.{held, held_from}, Ranges.{AreSameBelow, overlay, unknown}}
 use Rattle.nbd_export.proofs.HeldLemmas.{held_from-same}
 use Rattle.nbd_laws.specs.Soundness.{IsSoundReport}
 use Rattle.nbd_judge.specs.Servable.{size_of as export_size}
 use Rattle.nbd_judge.proofs.contents.StartLemmas.{left_same, report_of_conclusion}
-use Rattle.nbd_order.specs.declared.leaving.Left.{Left}
-use Rattle.nbd_order.specs.declared.leaving.Left.TheVariants.{Contents, NoExport, Refused}
-use Rattle.nbd_order.specs.Leaving.{IsLeft, IsLeftOn, are_open_at, forgotten, is_open, is_open_at, left}
+use Rattle.nbd_order.specs.{declared.leaving.Left.{Left, TheVariants.{Contents, NoExport, Refused}}, Leaving.{IsLeft, IsLeftOn, are_open_at, forgotten, is_open, is_open_at, left}}
 
 pub drop_next : {A : Type 0} (xs : List A) (i : ℕ) (a : A) → slice_get xs i ≡ Some a → drop i xs ≡ a ∷ drop (i + 1) xs
 drop_next xs i a at = (let l = slice_get_within xs i a at in grind (arith, drop-cons xs i a, get_or_from_slice_get xs i a a at))

@@ -1,7 +1,17 @@
 -- Where there is a refutation, each order has a fault or a wrong byte of one of its READs.
-use Rattle.nbd_order.proofs.Common.{◌≡◌, ℕ, zero, suc, ◌<◌, ◌≤◌, inl, inr, List, length, refl, sym, ◌∙◌, ap, subst, Option, Some, None, Bool, true, false, ◌&&◌, ◌||◌, ◌==◌, arith, slice_get, take, IsTrue, take-length, and_from, and_parts, both_ways, cases_Bool, eqb-true, false_from_ne_true, or_cases, or_from, or_left, or_right, slice_get_cases, Entry, Part, Profile, in_part, is_served, Effect, IsWrong, byte_before, effect_byte, effects, touch_of, touches, GivesByte, Exporting, is_change, is_in, Report, asked_at, due_in, IsFaultless, ExplainedPasses, State, AreRising, IsRefutedBy, RefutedIsUnexplained, has, Fits, IsChange, IsHeld, IsRefutation, Leads, is_kept}
-use Rattle.nbd_order.proofs.ServiceLemmas.{in_range, is_inside, is_reached, not_served_before, served_before, served_once}
-use Rattle.nbd_order.proofs.TouchLemmas.{byte_more, served_more}
+use Rattle.nbd_order.proofs.Common.{◌≡◌, ℕ, zero, suc, ◌<◌, ◌≤◌, inl, inr, List, length, refl, sym, ◌∙◌, ap, subst, Option, Some, None, Bool, true, false, ◌&&◌, ◌||◌, ◌==◌, arith, slice_get, take, IsTrue, take-length, and_from, and_parts, both_ways, cases_Bool, eqb-true, false_from_ne_true, or_cases, or_from, or_left, or_right, slice_get_cases, Entry, Part, Profile, in_part, is_served, Effect, IsWrong, byte_before, effect_byte, effects, touch_of, touches, GivesByte, Exporting, is_change, is_in, Report, asked_at, due_in, IsFaultless, ExplainedPasses, State, AreRising, IsRefutedBy, RefutedIsUnexplained, has, EachSteps, Fits, HasBeginning, HelpsNone, IsChange, IsChangeAt, IsHeld, IsReadAt, Leads, NoneIsLast, is_kept}
+use Rattle.nbd_order.proofs.{ServiceLemmas.{in_range, is_inside, is_reached, not_served_before, served_before, served_once}, TouchLemmas.{byte_more, served_more}}
+
+-- at x the READs get their bytes in no order of the changes: one of the states is the beginning, each change leads from
+-- a state to a state, and in no state all READs are served; and no other change is a help to one of them
+pub record IsRefutation (profile : Profile) (r : Report) (initial : ℕ → Option ℕ) (x : ℕ) (reads changes : List ℕ)
+    (states : List State) : Type 0 where
+  pub are_reads : (k : ℕ) → has reads k ≡ true → IsReadAt profile r x k
+  pub are_changes : (c : ℕ) → has changes c ≡ true → IsChangeAt r x c
+  pub covered : (w : ℕ) → HelpsNone profile r x reads changes w
+  pub begins : HasBeginning profile r initial x reads changes states
+  pub steps : EachSteps profile r x reads changes states
+  pub ends : NoneIsLast reads states
 
 -- before entry i of the order: a state in which just the changes are served that the order served at x, and at least its READs, and
 -- which fits the byte at x

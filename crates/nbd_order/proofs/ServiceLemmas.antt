@@ -1,8 +1,7 @@
 -- What an order without a fault serves, and in which order.
 use Rattle.nbd_order.proofs.Common.{◌≡◌, ℕ, zero, suc, ◌<◌, ◌≤◌, inl, inr, List, length, refl, sym, ◌∙◌, ap, subst, Option, Some, None, true, false, not, ◌==◌, nat_lt, arith, slice_get, take, IsTrue, cases_lt, eqb-true, false_from_ne_true, lt-ltb, size_of, slice_get_cases, Entry, Part, Profile, IsAgain, IsMisplaced, in_part, is_served, Effect, effect, effect_if, effects, touches, Exporting, has_range, is_change, is_in, Asked, Report, asked_at, inside_asked, due_in, inside_in, IsFaultless, IsBefore}
+use Rattle.nbd_order.proofs.{OffsetLemmas.lies_inside, TouchLemmas.{from_taken, is_served_by, is_served_from, names_by, served_at, taken}}
 use Rattle.nbd_wire.specs.declared.commands.TheConstants as commands
-use Rattle.nbd_order.proofs.OffsetLemmas.{lies_inside}
-use Rattle.nbd_order.proofs.TouchLemmas.{from_taken, is_served_by, is_served_from, names_by, served_at, taken}
 
 -- a change has a range, and is no BLOCK_STATUS
 pub change_ranged : (command : ℕ) → is_change command ≡ true → (has_range command ≡ true) × (not (command == commands.BLOCK_STATUS) ≡ true)

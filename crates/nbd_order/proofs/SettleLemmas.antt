@@ -1,25 +1,13 @@
 -- Ranges of the contents, made what is sure of them one after the other.
-use Rattle.nbd_order.proofs.Common.{◌≡◌, ℕ, ◌+◌, ◌<◌, ◌≤◌, inl, inr, List, [], refl, sym, ◌∙◌, ap, Option, Some, None, true, false, IsTrue, if◌then◌else◌, arith, length, slice_get, drop, and_parts, cases_lt, subst, Asked, Report, Piece, Exporting, asked_at, byte_at, effect, effect_byte, is_change, is_in, piece_offset, piece_size}
+use Rattle.nbd_order.proofs.{Common.{◌≡◌, ℕ, ◌+◌, ◌<◌, ◌≤◌, inl, inr, List, [], refl, sym, ◌∙◌, ap, Option, Some, None, true, false, IsTrue, if◌then◌else◌, arith, length, slice_get, drop, and_parts, cases_lt, subst, Asked, Report, Piece, Exporting, asked_at, byte_at, effect, effect_byte, is_change, is_in, piece_offset, piece_size}, SureLemmas.{IsShown, shown}}
+use Rattle.nbd_order.proofs.StretchLemmas.{none_left, stretch_at, stretch_past}
 use Rattle.std.specs.Prelude.{◌-◌, zero, suc, slice_range, OnOk, Result, Ok, Err, IsSome}
 use Rattle.nbd_export.proofs.HeldLemmas.{held_from-same}
-use Rattle.nbd_export.specs.Extents.{byte_of, size_of}
-use Rattle.nbd_export.specs.Held.{held, held_from}
-use Rattle.nbd_export.specs.Ranges.{AreSameBelow, bytes_from, overlay}
-use Rattle.nbd_export.specs.declared.extents.Extents.{Extents}
-use Rattle.nbd_judge.proofs.contents.CompareLemmas.{byte_of as byte_of_piece, from_in, in_from}
-use Rattle.nbd_judge.proofs.contents.RangeLemmas.{range_get, range_length}
+use Rattle.nbd_export.specs.{Extents.{byte_of, size_of}, Held.{held, held_from}, Ranges.{AreSameBelow, bytes_from, overlay}, declared.extents.Extents.Extents}
+use Rattle.nbd_judge.proofs.contents.{CompareLemmas.{byte_of as byte_of_piece, from_in, in_from}, RangeLemmas.{range_get, range_length}}
 use Rattle.nbd_laws.specs.Soundness.{AreLaid, IsSoundAsked, IsSoundReport}
 use Rattle.nbd_wire.specs.Prelude.{holds, piece_byte}
-use Rattle.nbd_order.specs.Sure.{changes, sure}
-use Rattle.nbd_order.specs.declared.here.Here.{Here}
-use Rattle.nbd_order.specs.declared.stretches.Stretch.{Stretch}
-use Rattle.nbd_order.specs.internal.Stretches.{stretch_here}
-use Rattle.nbd_order.specs.declared.here.Got.{Got}
-use Rattle.nbd_order.specs.declared.here.Holds.{Holds}
-use Rattle.nbd_order.specs.declared.here.Holds.TheVariants.{Change, Read}
-use Rattle.nbd_order.specs.internal.Here.{here_at, held_by}
-use Rattle.nbd_order.proofs.SureLemmas.{IsShown, shown}
-use Rattle.nbd_order.proofs.StretchLemmas.{none_left, stretch_at, stretch_past}
+use Rattle.nbd_order.specs.{Sure.{changes, sure}, declared.{here.{Here.Here, Got.Got, Holds.{Holds, TheVariants.{Change, Read}}}, stretches.Stretch.Stretch}, internal.Here.{stretch_here, here_at, held_by}}
 
 pub on_ok : {A E P Q : Type 0} (o : Result A E) → OnOk o P → (P → Q) → OnOk o Q
 on_ok (Ok a) h f = f h

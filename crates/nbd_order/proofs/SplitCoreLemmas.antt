@@ -3,17 +3,11 @@ use Rattle.nbd_order.proofs.Common.{◌≡◌, ℕ, zero, suc, ◌+◌, ◌<◌,
 use Rattle.std.specs.Prelude.{◌++◌}
 use Rattle.std.proofs.Common.{append_assoc, length-append}
 use Rattle.nbd_wire.specs.declared.commands.TheConstants as commands
-use Rattle.nbd_wire.specs.declared.message.Message.{Message}
-use Rattle.nbd_wire.specs.declared.message.Message.TheVariants.{Simple, Chunk, ExtendedChunk}
-use Rattle.nbd_wire.specs.Prelude.{Byte, Starts, Completes, Serves, without_service, Operation, is_finished, Obeys, cookie_of, core_with_request, filter_in, inside_at, inside_operation, is_reply_to, is_this, makes_due, reply_to, request_of_reply, target_of, written, Filter, sizes_kept}
+use Rattle.nbd_wire.specs.declared.message.Message.{Message, TheVariants.{Simple, Chunk, ExtendedChunk}}
+use Rattle.nbd_wire.specs.Prelude.{Byte, Starts, Completes, Serves, without_service, Operation, is_finished, Obeys, cookie_of, core_with_request, filter_in, inside_at, inside_operation, is_reply_to, is_this, makes_due, reply_to, request_of_reply, target_of, written, Filter, sizes_kept, Core, Transmission, export_in, has_contexts, in_force, operation, target_from, with_reply_at}
 use Rattle.nbd_wire.specs.protocol.Rules.{is_by_chunk, operation_asked}
-unfoldable use Rattle.nbd_wire.specs.protocol.Rules.{complete}
-unfoldable use Rattle.nbd_wire.specs.protocol.States.{target}
-use Rattle.nbd_wire.specs.Prelude.{Core, Transmission, export_in, has_contexts, in_force, operation, target_from, with_reply_at}
-use Rattle.nbd_laws.proofs.runs.PrefixLemmas.{InTransmission, asks, asks_more, gives as gives_chunk, gives_more, in_transmission, phase-complete, replies}
-use Rattle.nbd_laws.proofs.runs.TraceLemmas.{answered_by-within, due_within}
-use Rattle.nbd_laws.proofs.service.DueLemmas.{known_if, due_from, or_later}
-use Rattle.nbd_laws.proofs.service.InsideLemmas.{core_end, entries_grow}
+unfoldable use Rattle.nbd_wire.specs.protocol.{Rules.complete, States.target}
+use Rattle.nbd_laws.proofs.{runs.{PrefixLemmas.{InTransmission, asks, asks_more, gives as gives_chunk, gives_more, in_transmission, phase-complete, replies}, TraceLemmas.{answered_by-within, due_within}}, service.{DueLemmas.{known_if, due_from, or_later}, InsideLemmas.{core_end, entries_grow}}}
 
 -- so many more, where there is a number
 abbrev pub plus : ℕ → Option ℕ → Option ℕ

@@ -1,23 +1,14 @@
 -- A session in two parts is judged as the two are, one after the other.
 use Rattle.nbd_order.proofs.Common.{◌≡◌, ℕ, zero, suc, ◌+◌, ◌<◌, ◌≤◌, List, [], ◌∷◌, length, refl, sym, ap, subst, ◌∙◌, Option, Some, None, arith, take, slice_get, cases_lt, inl, inr, if◌then◌else◌, slice_get_within, Profile, Entry, Item, FitsImage, Start, start_byte, Effect, IsWrong, byte_before, byte_or_start, effects, last_touch, later, touch_of, Exporting, Report, due_in, inside_in, report, Passes, ExplainedPasses, PassingIsExplained, size_of}
-use Rattle.std.specs.Prelude.{◌++◌, ◌-◌}
-use Rattle.std.specs.Option.{option_map}
-use Rattle.std.proofs.Math.Seq.{take-append-add}
-use Rattle.std.proofs.lemmas.List.{take-append-le, take-map}
-use Rattle.std.proofs.lemmas.Option.{slice_get-map}
+use Rattle.nbd_order.proofs.{ChainLemmas.{left_behind, take_whole}, SplitLemmas.{AreParts, are_parts}, SplitOrderLemmas.{AreLow, AreNamed, Each, in_parts, in_whole, low_of_fine, named_of_fine, parted}, TouchLemmas.{later_later, later_none}}
+use Rattle.std.specs.{Prelude.{◌++◌, ◌-◌}, Option.option_map}
+use Rattle.std.proofs.{Math.Seq.take-append-add, lemmas.{List.{take-append-le, take-map}, Option.slice_get-map}}
 use Rattle.nbd_wire.specs.Prelude.{IsWrongIn, IsWrongOf, IsExplainedOf, known, pairs}
 use Rattle.nbd_export.proofs.HeldLemmas.{length-held_from, slice_get-held_from}
-use Rattle.nbd_laws.proofs.service.EntryLemmas.{HasNoFault}
-use Rattle.nbd_laws.proofs.service.IndexLemmas.{by_entries, by_index}
+use Rattle.nbd_laws.proofs.service.{EntryLemmas.HasNoFault, IndexLemmas.{by_entries, by_index}}
 use Rattle.nbd_laws.specs.Soundness.{ReportsAreSound}
-use Rattle.nbd_judge.proofs.contents.CompareLemmas.{wrong_there}
-use Rattle.nbd_judge.proofs.contents.StartLemmas.{left_same, wrong_more}
-use Rattle.nbd_order.proofs.ChainLemmas.{left_behind, take_whole}
-use Rattle.nbd_order.proofs.SplitLemmas.{AreParts, are_parts}
-use Rattle.nbd_order.proofs.SplitOrderLemmas.{AreLow, AreNamed, Each, in_parts, in_whole, low_of_fine, named_of_fine, parted}
-use Rattle.nbd_order.proofs.TouchLemmas.{later_later, later_none}
-use Rattle.nbd_order.specs.Leaving.{are_open_at, left}
-use Rattle.nbd_order.specs.Splits.{IsCut, IsExplainedInParts, SplitsAreExplained, SplitsLeaveTheSame, StandsAgain, behind, start_behind}
+use Rattle.nbd_judge.proofs.contents.{CompareLemmas.wrong_there, StartLemmas.{left_same, wrong_more}}
+use Rattle.nbd_order.specs.{Leaving.{are_open_at, left}, Splits.{IsCut, IsExplainedInParts, SplitsAreExplained, SplitsLeaveTheSame, StandsAgain, behind, start_behind}}
 
 touch_append : (requests : ℕ → Option Effect) (x : ℕ) (es fs : List Entry) → last_touch requests x (es ++ fs) ≡ later (last_touch requests x fs) (last_touch requests x es)
 touch_append requests x [] fs = later_none (last_touch requests x fs)

@@ -1,23 +1,13 @@
 -- A session in two parts: what its report has of those of the parts.
 use Rattle.nbd_order.proofs.Common.{◌≡◌, ℕ, zero, suc, ◌+◌, ◌<◌, ◌≤◌, ◌&&◌, ◌||◌, List, [], ◌∷◌, length, refl, sym, ap, subst, ◌∙◌, Bool, true, false, not, Option, Some, None, arith, nat_le, if◌then◌else◌, Profile, Base, Item, Effect, effect, effect_if, effects, Exporting, Asked, Report, asked_at, due_by_chunk, due_in, due_of, first_shown, inside_in, lesser_of, is_change, is_in}
+use Rattle.nbd_order.proofs.{SplitCoreLemmas.{AllDone, Behind, due_append, due_completed, due_unserved, end_append, end_unserved, items_behind, operation_before, operation_behind, plus}, TimedLemmas.ended_at_end}
 use Rattle.std.specs.Prelude.{◌++◌}
 use Rattle.std.proofs.Common.{append-nil, length-append}
-use Rattle.nbd_wire.specs.Prelude.{Operation, Pending, is_chunked, is_finished, outcome}
+use Rattle.nbd_wire.specs.Prelude.{Operation, Pending, is_chunked, is_finished, outcome, asked_list, asked_of, known_count, Obeys, ends_at, inside_operation, Core, Transmission, export_in, operation, start_of, is_answered}
 unfoldable use Rattle.nbd_wire.specs.protocol.Reports.{report}
-use Rattle.nbd_wire.specs.Prelude.{asked_list, asked_of, known_count, Obeys, ends_at, inside_operation, Core, Transmission, export_in, operation, start_of, is_answered}
-use Rattle.nbd_laws.proofs.requests.ReportLemmas.{asked-report, entry_within, length-report, stated, told_if}
-use Rattle.nbd_laws.proofs.runs.PartLemmas.{obeys_back}
-use Rattle.nbd_laws.proofs.runs.ProfileLemmas.{at_base, profile_end}
-use Rattle.nbd_laws.proofs.runs.RunLemmas.{core_end-ends_at}
-use Rattle.nbd_laws.proofs.service.DueLemmas.{due_from, or_later}
-use Rattle.nbd_laws.proofs.service.InsideLemmas.{core_end}
-use Rattle.nbd_laws.proofs.service.MomentLemmas.{due-report, inside-report}
-use Rattle.nbd_laws.specs.Profiles.{with_profile}
-use Rattle.nbd_laws.specs.Soundness.{IsAfter, ReportsAreSound}
-use Rattle.nbd_order.proofs.SplitCoreLemmas.{AllDone, Behind, due_append, due_completed, due_unserved, end_append, end_unserved, items_behind, operation_before, operation_behind, plus}
-use Rattle.nbd_order.proofs.TimedLemmas.{ended_at_end}
-use Rattle.nbd_order.specs.Leaving.{are_open_at}
-use Rattle.nbd_order.specs.Splits.{IsCut, StandsAgain, core_of}
+use Rattle.nbd_laws.proofs.{requests.ReportLemmas.{asked-report, entry_within, length-report, stated, told_if}, runs.{PartLemmas.obeys_back, ProfileLemmas.{at_base, profile_end}, RunLemmas.core_end-ends_at}, service.{DueLemmas.{due_from, or_later}, InsideLemmas.core_end, MomentLemmas.{due-report, inside-report}}}
+use Rattle.nbd_laws.specs.{Profiles.with_profile, Soundness.{IsAfter, ReportsAreSound}}
+use Rattle.nbd_order.specs.{Leaving.are_open_at, Splits.{IsCut, StandsAgain, core_of}}
 
 -- what the reports of a session and of its parts have of each other, where the first part has n requests
 pub record AreParts (profile : Profile) (n : ℕ) (r r1 r2 : Report) (export : Exporting) : Type 0 where

@@ -1,11 +1,9 @@
 -- An order of a session in two parts, of which the first has n requests, each of them due in it.
-use Rattle.nbd_order.proofs.Common.{◌≡◌, ℕ, ◌+◌, ◌<◌, ◌≤◌, ◌==◌, ◌&&◌, ◌||◌, List, [], ◌∷◌, refl, sym, ap, subst, ◌∙◌, Bool, true, IsTrue, Option, Some, None, arith, nat_lt, Entry, Part, Names, IsAgain, IsMisplaced, in_part, is_served, inl, inr, and_from, or_cases, or_left, or_right, eq-eqb, lt-ltb, cases_lt}
+use Rattle.nbd_order.proofs.{Common.{◌≡◌, ℕ, ◌+◌, ◌<◌, ◌≤◌, ◌==◌, ◌&&◌, ◌||◌, List, [], ◌∷◌, refl, sym, ap, subst, ◌∙◌, Bool, true, IsTrue, Option, Some, None, arith, nat_lt, Entry, Part, Names, IsAgain, IsMisplaced, in_part, is_served, inl, inr, and_from, or_cases, or_left, or_right, eq-eqb, lt-ltb, cases_lt}, SplitCoreLemmas.{plus, same_number}}
 use Rattle.std.specs.Prelude.{◌++◌, ◌⊎◌, ◌-◌}
-use Rattle.std.proofs.lemmas.Bool.{le-leb}
-use Rattle.std.proofs.Common.{append-nil, append_assoc}
+use Rattle.std.proofs.{lemmas.Bool.le-leb, Common.{append-nil, append_assoc}}
 use Rattle.nbd_wire.specs.Prelude.{IsServedAt, NamesWhole}
 use Rattle.nbd_laws.proofs.service.EntryLemmas.{AreFine, AreFine-as, AreFine-left, AreFine-right, HasNoFault, IsFine, IsInTime, IsInTime-right, Names-append_cases, names_served, served-append, served_at-left, served_behind, whole_names}
-use Rattle.nbd_order.proofs.SplitCoreLemmas.{plus, same_number}
 use Rattle.nbd_order.specs.Splits.{behind}
 
 -- an entry as one of the whole

@@ -1,15 +1,8 @@
 -- What ranges tell, and stretches.
-use Rattle.nbd_order.proofs.Common.{◌≡◌, ℕ, zero, suc, ◌+◌, ◌<◌, ◌≤◌, List, [], ◌∷◌, refl, sym, ◌∙◌, ap, Option, Some, None, nat_lt, if◌then◌else◌, arith, drop, take, slice_get, length, cases_lt, inl, inr, lt-ltb}
-use Rattle.std.proofs.lemmas.Bool.{le-ltb}
-use Rattle.std.proofs.lemmas.List.{take-append-drop}
-use Rattle.std.specs.Prelude.{◌++◌, ◌⊎◌, min}
-use Rattle.std.specs.Option.{option_or}
-use Rattle.nbd_order.specs.declared.here.Here.{Here}
-use Rattle.nbd_order.specs.declared.stretches.Stretch.{Stretch}
-use Rattle.nbd_order.specs.declared.touches.Touch.{Touch}
-use Rattle.nbd_order.specs.internal.Here.{joined}
-use Rattle.nbd_order.specs.internal.Stretches.{joined_if, stretch_here, touch_here, touches_here}
-use Rattle.nbd_order.proofs.HereLemmas.{joined_assoc, joined_nothing, nothing_joined}
+use Rattle.nbd_order.proofs.{Common.{◌≡◌, ℕ, zero, suc, ◌+◌, ◌<◌, ◌≤◌, List, [], ◌∷◌, refl, sym, ◌∙◌, ap, Option, Some, None, nat_lt, if◌then◌else◌, arith, drop, take, slice_get, length, cases_lt, inl, inr, lt-ltb}, HereLemmas.{joined_assoc, joined_nothing, nothing_joined}}
+use Rattle.std.proofs.lemmas.{Bool.le-ltb, List.take-append-drop}
+use Rattle.std.specs.{Prelude.{◌++◌, ◌⊎◌, min}, Option.option_or}
+use Rattle.nbd_order.specs.{declared.{here.Here.Here, stretches.Stretch.Stretch, touches.Touch.Touch}, internal.Here.{joined, joined_if, stretch_here, touch_here, touches_here}}
 
 pub touches_append : (ts us : List Touch) (x : ℕ) → touches_here (ts ++ us) x ≡ joined (touches_here ts x) (touches_here us x)
 touches_append [] us x = sym (nothing_joined (touches_here us x))

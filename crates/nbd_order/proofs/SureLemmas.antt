@@ -1,13 +1,7 @@
 -- What is sure of an offset, by what the requests tell of it.
-use Rattle.nbd_order.proofs.Common.{◌≡◌, ℕ, suc, ◌≤◌, List, [], ◌∷◌, refl, sym, ◌∙◌, ap, Option, Some, None, Bool, true, false, ◌||◌, if◌then◌else◌, arith, nat_le, nat_lt, slice_get, Asked, Piece, Report, asked_at, byte_at, effect, effect_byte}
+use Rattle.nbd_order.proofs.{Common.{◌≡◌, ℕ, suc, ◌≤◌, List, [], ◌∷◌, refl, sym, ◌∙◌, ap, Option, Some, None, Bool, true, false, ◌||◌, if◌then◌else◌, arith, nat_le, nat_lt, slice_get, Asked, Piece, Report, asked_at, byte_at, effect, effect_byte}, ToldLemmas.{IsGot, IsTold, behind, next_at, told}}
 use Rattle.nbd_wire.specs.Prelude.{holds}
-use Rattle.nbd_order.specs.Sure.{byte_behind_last, byte_seen, changes, gets, is_last_alone, last_number, number_before, sure}
-use Rattle.nbd_order.specs.declared.here.Got.{Got}
-use Rattle.nbd_order.specs.declared.here.Here.{Here}
-use Rattle.nbd_order.specs.declared.here.Holds.{Holds}
-use Rattle.nbd_order.specs.declared.here.Holds.TheVariants.{Change, First, Read, Unknown}
-use Rattle.nbd_order.specs.internal.Here.{here_at, held_behind, held_by, held_by_read}
-use Rattle.nbd_order.proofs.ToldLemmas.{IsGot, IsTold, behind, next_at, told}
+use Rattle.nbd_order.specs.{Sure.{byte_behind_last, byte_seen, changes, gets, is_last_alone, last_number, number_before, sure}, declared.here.{Got.Got, Here.Here, Holds.{Holds, TheVariants.{Change, First, Read, Unknown}}}, internal.Here.{here_at, held_behind, held_by, held_by_read}}
 
 -- what x holds is what is sure there
 abbrev pub IsShown : Report → (initial : ℕ → Option ℕ) → (x : ℕ) → Holds → Type 0

@@ -1,25 +1,14 @@
 -- What is sure is left by each order that explains the session.
 use Rattle.nbd_order.proofs.Common.{◌≡◌, ℕ, zero, suc, ◌<◌, ◌≤◌, inl, inr, List, [], ◌∷◌, refl, sym, ◌∙◌, ap, Option, Some, None, Bool, true, false, not, ◌==◌, ◌&&◌, ◌||◌, if◌then◌else◌, arith, get_or, length, drop, slice_get, take, and_from, and_parts, cases_Bool, cases_eq, cases_lt, eqb-true, or_cases, take_all, Asked, Piece, Report, Profile, Entry, Part, Exporting, Effect, IsWrong, ExplainedPasses, IsFaultless, report, asked_at, byte_before, byte_or_start, due_in, due_of, effect, effect_byte, effect_if, effects, has_range, in_part, inside_in, is_change, is_in, is_success, last_touch, later, piece_offset, piece_size, start_byte, touch_of}
-use Rattle.std.specs.Prelude.{◌-◌, count_by}
-use Rattle.std.specs.List.{list_any}
-use Rattle.std.proofs.lemmas.Option.{slice_get-get_or}
-use Rattle.std.proofs.lemmas.Bool.{le-leb, lt-ltb, leb-true, or_parts}
+use Rattle.nbd_order.proofs.{ServiceLemmas.change_ranged, SettleLemmas.sound_asked, SureLemmas.{HasAt, last_has}, TimedLemmas.{IsTimed, timed}, ToldLemmas.{any_counted, count_more}, TouchLemmas.{ServesAt, is_served_from, served_at}}
+use Rattle.std.specs.{Prelude.{◌-◌, count_by}, List.list_any}
+use Rattle.std.proofs.lemmas.{Option.slice_get-get_or, Bool.{le-leb, lt-ltb, leb-true, or_parts}}
 use Rattle.nbd_laws.proofs.requests.SoundnessLemmas.{reports_are_sound}
 use Rattle.nbd_laws.specs.Soundness.{IsSoundReport}
 use Rattle.nbd_wire.specs.declared.commands.TheConstants as commands
 use Rattle.nbd_wire.specs.Prelude.{Outcome, is_chunked, holds, is_answered}
-use Rattle.nbd_order.specs.Leaving.{are_open_at, is_open_at, left}
-use Rattle.nbd_order.specs.Sure.{byte_behind_last, byte_got, byte_left, byte_seen, changes, changes_behind, gets, has_completed, is_last_alone, is_read, last_number, leaves_unknown, may_leave_unknown, number_before, sure}
-use Rattle.nbd_order.specs.Sureness.{SureIsLeft, SureOfLessIsLeft}
-use Rattle.nbd_judge.proofs.contents.CompareLemmas.{from_in, in_from}
-use Rattle.nbd_judge.proofs.contents.RangeLemmas.{drop_get}
-use Rattle.nbd_judge.proofs.orders.TableLemmas.{ended, request_within, started}
-use Rattle.nbd_order.proofs.ServiceLemmas.{change_ranged}
-use Rattle.nbd_order.proofs.SettleLemmas.{sound_asked}
-use Rattle.nbd_order.proofs.SureLemmas.{HasAt, last_has}
-use Rattle.nbd_order.proofs.TimedLemmas.{IsTimed, timed}
-use Rattle.nbd_order.proofs.ToldLemmas.{any_counted, count_more}
-use Rattle.nbd_order.proofs.TouchLemmas.{ServesAt, is_served_from, served_at}
+use Rattle.nbd_order.specs.{Leaving.{are_open_at, is_open_at, left}, Sure.{byte_behind_last, byte_got, byte_left, byte_seen, changes, changes_behind, gets, has_completed, is_last_alone, is_read, last_number, leaves_unknown, may_leave_unknown, number_before, sure}, Chains.{SureIsLeft, SureOfLessIsLeft}}
+use Rattle.nbd_judge.proofs.{contents.{CompareLemmas.{from_in, in_from}, RangeLemmas.drop_get}, orders.TableLemmas.{ended, request_within, started}}
 
 -- Lists of requests.
 

@@ -2,16 +2,10 @@
 use Rattle.nbd_order.proofs.Common.{◌≡◌, ℕ, zero, suc, inl, inr, List, [], ◌∷◌, refl, sym, ◌∙◌, ap, subst, Option, Some, None, Bool, true, false, ◌&&◌, ◌||◌, ◌==◌, arith, is_some, length, and_from, eq-eqb, or_cases, Asked, Item, IsRunOf, Profile, asked_at, report}
 use Rattle.std.specs.Prelude.{◌++◌, ◌⊎◌}
 use Rattle.nbd_judge.proofs.orders.TableLemmas.{some_of}
-use Rattle.nbd_laws.proofs.requests.ReportLemmas.{asked-report, stated, told_if}
-use Rattle.nbd_laws.proofs.runs.ProfileLemmas.{at_base}
-use Rattle.nbd_laws.proofs.runs.ReachLemmas.{run_reaches}
-use Rattle.nbd_laws.proofs.service.SoonerLemmas.{sooner_at_end}
+use Rattle.nbd_laws.proofs.{requests.ReportLemmas.{asked-report, stated, told_if}, runs.{ProfileLemmas.at_base, ReachLemmas.run_reaches}, service.SoonerLemmas.sooner_at_end}
 use Rattle.nbd_laws.specs.Reached.{IsReached, at_start, after_message}
-use Rattle.nbd_wire.specs.declared.message.Message.{Message}
-use Rattle.nbd_wire.specs.declared.message.Message.TheVariants.{Chunk, ExtendedChunk, ExtendedRequest, Request, Simple}
+use Rattle.nbd_wire.specs.{declared.message.Message.{Message, TheVariants.{Chunk, ExtendedChunk, ExtendedRequest, Request, Simple}}, Prelude.{Operation, any, ends_reply, is_finished, known_count, operations_of, core_with_request, ends_at, noted, reply_to, request_of_reply, Core, operation, start, start_of, with_reply, with_reply_at, is_answered}, protocol.Rules.complete}
 use Rattle.nbd_wire.specs.declared.commands.TheConstants as commands
-use Rattle.nbd_wire.specs.Prelude.{Operation, any, ends_reply, is_finished, known_count, operations_of, core_with_request, ends_at, noted, reply_to, request_of_reply, Core, operation, start, start_of, with_reply, with_reply_at, is_answered}
-use Rattle.nbd_wire.specs.protocol.Rules.{complete}
 
 -- of each reply that is finished the end is noted
 abbrev NotesEnds : Core → Type 0

@@ -1,16 +1,9 @@
 -- What requests tell of an offset is so of them.
 use Rattle.nbd_order.proofs.Common.{◌≡◌, ℕ, zero, suc, ◌+◌, ◌≤◌, inl, inr, List, [], ◌∷◌, refl, sym, ◌∙◌, ap, subst, Option, Some, None, Bool, true, false, ◌&&◌, ◌||◌, if◌then◌else◌, arith, nat_le, slice_get, eqb-true, Asked, Piece, asked_at, is_change, is_in}
-use Rattle.std.specs.Prelude.{◌⊎◌, count_by, max, min}
-use Rattle.std.specs.List.{list_any}
-use Rattle.std.specs.Option.{option_or}
-use Rattle.std.proofs.lemmas.Bool.{cases_Bool}
-use Rattle.std.proofs.lemmas.List.Sums.{sum_by-cons}
+use Rattle.std.specs.{Prelude.{◌⊎◌, count_by, max, min}, List.list_any, Option.option_or}
+use Rattle.std.proofs.lemmas.{Bool.cases_Bool, List.Sums.sum_by-cons}
 use Rattle.nbd_wire.specs.Prelude.{holds}
-use Rattle.nbd_order.specs.Leaving.{are_open_at, is_open_at}
-use Rattle.nbd_order.specs.Sure.{changes, changes_behind, gets, is_read, last_number, leaves_unknown, number_before}
-use Rattle.nbd_order.specs.declared.here.Got.{Got}
-use Rattle.nbd_order.specs.declared.here.Here.{Here}
-use Rattle.nbd_order.specs.internal.Here.{here_at, here_if, joined, nothing, of_change, of_piece, pieces_here, request_here, requests_here}
+use Rattle.nbd_order.specs.{Leaving.{are_open_at, is_open_at}, Sure.{changes, changes_behind, gets, is_read, last_number, leaves_unknown, number_before}, declared.here.{Got.Got, Here.Here}, internal.Here.{here_at, here_if, joined, nothing, of_change, of_piece, pieces_here, request_here, requests_here}}
 
 -- the number behind k others
 abbrev pub behind : ℕ → Option ℕ → Option ℕ

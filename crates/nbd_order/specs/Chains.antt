@@ -1,13 +1,7 @@
 -- Sessions one after another on one export, each from what the ones before left, and starts that know less.
 use Rattle.std.specs.Prelude.{ℕ, List, [], ◌∷◌, ◌++◌, ◌≡◌, ◌<◌, ◌↔◌, true, Option, Some, None, if◌then◌else◌, slice_get, take}
 use Rattle.nbd_wire.specs.declared.commands.TheConstants as commands
-use Rattle.nbd_wire.specs.declared.entry.Entry.{Entry}
-use Rattle.nbd_wire.specs.declared.entry.Part.{Part}
-use Rattle.nbd_wire.specs.declared.profile.Profile.{Profile}
-use Rattle.nbd_wire.specs.Prelude.{FitsImage, IsExplainedOf, Start, start_byte, Effect, IsWrongOf, byte_or_start, effects, later, touch_of, Item, pairs, Asked, Report, report, IsRunOf, IsFaultless}
-use Rattle.nbd_export.specs.Ranges.{AreSameBelow}
-use Rattle.nbd_judge.specs.Servable.{size_of}
-use Rattle.nbd_order.specs.Leaving.{is_open, left}
+use Rattle.nbd_order.specs.{Common.{Entry, Part, Profile, FitsImage, IsExplainedOf, Start, start_byte, Effect, IsWrongOf, byte_or_start, effects, later, touch_of, Item, pairs, Asked, Report, report, IsRunOf, IsFaultless, Exporting, AreSameBelow, size_of}, Leaving.{is_open, left}, Sure.sure}
 
 -- below n what is known of a byte on the left is known of it on the right
 abbrev pub KnowsLess : ℕ → (less more : ℕ → Option ℕ) → Type 0
@@ -87,3 +81,17 @@ ChainsAreOneHistory = (profile : Profile) (items : List Item) (order : List Entr
     → AreSameBelow (size_of (report items).export) (start_byte start) (left_by_chain links initial)
     → IsExplainedOf profile (pairs items) order start
     ↔ IsFaultless profile (report items) order × HasNoneWrongInChain links (report items) order initial
+
+-- where an order explains the bytes of a run of the profile, it leaves each byte of the export that is sure
+abbrev pub SureIsLeft : Type 0
+SureIsLeft = (profile : Profile) (items : List Item) (order : List Entry) (initial : Start) (export : Exporting)
+    (x b : ℕ) → IsRunOf profile items → IsExplainedOf profile (pairs items) order initial
+    → (report items).export ≡ Some export → x < export.size
+    → sure (report items) (start_byte initial) x ≡ Some b → left (report items) order (start_byte initial) x ≡ Some b
+
+-- the same, from a start that knows less than the one from which the order explains them
+abbrev pub SureOfLessIsLeft : Type 0
+SureOfLessIsLeft = (profile : Profile) (items : List Item) (order : List Entry) (less more : Start) (export : Exporting)
+    → IsRunOf profile items → IsExplainedOf profile (pairs items) order more → (report items).export ≡ Some export
+    → KnowsLess export.size (start_byte less) (start_byte more)
+    → KnowsLess export.size (sure (report items) (start_byte less)) (left (report items) order (start_byte more))

@@ -1,14 +1,6 @@
 -- What is answered where an order is looked for.
 use Rattle.std.specs.Prelude.{◌≡◌, ℕ, zero, suc, List, [], ◌∷◌, ◌++◌, All, None}
-use Rattle.nbd_wire.specs.declared.entry.Entry.{Entry}
-use Rattle.nbd_wire.specs.declared.profile.Profile.{Profile}
-use Rattle.nbd_wire.specs.Prelude.{whole, IsExplainedOf, Start, start_byte, Item, pairs, Report, report, IsRunOf, Passes, request_count}
-use Rattle.nbd_judge.specs.Images.{IsOtherSize}
-use Rattle.nbd_order.specs.declared.finding.Found.{Found}
-use Rattle.nbd_order.specs.declared.finding.Found.TheVariants.{GaveUp, Image, NoneWhole, Order, Unexplained}
-use Rattle.nbd_order.specs.declared.finding.Wanted.{Wanted}
-use Rattle.nbd_order.specs.declared.finding.Wanted.TheVariants.{Any, Whole}
-use Rattle.nbd_order.specs.Unexplained.{IsRefutedBy, IsUnexplained}
+use Rattle.nbd_order.specs.{Common.{Entry, Profile, whole, IsExplainedOf, Start, start_byte, Item, pairs, Report, report, IsRunOf, Passes, request_count, IsOtherSize}, declared.finding.{Found.{Found, TheVariants.{GaveUp, Image, NoneWhole, Order, Unexplained}}, Wanted.{Wanted, TheVariants.{Any, Whole}}}, Unexplained.{IsRefutedBy, IsUnexplained}}
 
 -- the order of arrival: each of so many requests atomically, by number
 abbrev pub arrival : ℕ → List Entry
@@ -52,8 +44,7 @@ abbrev pub IsUnexplainedByArrival : Profile → List Item → Start → Type 0
 IsUnexplainedByArrival profile items initial =
     IsExplainedOf profile (pairs items) (arrival (request_count (report items))) initial → ⊥
 
--- what that says of the bytes of a run of the profile with this report: the order explains them, or no order does, or
--- at least that of arrival does not
+-- what that says of a run's bytes with this report: the order explains them, no order does, or that of arrival does not
 abbrev pub Says : Profile → List Item → Start → Found → Type 0
 Says profile items initial (Order order) = IsExplainedOf profile (pairs items) order.items initial
 Says profile items initial (Unexplained refutation) = IsUnexplained profile (pairs items) initial

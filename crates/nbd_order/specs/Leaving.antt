@@ -1,15 +1,6 @@
 -- What an export holds behind a session: what an order leaves, but for changes that may still be carried out.
 use Rattle.std.specs.Prelude.{ℕ, List, [], ◌∷◌, ◌≡◌, ◌&&◌, ◌||◌, Bool, false, not, Option, Some, None, if◌then◌else◌}
-use Rattle.nbd_wire.specs.declared.entry.Entry.{Entry}
-use Rattle.nbd_wire.specs.declared.profile.Profile.{Profile}
-use Rattle.nbd_wire.specs.Prelude.{Start, start_byte, Exporting, is_change, is_in, Asked, Report, is_answered}
-use Rattle.nbd_export.specs.Held.{held, held_from}
-use Rattle.nbd_judge.specs.Captures.{SaysYes}
-use Rattle.nbd_judge.specs.Left.{byte_behind}
-use Rattle.nbd_judge.specs.Verdicts.{IsJudged, IsVerdict}
-use Rattle.nbd_wire.specs.declared.verdict.Verdict.{Verdict}
-use Rattle.nbd_order.specs.declared.leaving.Left.{Left}
-use Rattle.nbd_order.specs.declared.leaving.Left.TheVariants.{Contents, NoExport, Refused}
+use Rattle.nbd_order.specs.{Common.{Entry, Profile, Verdict, Start, start_byte, Exporting, is_change, is_in, Asked, Report, is_answered, held, held_from, SaysYes, byte_behind, IsJudged, IsVerdict}, declared.leaving.Left.{Left, TheVariants.{Contents, NoExport, Refused}}}
 
 -- a WRITE, TRIM or WRITE_ZEROES that no reply has finished; it may be carried out behind the end of the recording,
 -- whether an order names it or not (this project's choice)

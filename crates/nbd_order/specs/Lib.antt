@@ -1,8 +1,8 @@
 pub mod Chains
+pub mod Common
 pub mod Finding
 pub mod Leaving
 pub mod Splits
 pub mod Sure
-pub mod Sureness
 pub mod Unexplained
 pub mod internal

@@ -1,15 +1,8 @@
 -- What every order leaves that explains a session, as far as arrivals, replies and later READs show it.
-use Rattle.std.specs.Prelude.{ℕ, suc, List, [], ◌∷◌, ◌≡◌, ◌==◌, ◌&&◌, ◌||◌, Bool, true, false, not, nat_le, Option, Some, None, if◌then◌else◌, count_by}
-use Rattle.std.specs.List.{list_any}
+use Rattle.std.specs.{Prelude.{ℕ, suc, List, [], ◌∷◌, ◌≡◌, ◌==◌, ◌&&◌, ◌||◌, Bool, true, false, not, nat_le, Option, Some, None, if◌then◌else◌, count_by}, List.list_any}
 use Rattle.nbd_wire.specs.declared.commands.TheConstants as commands
-use Rattle.nbd_wire.specs.declared.payloads.Piece.{Piece}
-use Rattle.nbd_wire.specs.Prelude.{effect, effect_byte, is_success, FitsImage, Start, start_byte, Exporting, is_change, byte_at, holds, is_in, Asked, Report, asked_at}
-use Rattle.nbd_export.specs.Held.{held, held_from}
-use Rattle.nbd_judge.specs.Images.{IsOtherSize}
+use Rattle.nbd_order.specs.{Common.{Piece, effect, effect_byte, is_success, FitsImage, Start, start_byte, Exporting, is_change, byte_at, holds, is_in, Asked, Report, asked_at, held, held_from, IsOtherSize}, Leaving.are_open_at, declared.leaving.Left.{Left, TheVariants.{Contents, NoExport, Refused}}}
 use Rattle.nbd_wire.specs.declared.verdict.Verdict.TheVariants as verdict
-use Rattle.nbd_order.specs.Leaving.{are_open_at}
-use Rattle.nbd_order.specs.declared.leaving.Left.{Left}
-use Rattle.nbd_order.specs.declared.leaving.Left.TheVariants.{Contents, NoExport, Refused}
 
 -- it is a WRITE, TRIM or WRITE_ZEROES with x in its range
 abbrev pub changes : (x : ℕ) → Asked → Bool
@@ -57,8 +50,7 @@ abbrev pub byte_got : Option Asked → (x : ℕ) → Option ℕ
 byte_got (Some a) x = byte_at a.pieces x
 byte_got None x = None
 
--- the byte at x that READ m got, the last one that got a byte there, where it arrived behind the first reply to each
--- change at x: so it was served behind all of them
+-- the byte at x that READ m, the last to get one there, got, if it arrived behind the first reply to each change at x
 abbrev pub byte_seen : List Asked → (x : ℕ) → (last_read : Option ℕ) → Option ℕ
 byte_seen asked x (Some m) =
     if list_any (changes_behind m x) asked then None else byte_got (asked_at m asked) x

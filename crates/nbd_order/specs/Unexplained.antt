@@ -1,9 +1,6 @@
 -- When no order explains a capture, and what shows it.
-use Rattle.std.specs.Prelude.{ℕ, List, ◌≡◌, ◌+◌, ◌<◌, ◌==◌, Bool, true, Option, Some, IsTrue, slice_get}
-use Rattle.std.specs.List.{list_any}
-use Rattle.nbd_wire.specs.declared.entry.Entry.{Entry}
-use Rattle.nbd_wire.specs.declared.profile.Profile.{Profile}
-use Rattle.nbd_wire.specs.Prelude.{Pair, IsExplainedOf, Start, start_byte, Effect, GivesByte, IsWrong, effects, Item, pairs, Report, inside_in, report, IsRunOf, IsFaultless}
+use Rattle.std.specs.{Prelude.{ℕ, List, ◌≡◌, ◌+◌, ◌<◌, ◌==◌, Bool, true, Option, Some, IsTrue, slice_get}, List.list_any}
+use Rattle.nbd_order.specs.Common.{Entry, Profile, Pair, IsExplainedOf, Start, start_byte, Effect, GivesByte, IsWrong, effects, Item, pairs, Report, inside_in, report, IsRunOf, IsFaultless}
 
 -- k is one of these numbers
 abbrev pub has : List ℕ → ℕ → Bool

@@ -4,7 +4,7 @@ ghost use Rattle.std.specs.Prelude.{◌≡◌, ◌<◌, ℕ, IsTrue, None, Some,
 ghost use Rattle.nbd_state.specs.Transcripts.{report_of_request};
 ghost use Rattle.nbd_wire.specs.declared.commands.TheConstants as commands;
 ghost use Rattle.nbd_wire.specs.Prelude.{is_in, first_shown, inside_asked};
-ghost use Rattle.nbd_order.specs.internal.Offsets.{due_at};
+ghost use Rattle.nbd_order.specs.internal.{due_at};
 
 use nbd_judge::lesser;
 use nbd_session::{Asked, Transcript};

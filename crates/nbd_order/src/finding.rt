@@ -3,9 +3,7 @@
 ghost use Rattle.std.specs.Prelude.{◌≡◌, List, IfOk};
 ghost use Rattle.nbd_judge.specs.Beginnings.{initial_of};
 ghost use Rattle.nbd_wire.specs.Prelude.{Item, report, IsRunOf, Passes, request_count};
-ghost use Rattle.nbd_order.specs.Finding.{IsFound, IsWanted, Says, arrival};
-ghost use Rattle.nbd_order.specs.declared.finding.Wanted.{Wanted};
-ghost use Rattle.nbd_order.specs.internal.Proposals.{IsOpen};
+ghost use Rattle.nbd_order.specs.{Finding.{IsFound, IsWanted, Says, arrival}, declared.finding.Wanted.Wanted, internal.IsOpen};
 
 use crate::judging::{are_whole, by_arrival, place_of, verdict_of};
 use crate::laws;

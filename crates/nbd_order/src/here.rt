@@ -2,8 +2,7 @@
 
 ghost use Rattle.std.specs.Prelude.{◌≡◌, Some};
 ghost use Rattle.nbd_state.specs.Transcripts.{report_of_request};
-ghost use Rattle.nbd_order.specs.Sure.{leaves_unknown};
-ghost use Rattle.nbd_order.specs.internal.Here.{held_behind, held_by, held_by_read, joined, nothing, of_change, of_piece};
+ghost use Rattle.nbd_order.specs.{Sure.leaves_unknown, internal.Here.{held_behind, held_by, held_by_read, joined, nothing, of_change, of_piece}};
 
 use crate::leaving::is_open;
 use nbd_session::Asked;

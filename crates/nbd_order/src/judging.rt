@@ -1,8 +1,7 @@
 //! The order of arrival, and whether an order explains a session, by the judge of `check`.
 
 ghost use Rattle.std.specs.Prelude.{◌≡◌, ◌≤◌, [], All, IfOk, MatchBool, None, OnErr, OnOk, vec_capacity, vec_len};
-ghost use Rattle.nbd_judge.specs.Beginnings.{initial_of};
-ghost use Rattle.nbd_judge.specs.Verdicts.{IsVerdict};
+ghost use Rattle.nbd_judge.specs.{Beginnings.initial_of, Verdicts.IsVerdict};
 ghost use Rattle.nbd_order.specs.Finding.{AreWhole, arrival};
 
 use nbd_export::Start;

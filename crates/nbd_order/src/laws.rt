@@ -1,10 +1,6 @@
 //! Laws over the definitions: each is the contract of a function that does nothing.
 
-ghost use Rattle.nbd_order.specs.Chains.{ChainsAreOneHistory, ExplainedFromLess, LeavesLess};
-ghost use Rattle.nbd_order.specs.Finding.{FoundIsSo};
-ghost use Rattle.nbd_order.specs.Splits.{SplitsAreExplained, SplitsLeaveTheSame};
-ghost use Rattle.nbd_order.specs.Sureness.{SureIsLeft, SureOfLessIsLeft};
-ghost use Rattle.nbd_order.specs.Unexplained.{RefutedIsUnexplained};
+ghost use Rattle.nbd_order.specs.{Chains.{ChainsAreOneHistory, ExplainedFromLess, LeavesLess, SureIsLeft, SureOfLessIsLeft}, Finding.FoundIsSo, Splits.{SplitsAreExplained, SplitsLeaveTheSame}, Unexplained.RefutedIsUnexplained};
 
 use nbd_laws::laws::{explained_exactly, reports_are_sound};
 

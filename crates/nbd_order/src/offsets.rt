@@ -8,8 +8,7 @@ ghost use Rattle.nbd_wire.specs.protocol.Explains as explains;
 ghost use Rattle.nbd_wire.specs.protocol.ExportBytes as bytes;
 ghost use Rattle.nbd_wire.specs.protocol.Operations as operations;
 ghost use Rattle.nbd_wire.specs.Prelude.{byte_at, holds, is_in, piece_byte};
-ghost use Rattle.nbd_order.specs.internal.Offsets.{differs, gives_byte, reads_at};
-ghost use Rattle.nbd_order.specs.internal.Refutations.{IsBefore, IsChangeAt, IsOther, IsReadAt};
+ghost use Rattle.nbd_order.specs.internal.{differs, gives_byte, reads_at, Refutations.{IsBefore, IsChangeAt, IsOther, IsReadAt}};
 
 use crate::due::{due_at, is_below};
 use nbd_export::{Contents, Extents, Start};

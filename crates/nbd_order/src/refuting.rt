@@ -3,8 +3,7 @@
 ghost use Rattle.std.specs.Prelude.{◌≡◌, ℕ, ◌⊎◌, IsTrue, true, false};
 ghost use Rattle.nbd_judge.specs.Beginnings.{initial_of};
 ghost use Rattle.nbd_wire.specs.protocol.Explains as explains;
-ghost use Rattle.nbd_order.specs.Unexplained.{AreRising, IsRefutedBy, has};
-ghost use Rattle.nbd_order.specs.internal.Refutations.{EachSteps, HasBeginning, HelpsNone, IsBefore, IsChangeAt, IsNoHelp, IsReadAt, NoneIsLast};
+ghost use Rattle.nbd_order.specs.{Unexplained.{AreRising, IsRefutedBy, has}, internal.Refutations.{EachSteps, HasBeginning, HelpsNone, IsBefore, IsChangeAt, IsNoHelp, IsReadAt, NoneIsLast}};
 
 use crate::offsets::{is_before, is_change_at, is_other, is_read_at};
 use crate::refutation::Refutation;

@@ -3,8 +3,7 @@
 ghost use Rattle.std.specs.Prelude.{◌≡◌, ℕ, ◌==◌, ◌||◌, IsTrue, true, false};
 ghost use Rattle.nbd_judge.specs.Beginnings.{initial_of};
 ghost use Rattle.nbd_wire.specs.protocol.Explains as explains;
-ghost use Rattle.nbd_order.specs.Unexplained.{has};
-ghost use Rattle.nbd_order.specs.internal.Refutations.{AreSteps, EachSteps, Fits, HasBeginning, IsBefore, IsFitting, IsHeld, IsStep, IsUnfinished, Leads, LeadsOn, NoneIsLast};
+ghost use Rattle.nbd_order.specs.{Unexplained.has, internal.Refutations.{AreSteps, EachSteps, Fits, HasBeginning, IsBefore, IsFitting, IsHeld, IsStep, IsUnfinished, Leads, LeadsOn, NoneIsLast}};
 
 use crate::offsets::{is_before, is_other, start_byte};
 use crate::refutation::Refutation;

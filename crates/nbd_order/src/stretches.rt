@@ -1,8 +1,7 @@
 //! The export in stretches, in each of which the requests of a session tell the same.
 
 ghost use Rattle.std.specs.Prelude.{◌≡◌, ◌+◌, ◌<◌, ◌≤◌, ℕ, IfOk, Some, ◌^◌};
-ghost use Rattle.nbd_order.specs.internal.Here.{nothing};
-ghost use Rattle.nbd_order.specs.internal.Stretches.{joined_if, stretch_here, touch_here, touches_here};
+ghost use Rattle.nbd_order.specs.internal.Here.{nothing, joined_if, stretch_here, touch_here, touches_here};
 
 use crate::here::Here;
 use crate::touches::Touch;

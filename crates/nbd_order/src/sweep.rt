@@ -1,15 +1,12 @@
 //! What every order that explains a session leaves on the export, as far as arrivals, replies and later READs show it.
 
 ghost use Rattle.std.specs.Prelude.{◌≡◌, ◌+◌, ◌<◌, ◌≤◌, ℕ, IsSome, IsTrue, OnOk, Some, length, slice_get};
-ghost use Rattle.nbd_export.specs.Extents.{byte_of, size_of};
-ghost use Rattle.nbd_export.specs.Ranges.{AreSameBelow, bytes_from, overlay};
+ghost use Rattle.nbd_export.specs.{Extents.{byte_of, size_of}, Ranges.{AreSameBelow, bytes_from, overlay}};
 ghost use Rattle.nbd_laws.specs.Soundness.{IsSoundReport};
 ghost use Rattle.nbd_state.specs.Transcripts.{report_of_request};
 ghost use Rattle.nbd_wire.specs.declared.commands.TheConstants as commands;
 ghost use Rattle.nbd_wire.specs.Prelude.{effect, effect_byte, is_in, piece_byte, piece_offset, piece_size, asked_at};
-ghost use Rattle.nbd_order.specs.Sure.{sure};
-ghost use Rattle.nbd_order.specs.internal.Here.{here_at};
-ghost use Rattle.nbd_order.specs.internal.Stretches.{stretch_here};
+ghost use Rattle.nbd_order.specs.{Sure.sure, internal.Here.{here_at, stretch_here}};
 
 use crate::here::{Here, Holds};
 use crate::stretches::{Stretch, stretches_of};

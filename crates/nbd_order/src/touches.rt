@@ -2,9 +2,7 @@
 
 ghost use Rattle.std.specs.Prelude.{◌≡◌, ℕ, IfOk, OnOk};
 ghost use Rattle.nbd_state.specs.Transcripts.{report_of_request};
-ghost use Rattle.nbd_order.specs.Sure.{is_read};
-ghost use Rattle.nbd_order.specs.internal.Here.{here_at, joined, pieces_here, request_here};
-ghost use Rattle.nbd_order.specs.internal.Stretches.{touches_here};
+ghost use Rattle.nbd_order.specs.{Sure.is_read, internal.Here.{here_at, joined, pieces_here, request_here, touches_here}};
 
 use crate::here::Here;
 use crate::leaving::range_of;

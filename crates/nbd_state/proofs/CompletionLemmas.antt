@@ -1,11 +1,9 @@
 -- What a state shows once a message has completed.
 use Rattle.nbd_state.proofs.Common.{◌≡◌, ℕ, zero, suc, ◌<◌, ◌==◌, ◌&&◌, List, [], ◌∷◌, ◌++◌, length, refl, sym, ◌∙◌, ap, subst, Option, Some, None, Bool, false, if◌then◌else◌, arith, slice_get, slice_index_or, slice_set, Result, IfOk, OnOk, ◌^◌, slice_get_read, place_at, Message, Operation, Exporting, ends_reply, is_finished, cookie_of, core_with_reply, noted, reply_to, shown_with, target_of, Context, Core, Transmission, with_reply_at, operation, target, with_reply, export_in, in_force, Asked, Exchange, Counts, Export, State, AddsUnanswered, IsShown, exporting, IsReached, AreAskedWith, asked_answered, asked_snoc, AreShown, HasSelection, Shows, ended_if, phase_shown, place_of, shown_if, shown_in, IsNotedWith, InPhase, open_target, sound, known_if}
+use Rattle.nbd_state.proofs.{NotingLemmas.{ended_added, ended_set, fresh, shown_added, shown_set}, PlacedLemmas.{IsPlaced, are_shown_in, place_shows_operation, shown_length}, TargetLemmas.{distinct_reached, target_replied, target_requested}}
 use Rattle.nbd_wire.specs.protocol.States as definitions
 use Rattle.nbd_state.specs.declared.state.Phase.TheVariants as shown
 use Rattle.nbd_laws.proofs.requests.ContextLemmas.{asked_at}
-use Rattle.nbd_state.proofs.NotingLemmas.{ended_added, ended_set, fresh, shown_added, shown_set}
-use Rattle.nbd_state.proofs.PlacedLemmas.{IsPlaced, are_shown_in, place_shows_operation, shown_length}
-use Rattle.nbd_state.proofs.TargetLemmas.{distinct_reached, target_replied, target_requested}
 
 shown_snoc : (export : Exporting) (es : List Operation) (xs : List Exchange) (e : Operation) (x : Exchange) → AreShown (Some export) es xs → IsShown export e x → AreShown (Some export) (es ++ e ∷ []) (xs ++ x ∷ [])
 shown_snoc export (d ∷ es) (y ∷ xs) e x s h = (s.0, shown_snoc export es xs e x s.1 h)

@@ -1,10 +1,9 @@
 -- What a state shows once a message of the negotiation has completed.
 use Rattle.nbd_state.proofs.Common.{IsAllowed, allowed, arith, ◌≡◌, ℕ, ◌<◌, ◌||◌, ◌&&◌, ◌==◌, List, length, refl, sym, ◌∙◌, ap, subst, Option, Some, None, Bool, slice_get_within, place_at, ask_allow, extended_ask_allow, MayAsk, Message, Greeting, ClientFlags, Choice, Answer, Exported, Request, ExtendedRequest, Simple, Chunk, ExtendedChunk, Sizing, sizing_after, sizing_at, agrees, reply_phase, choice_phase, is_proper_option, next_phase, selection_after, selection_at, takes_contexts, Exporting, AnswersOne, MayComplete, complete, grants_extended, grants_structured, Core, Phase, Answering, Transmission, export_in, Chosen, State, MayTake, IsTransmitting, Selection, HasSelection, Shows, export_shown_if, phase_shown}
+use Rattle.nbd_state.proofs.{PlacedLemmas.place_shows_operation, CompletionLemmas.negotiation_is_shown}
 use Rattle.nbd_wire.specs.declared.commands.TheConstants as commands
 use Rattle.nbd_state.specs.declared.state.Phase as states
 use Rattle.nbd_state.specs.declared.state.Phase.TheVariants as shown
-use Rattle.nbd_state.proofs.PlacedLemmas.{place_shows_operation}
-use Rattle.nbd_state.proofs.CompletionLemmas.{negotiation_is_shown}
 
 -- after an answer
 pub behind_abort : (p : Phase) (option kind : ℕ) (payload : List ℕ) → shown.Aborting ≡ phase_shown p → shown.Ended ≡ phase_shown (next_phase p (Answer option kind payload))

@@ -1,8 +1,8 @@
 -- An exchange after one more reply message.
 use Rattle.nbd_state.proofs.Common.{◌≡◌, ℕ, List, [], ◌∷◌, ◌++◌, ◌==◌, append_assoc, append-nil, sym, ◌∙◌, ap, Bool, true, false, not, ◌&&◌, ◌||◌, if◌then◌else◌, Option, Some, None, is_some, Result, IfOk, nat_lt, eqb-true, arith, take, Message, Operation, Exporting, ends_reply, is_failing, is_finished, is_proper, pieces, Piece, is_at, nat_cmp, eqb-false, Status, has_id, piece_of, is_allocation, is_settled, status_in, statuses_of, tells, zeroes, zeroes_in, zeroes_told, with_reply, Exchange, Success, Failure, is_none_yet, AreCounted, IsShown, is_settled_by, TellsThese, Telling, pieces-snoc}
+use Rattle.nbd_state.proofs.ReplyLemmas.{any-snoc, proper-same}
 use Rattle.std.proofs.Common.{ltb-true, ltb-false}
 use Rattle.nbd_wire.specs.declared.commands.TheConstants as commands
-use Rattle.nbd_state.proofs.ReplyLemmas.{any-snoc, proper-same}
 
 -- what stays as it was
 pub record IsKept (x y : Exchange) : Type 0 where

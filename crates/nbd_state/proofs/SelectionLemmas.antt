@@ -1,7 +1,6 @@
 -- Whether contexts were selected.
-use Rattle.nbd_state.proofs.Common.{and_parts, ◌≡◌, ℕ, ◌==◌, ◌&&◌, ◌||◌, List, [], ◌∷◌, length, refl, sym, ◌∙◌, ap, subst, Bool, true, false, not, IsTrue, arith, Option, All-set_contains, is_at, BTreeSet, btree_set_len, contains, list_all, list_any, TellsThese, is_this, nat_cmp, nat_cmp_total, Context, has_id, are_settled}
+use Rattle.nbd_state.proofs.{Common.{and_parts, ◌≡◌, ℕ, ◌==◌, ◌&&◌, ◌||◌, List, [], ◌∷◌, length, refl, sym, ◌∙◌, ap, subst, Bool, true, false, not, IsTrue, arith, Option, All-set_contains, is_at, BTreeSet, btree_set_len, contains, list_all, list_any, TellsThese, is_this, nat_cmp, nat_cmp_total, Context, has_id, are_settled}, RecordingLemmas.at-same}
 use Rattle.std.proofs.lemmas.Bool.{eq-eqb, eqb-true, ne_eqb}
-use Rattle.nbd_state.proofs.RecordingLemmas.{at-same}
 
 head_id : (c : Context) (contexts : List Context) → has_id (c ∷ contexts) c.id ≡ true
 head_id c contexts = ap (λ b. b || has_id contexts c.id) (eq-eqb c.id c.id refl)

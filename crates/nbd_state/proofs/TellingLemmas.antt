@@ -1,6 +1,5 @@
 -- What the exchanges know once a message has completed.
-use Rattle.nbd_state.proofs.Common.{◌≡◌, ℕ, zero, suc, List, [], ◌∷◌, sym, ◌∙◌, ap, Option, Some, None, false, is_some, if◌then◌else◌, slice_get, slice_set, place_at, Message, cookie_of, is_this, noted, target_of, is_reply_to, Core, target, Exchange, State, AddsUnanswered, TellsOne, AreKnown, Shows, arith, find, known_if, place_of}
-use Rattle.nbd_state.proofs.PlacedLemmas.{no_entry}
+use Rattle.nbd_state.proofs.{Common.{◌≡◌, ℕ, zero, suc, List, [], ◌∷◌, sym, ◌∙◌, ap, Option, Some, None, false, is_some, if◌then◌else◌, slice_get, slice_set, place_at, Message, cookie_of, is_this, noted, target_of, is_reply_to, Core, target, Exchange, State, AddsUnanswered, TellsOne, AreKnown, Shows, arith, find, known_if, place_of}, PlacedLemmas.no_entry}
 
 pub unnoted : (o : Option ℕ) (n : ℕ) → noted o false n ≡ o
 unnoted o n = grind arith

@@ -1,11 +1,8 @@
 -- Which message may come next, and which request a reply answers.
 use Rattle.std.specs.Prelude.{◌≡◌, ℕ, Some}
-use Rattle.nbd_state.specs.Places.{place_at}
-use Rattle.nbd_wire.specs.declared.message.Message.{Message}
-use Rattle.nbd_wire.specs.Prelude.{MayComplete, cookie_of, Core}
+use Rattle.nbd_state.specs.{Places.place_at, declared.state.State.State, Shows.Shows}
+use Rattle.nbd_wire.specs.{declared.message.Message.Message, Prelude.{MayComplete, cookie_of, Core}}
 use Rattle.nbd_laws.specs.Reached.{IsReached}
-use Rattle.nbd_state.specs.declared.state.State.{State}
-use Rattle.nbd_state.specs.Shows.{Shows}
 
 -- the message may complete where a session can stand of which the state shows what it has led to
 pub record MayTake (state : State) (message : Message) : Type 0 where

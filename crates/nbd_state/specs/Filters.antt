@@ -1,13 +1,7 @@
 -- What a request asks where the session stands, as the program has it.
-use Rattle.std.specs.Prelude.{◌≡◌, ℕ, List, Bool, true, not, ◌==◌, Option, None, if◌then◌else◌, length}
-use Rattle.std.specs.BTreeSet.{contains}
-use Rattle.std.specs.Ordering.{nat_cmp}
-use Rattle.nbd_wire.specs.declared.heads.transmission.RequestHead.{RequestHead}
-use Rattle.nbd_wire.specs.protocol.Contexts.{is_left_out}
-use Rattle.nbd_wire.specs.Prelude.{Context, Filter, has_id, length_by, filter_in}
-use Rattle.nbd_wire.specs.protocol.Operations.{takes_filter}
-use Rattle.nbd_state.specs.declared.asking.Asking.{Asking}
-use Rattle.nbd_state.specs.declared.asking.Telling.{Telling}
+use Rattle.std.specs.{Prelude.{◌≡◌, ℕ, List, Bool, true, not, ◌==◌, Option, None, if◌then◌else◌, length}, BTreeSet.contains, Ordering.nat_cmp}
+use Rattle.nbd_wire.specs.{declared.heads.transmission.RequestHead.RequestHead, Prelude.{is_left_out, Context, Filter, has_id, length_by, filter_in, takes_filter}}
+use Rattle.nbd_state.specs.declared.asking.{Asking.Asking, Telling.Telling}
 
 -- the filter of a request with this head and payload, by whether a context is in force
 abbrev pub filter_of_head : (has_contexts : Bool) → RequestHead → List ℕ → Option Filter
@@ -19,8 +13,7 @@ abbrev pub is_settled_by : Telling → (id : ℕ) → Bool
 is_settled_by telling id =
     if telling.filtered then not (contains nat_cmp telling.ids id) else contains nat_cmp telling.ids id
 
--- this is what a request with this filter, if any, and of this length in its head asks of an export with these flags,
--- where these contexts are in force
+-- what a request with this filter, if any, and length in its head asks of an export with these flags and contexts
 pub record Asks (flags : ℕ) (contexts : List Context) (filter : Option Filter) (len : ℕ)
     (asking : Asking) : Type 0 where
   pub has_contexts_is : asking.has_contexts ≡ not (length contexts == 0)

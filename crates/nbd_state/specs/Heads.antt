@@ -1,9 +1,7 @@
 -- Chunks by their heads, as the program has them: with an extended header or not (proto.md, "Structured reply chunk
 -- message", "Reserved Magic values").
 use Rattle.std.specs.Prelude.{ℕ, List, Option, Some, None}
-use Rattle.nbd_wire.specs.declared.heads.transmission.ChunkHead.{ChunkHead}
-use Rattle.nbd_wire.specs.declared.message.Message.{Message}
-use Rattle.nbd_wire.specs.declared.message.Message.TheVariants.{Chunk, ExtendedChunk}
+use Rattle.nbd_wire.specs.declared.{heads.transmission.ChunkHead.ChunkHead, message.Message.{Message, TheVariants.{Chunk, ExtendedChunk}}}
 
 -- a chunk with these fields; an extended header has an offset
 abbrev pub chunk_with : (at : Option ℕ) → (flags kind cookie : ℕ) → List ℕ → Message

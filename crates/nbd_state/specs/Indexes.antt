@@ -1,9 +1,6 @@
 -- The sizes of spans by their offsets, and an index of pieces.
-use Rattle.std.specs.Prelude.{ℕ, List, IsTrue, ◌≡◌, ◌+◌, ◌<◌, ◌≤◌, ◌==◌, ◌⊎◌, Option, Some, None, true, false, if◌then◌else◌}
-use Rattle.std.specs.BTreeMap.{BTreeMap, btree_map_len, get}
-use Rattle.std.specs.Ordering.{nat_cmp}
-use Rattle.nbd_wire.specs.declared.payloads.Piece.{Piece}
-use Rattle.nbd_wire.specs.Prelude.{is_in, piece_offset, piece_size, is_apart_from}
+use Rattle.std.specs.{Prelude.{ℕ, List, IsTrue, ◌≡◌, ◌+◌, ◌<◌, ◌≤◌, ◌==◌, ◌⊎◌, Option, Some, None, true, false, if◌then◌else◌}, BTreeMap.{BTreeMap, btree_map_len, get}, Ordering.nat_cmp}
+use Rattle.nbd_wire.specs.{declared.payloads.Piece.Piece, Prelude.{is_in, piece_offset, piece_size, is_apart_from}}
 
 -- the size of the span that begins at an offset, where one does
 abbrev pub size_from : BTreeMap ℕ ℕ → ℕ → Option ℕ

@@ -1,8 +1,7 @@
 -- What a READ showed, and when.
 use Rattle.std.specs.Prelude.{ℕ, List, [], ◌∷◌, ◌==◌, if◌then◌else◌}
 use Rattle.nbd_wire.specs.declared.commands.TheConstants as commands
-use Rattle.nbd_wire.specs.declared.payloads.Piece.{Piece}
-use Rattle.nbd_wire.specs.Prelude.{piece_offset, piece_size, Shown}
+use Rattle.nbd_wire.specs.{declared.payloads.Piece.Piece, Prelude.{piece_offset, piece_size, Shown}}
 use Rattle.nbd_state.specs.declared.asked.Asked.{Asked}
 
 -- the ranges of the pieces, each with its count; of the pieces that stand behind the counts nothing

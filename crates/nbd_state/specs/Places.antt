@@ -1,9 +1,6 @@
 -- The places of the outstanding requests, by their cookies.
-use Rattle.std.specs.Prelude.{ℕ, ◌+◌, ◌-◌, false, Option, Some, None, ◌&&◌, nat_le, get_or, if◌then◌else◌}
-use Rattle.std.specs.BTreeMap.{get}
-use Rattle.std.specs.Ordering.{nat_cmp}
-use Rattle.nbd_state.specs.declared.outstanding.Outstanding.{Outstanding}
-use Rattle.nbd_state.specs.declared.outstanding.Row.{Row}
+use Rattle.std.specs.{Prelude.{ℕ, ◌+◌, ◌-◌, false, Option, Some, None, ◌&&◌, nat_le, get_or, if◌then◌else◌}, BTreeMap.get, Ordering.nat_cmp}
+use Rattle.nbd_state.specs.declared.outstanding.{Outstanding.Outstanding, Row.Row}
 
 -- of those in a row, along which cookies and places count up by one
 abbrev pub place_in : Row → ℕ → Option ℕ

@@ -1,16 +1,9 @@
 -- How the program's values show what the definitions speak of.
 use Rattle.std.specs.Prelude.{◌≡◌, ℕ, false, true, not, Option, Some, None, ◌++◌, is_some, length}
 use Rattle.nbd_wire.specs.declared.commands.TheConstants as commands
-use Rattle.nbd_wire.specs.Prelude.{has_id, Operation, Exporting, is_finished, is_proper, has_failed, outcome, pieces, is_settled, zeroes}
-use Rattle.nbd_wire.specs.protocol.Transmission.{is_none_yet}
-use Rattle.nbd_wire.specs.protocol.Operations.{is_outside}
+use Rattle.nbd_wire.specs.Prelude.{has_id, Operation, Exporting, is_finished, is_proper, has_failed, outcome, pieces, is_settled, zeroes, is_none_yet, is_outside}
 use Rattle.nbd_wire.specs.protocol.Operations as definitions
-use Rattle.nbd_state.specs.declared.asked.Asked.{Asked}
-use Rattle.nbd_state.specs.declared.asked.Exchange.{Exchange}
-use Rattle.nbd_state.specs.declared.asked.Outcome.{Outcome}
-use Rattle.nbd_state.specs.declared.asked.Outcome.TheVariants.{Success, Failure, Pending}
-use Rattle.nbd_state.specs.declared.state.Export.{Export}
-use Rattle.nbd_state.specs.Filters.{is_settled_by}
+use Rattle.nbd_state.specs.{declared.{asked.{Asked.Asked, Exchange.Exchange, Outcome.{Outcome, TheVariants.{Success, Failure, Pending}}}, state.Export.Export}, Filters.is_settled_by}
 
 -- the export of a session
 abbrev pub exporting : Export → Exporting

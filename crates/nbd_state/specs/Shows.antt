@@ -1,22 +1,10 @@
 -- How the program's state shows what the completed messages have led to.
-use Rattle.std.specs.Prelude.{◌≡◌, ℕ, suc, ◌-◌, ◌||◌, true, Bool, List, [], ◌∷◌, Option, Some, None, slice_get}
-use Rattle.nbd_state.specs.Places.{place_at}
-use Rattle.std.specs.BTreeSet.{contains}
-use Rattle.std.specs.Ordering.{nat_cmp}
-use Rattle.nbd_wire.specs.Prelude.{is_proper_option, takes_contexts, has_id, is_allocation, Operation, Exporting, Core, Shown, start, target, export_in, in_force, is_this}
+use Rattle.std.specs.{Prelude.{◌≡◌, ℕ, suc, ◌-◌, ◌||◌, true, Bool, List, [], ◌∷◌, Option, Some, None, slice_get}, BTreeSet.contains, Ordering.nat_cmp}
+use Rattle.nbd_state.specs.{Places.place_at, declared.{asked.Exchange.Exchange, asking.Telling.Telling, selection.Selection.Selection, state.{Export.Export, Phase.{Phase, TheVariants.{Greet, Flags, Choosing, Naming, Aborting, Answering, Ended, Transmission}}, State.State}}, Filters.is_settled_by, Moments.shown_in, Showing.IsShown}
+use Rattle.nbd_wire.specs.Prelude.{is_proper_option, takes_contexts, has_id, is_allocation, Operation, Exporting, Core, Shown, target, export_in, in_force, is_this}
 use Rattle.nbd_wire.specs.protocol.Contexts as contexts
 use Rattle.nbd_wire.specs.protocol.States as definitions
 use Rattle.nbd_laws.specs.Selecting.{AreAskedWith}
-use Rattle.nbd_state.specs.declared.asked.Exchange.{Exchange}
-use Rattle.nbd_state.specs.declared.asking.Telling.{Telling}
-use Rattle.nbd_state.specs.declared.selection.Selection.{Selection}
-use Rattle.nbd_state.specs.Filters.{is_settled_by}
-use Rattle.nbd_state.specs.declared.state.Export.{Export}
-use Rattle.nbd_state.specs.declared.state.Phase.{Phase}
-use Rattle.nbd_state.specs.declared.state.Phase.TheVariants.{Greet, Flags, Choosing, Naming, Aborting, Answering, Ended, Transmission}
-use Rattle.nbd_state.specs.declared.state.State.{State}
-use Rattle.nbd_state.specs.Moments.{shown_in}
-use Rattle.nbd_state.specs.Showing.{IsShown}
 
 -- an export as the program has it
 abbrev pub export_shown : Exporting → Export

@@ -1,7 +1,6 @@
 -- What an index of spans holds.
 use Rattle.std.specs.Prelude.{ℕ, Option}
-use Rattle.nbd_state.specs.declared.index.SpanIndex.{SpanIndex}
-use Rattle.nbd_state.specs.Indexes.{size_from}
+use Rattle.nbd_state.specs.{declared.index.SpanIndex.SpanIndex, Indexes.size_from}
 
 -- the size of the span of an index that begins at an offset, where one does
 abbrev pub sizes_of : SpanIndex → ℕ → Option ℕ

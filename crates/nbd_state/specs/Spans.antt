@@ -1,6 +1,5 @@
 -- Where content lies in an export.
-use Rattle.nbd_wire.specs.declared.payloads.Piece.{Piece}
-use Rattle.nbd_wire.specs.Prelude.{piece_offset, piece_size}
+use Rattle.nbd_wire.specs.{declared.payloads.Piece.Piece, Prelude.{piece_offset, piece_size}}
 use Rattle.nbd_state.specs.declared.span.Span.{Span}
 
 -- where a piece lies

@@ -2,16 +2,10 @@
 //! BLOCK_STATUS with an extended header may have a filter, which says how long its range is and which of the contexts it
 //! asks (this project's choice, read from libnbd and qemu).
 
-ghost use Rattle.std.specs.Prelude.{ℕ, ◌≡◌, ◌==◌, ◌&&◌, ◌||◌, [], false, not, IfOk, IsTrue, if◌then◌else◌, length, true};
-ghost use Rattle.std.specs.BTreeSet.{IsEmpty, contains};
-ghost use Rattle.std.specs.Option.{option_map};
-ghost use Rattle.std.specs.Ordering.{nat_cmp};
+ghost use Rattle.std.specs.{Prelude.{ℕ, ◌≡◌, ◌==◌, ◌&&◌, ◌||◌, [], false, not, IfOk, IsTrue, if◌then◌else◌, length, true}, BTreeSet.{IsEmpty, contains}, Option.option_map, Ordering.nat_cmp};
 ghost use Rattle.nbd_wire.specs.protocol.Contexts as contexts;
-ghost use Rattle.nbd_wire.specs.protocol.Contexts.{are_once, is_among};
-ghost use Rattle.nbd_wire.specs.Prelude.{has_id};
-ghost use Rattle.nbd_wire.specs.protocol.Payloads.{ids_of};
-ghost use Rattle.nbd_state.specs.Filters.{Asks, filter_of_head, is_settled_by};
-ghost use Rattle.nbd_state.specs.Shows.{HasSelection};
+ghost use Rattle.nbd_wire.specs.Prelude.{are_once, is_among, has_id, ids_of};
+ghost use Rattle.nbd_state.specs.{Filters.{Asks, filter_of_head, is_settled_by}, Shows.HasSelection};
 
 use crate::selection::Selection;
 use nbd_wire::flags::has;

@@ -1,22 +1,12 @@
 //! What a completed message leads to.
 
 ghost use Rattle.std.specs.Prelude.{◌≡◌, ◌<◌, ◌==◌, ◌&&◌, ◌++◌, ◌∷◌, ℕ, List, [], Option, Some, None, false, if◌then◌else◌, length, OnOk};
-ghost use Rattle.nbd_state.specs.Places.{place_at};
+ghost use Rattle.nbd_state.specs.{Places.place_at, Filters.filter_of_head, Heads.chunk_of, internal.{carried, operation_of_head, AddsUnanswered, IsTransmitting, TellsOne, is_allocation_told}, Completions.{Answers, MayTake}, Shows.{AreKnown, Shows, export_shown_if, phase_shown}};
 ghost use Rattle.nbd_wire.specs.declared.commands.TheConstants as commands;
-ghost use Rattle.nbd_wire.specs.declared.message.Message.TheVariants.{Answer, Choice, Simple};
+ghost use Rattle.nbd_wire.specs.{declared.message.Message.TheVariants.{Answer, Choice, Simple}, Prelude.{ack_phase, next_phase, agrees, reply_phase, is_proper_option, takes_contexts, Exporting, MayComplete, complete, grants_structured, core_with_request, is_reply_to, noted, IsSendable, Core, has_contexts, in_force, target, sizes_kept, status_in, grants_extended, core_with_reply, sizes_for}};
 ghost use Rattle.nbd_wire.specs.protocol.Options as options;
-ghost use Rattle.nbd_wire.specs.protocol.Options.{ack_phase, next_phase};
-ghost use Rattle.nbd_wire.specs.Prelude.{agrees, reply_phase, is_proper_option, takes_contexts, Exporting, MayComplete, complete, grants_structured, core_with_request, is_reply_to, noted, IsSendable, Core, has_contexts, in_force, target, sizes_kept, status_in};
-ghost use Rattle.nbd_wire.specs.protocol.Rules.{grants_extended, core_with_reply};
 ghost use Rattle.nbd_wire.specs.protocol.States as definitions;
-ghost use Rattle.nbd_state.specs.Filters.{filter_of_head};
-ghost use Rattle.nbd_state.specs.Heads.{chunk_of};
-ghost use Rattle.nbd_state.specs.internal.Showing.{carried, operation_of_head};
-ghost use Rattle.nbd_wire.specs.protocol.Sizes.{sizes_for};
-ghost use Rattle.nbd_state.specs.internal.Completing.{AddsUnanswered, IsTransmitting, TellsOne, is_allocation_told};
-ghost use Rattle.nbd_state.specs.Completions.{Answers, MayTake};
 ghost use Rattle.nbd_laws.specs.Reached.{IsReached};
-ghost use Rattle.nbd_state.specs.Shows.{AreKnown, Shows, export_shown_if, phase_shown};
 
 use crate::asked::Exchange;
 use crate::options::{is_proper_option, last_info, takes_contexts};

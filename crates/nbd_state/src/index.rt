@@ -1,7 +1,6 @@
 //! An index of spans by their offsets, and of the pieces of a reply.
 
-ghost use Rattle.std.specs.Prelude.{◌≡◌, ◌⊎◌, ◌↔◌, ◌+◌, ◌++◌, ◌∷◌, ◌<◌, ◌≤◌, ◌^◌, ℕ, [], None, Some, false, IfOk, IsTrue, MatchBool};
-ghost use Rattle.std.specs.BTreeMap.{btree_map_len};
+ghost use Rattle.std.specs.{Prelude.{◌≡◌, ◌⊎◌, ◌↔◌, ◌+◌, ◌++◌, ◌∷◌, ◌<◌, ◌≤◌, ◌^◌, ℕ, [], None, Some, false, IfOk, IsTrue, MatchBool}, BTreeMap.btree_map_len};
 ghost use Rattle.nbd_state.specs.Indexes.{Covers, HasMore, Indexes, IsBare, IsFree, IsHeldFrom, Meets, size_from};
 ghost use Rattle.nbd_wire.specs.Prelude.{is_in};
 

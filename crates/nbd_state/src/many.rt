@@ -1,9 +1,7 @@
 //! The pieces of a reply of several messages.
 
-ghost use Rattle.std.specs.Prelude.{◌≡◌, ◌==◌, ◌&&◌, ◌++◌, ◌∷◌, ℕ, [], false, not, true, IfOk, OnOk, if◌then◌else◌, is_some};
-ghost use Rattle.std.specs.Option.{option_copied};
-ghost use Rattle.nbd_state.specs.Filters.{is_settled_by};
-ghost use Rattle.nbd_state.specs.Indexes.{Indexes};
+ghost use Rattle.std.specs.{Prelude.{◌≡◌, ◌==◌, ◌&&◌, ◌++◌, ◌∷◌, ℕ, [], false, not, true, IfOk, OnOk, if◌then◌else◌, is_some}, Option.option_copied};
+ghost use Rattle.nbd_state.specs.{Filters.is_settled_by, Indexes.Indexes};
 ghost use Rattle.nbd_wire.specs.Prelude.{chunk_piece};
 
 use crate::asking::Telling;

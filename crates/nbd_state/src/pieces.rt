@@ -1,9 +1,7 @@
 //! The pieces that a request was answered, and what stands beside them.
 
 ghost use Rattle.std.specs.Prelude.{◌≡◌, ◌==◌, ◌&&◌, ◌++◌, ◌∷◌, ℕ, [], false, not, true, IfOk, IfSome, MatchOption, OnOk, if◌then◌else◌, is_some};
-ghost use Rattle.nbd_state.specs.Filters.{is_settled_by};
-ghost use Rattle.nbd_state.specs.Indexes.{Indexes};
-ghost use Rattle.nbd_state.specs.internal.Keeping.{nothing_told, pieces_kept};
+ghost use Rattle.nbd_state.specs.{Filters.is_settled_by, Indexes.Indexes, internal.Keeping.{nothing_told, pieces_kept}};
 ghost use Rattle.nbd_wire.specs.Prelude.{chunk_piece};
 
 use crate::asking::Telling;
@@ -31,8 +29,7 @@ enum Kept {
 }
 
 impl Model for Pieces {
-    ghost use Rattle.nbd_state.specs.Pieces.{PiecesView};
-    ghost use Rattle.nbd_state.specs.internal.Keeping.{pieces_kept};
+    ghost use Rattle.nbd_state.specs.{Pieces.PiecesView, internal.Keeping.pieces_kept};
 
     ghost Value = { PiecesView };
 

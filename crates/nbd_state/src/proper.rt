@@ -2,13 +2,9 @@
 //! "Transmission flags").
 
 ghost use Rattle.std.specs.Prelude.{◌≡◌, ◌<◌, ◌+◌, ◌==◌, ◌&&◌, ◌||◌, ℕ, List, Option, false, length, not, nat_le};
-ghost use Rattle.nbd_wire.specs.declared.message.Message.{Message};
-ghost use Rattle.nbd_wire.specs.declared.sizes.Sizes.{Sizes};
-ghost use Rattle.nbd_wire.specs.Prelude.{Context, Filter, Operation};
+ghost use Rattle.nbd_wire.specs.{declared.{message.Message.Message, sizes.Sizes.Sizes}, Prelude.{Context, Filter, Operation}};
 ghost use Rattle.nbd_wire.specs.protocol.Operations as operations;
-ghost use Rattle.nbd_state.specs.Filters.{Asks};
-ghost use Rattle.nbd_state.specs.Showing.{exporting};
-ghost use Rattle.nbd_state.specs.internal.Showing.{operation_of_head};
+ghost use Rattle.nbd_state.specs.{Filters.Asks, Showing.exporting, internal.operation_of_head};
 
 use crate::asking::Asking;
 use crate::state::Export;

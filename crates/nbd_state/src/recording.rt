@@ -1,19 +1,10 @@
 //! What the messages of transmission do to a request under way.
 
-ghost use Rattle.std.specs.Prelude.{◌≡◌, ◌<◌, ◌+◌, ◌^◌, ◌==◌, true, ◌++◌, ◌∷◌, ℕ, List, false, not, IfErr, IfOk, OnErr, [], if◌then◌else◌, is_some, length};
-ghost use Rattle.nbd_wire.specs.declared.message.Message.{Message};
-ghost use Rattle.nbd_wire.specs.declared.message.Message.TheVariants.{Simple};
-ghost use Rattle.nbd_wire.specs.Prelude.{Context, Filter, Status, Operation, Exporting, ends_reply, is_error_chunk, is_failing, is_finished, chunk_piece, extents_of, is_allocation, status_in, noted};
+ghost use Rattle.std.specs.Prelude.{◌≡◌, ◌<◌, ◌+◌, ◌^◌, ◌==◌, true, ◌++◌, ◌∷◌, ℕ, List, false, not, IfErr, IfOk, OnErr, [], if◌then◌else◌, is_some, length, ◌&&◌, None, OnOk, Option, IsTrue, vec_capacity, vec_len};
+ghost use Rattle.nbd_wire.specs.{declared.message.Message.{Message, TheVariants.Simple}, Prelude.{Context, Filter, Status, Operation, Exporting, ends_reply, is_error_chunk, is_failing, is_finished, chunk_piece, extents_of, is_allocation, status_in, noted}};
 ghost use Rattle.nbd_wire.specs.protocol.Payloads as payloads;
 ghost use Rattle.nbd_wire.specs.protocol.Pieces as pieces;
-ghost use Rattle.nbd_state.specs.internal.Completing.{is_allocation_told};
-ghost use Rattle.nbd_state.specs.declared.asked.Outcome.TheVariants.{Failure, Success};
-ghost use Rattle.nbd_state.specs.Filters.{Asks};
-ghost use Rattle.nbd_state.specs.Heads.{chunk_of};
-ghost use Rattle.nbd_state.specs.internal.Showing.{carried, operation_of_head};
-ghost use Rattle.nbd_state.specs.Showing.{IsShown, exporting};
-ghost use Rattle.nbd_state.specs.internal.Noting.{HasTaken};
-ghost use Rattle.std.specs.Prelude.{◌&&◌, None, OnOk, Option, IsTrue, vec_capacity, vec_len};
+ghost use Rattle.nbd_state.specs.{internal.{is_allocation_told, carried, operation_of_head, HasTaken}, declared.asked.Outcome.TheVariants.{Failure, Success}, Filters.Asks, Heads.chunk_of, Showing.{IsShown, exporting}};
 
 use crate::asked::{Asked, Exchange, Outcome};
 use crate::asking::Asking;

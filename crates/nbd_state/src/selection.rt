@@ -1,16 +1,10 @@
 //! What SET_META_CONTEXT selects (proto.md, "Option types", "Metadata querying").
 
-ghost use Rattle.std.specs.Prelude.{ℕ, ◌≡◌, ◌==◌, [], List, Bool, MatchOption, false, OnOk, length};
-ghost use Rattle.std.specs.BTreeSet.{contains};
-ghost use Rattle.std.specs.Ordering.{nat_cmp};
+ghost use Rattle.std.specs.{Prelude.{ℕ, ◌≡◌, ◌==◌, [], List, Bool, MatchOption, false, OnOk, length}, BTreeSet.contains, Ordering.nat_cmp};
 ghost use Rattle.nbd_wire.specs.protocol.Contexts as contexts;
-ghost use Rattle.nbd_wire.specs.protocol.Contexts.{no_selection};
-ghost use Rattle.nbd_wire.specs.Prelude.{has_id, agrees, selection_after, selection_at, context_of, are_settled, is_allocation};
-ghost use Rattle.nbd_wire.specs.protocol.Options.{selection_told, with_context};
+ghost use Rattle.nbd_wire.specs.Prelude.{no_selection, has_id, agrees, selection_after, selection_at, context_of, are_settled, is_allocation, selection_told, with_context};
 ghost use Rattle.nbd_wire.specs.protocol.States as definitions;
-ghost use Rattle.nbd_state.specs.Filters.{is_settled_by};
-ghost use Rattle.nbd_state.specs.declared.asking.Telling.{Telling};
-ghost use Rattle.nbd_state.specs.Shows.{HasSelection, TellsThese, phase_shown};
+ghost use Rattle.nbd_state.specs.{Filters.is_settled_by, declared.asking.Telling.Telling, Shows.{HasSelection, TellsThese, phase_shown}};
 
 use crate::asking::Telling;
 use crate::state::{Chosen, Phase};

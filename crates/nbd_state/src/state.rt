@@ -76,9 +76,8 @@ pub struct State {
 impl State {
     ghost use Rattle.nbd_wire.specs.Prelude.{Core, in_force, start, start_of, has_id, are_settled, is_allocation};
     ghost use Rattle.std.specs.Prelude.{ℕ, Bool, ◌≡◌, ◌==◌, length, not};
-    ghost use Rattle.nbd_state.specs.Shows.{Shows, TellsThese};
+    ghost use Rattle.nbd_state.specs.{Shows.{Shows, TellsThese}, Transcripts.{export_of, transcript_report}};
     ghost use Rattle.nbd_laws.specs.Soundness.{IsSoundReport};
-    ghost use Rattle.nbd_state.specs.Transcripts.{export_of, transcript_report};
 
     /// Before the first message of a session that is held to the profile `Base` (proto.md, "Newstyle
     /// negotiation"); takes no memory.

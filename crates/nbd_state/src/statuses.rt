@@ -2,8 +2,7 @@
 
 ghost use Rattle.std.specs.Prelude.{◌≡◌, ◌<◌, ◌+◌, ◌^◌, ◌==◌, ◌&&◌, not, true, ◌++◌, ◌∷◌, ℕ, false, IfErr, IfOk, MatchOption, [], if◌then◌else◌, is_some};
 ghost use Rattle.nbd_wire.specs.declared.commands.TheConstants as commands;
-ghost use Rattle.nbd_wire.specs.Prelude.{extents_of, status_in, zeroes_in, has, status_kind};
-ghost use Rattle.nbd_wire.specs.declared.payloads.Piece.TheVariants.{Hole};
+ghost use Rattle.nbd_wire.specs.{Prelude.{extents_of, status_in, zeroes_in, has, status_kind}, declared.payloads.Piece.TheVariants.Hole};
 ghost use Rattle.nbd_wire.specs.declared.states.TheConstants as states;
 ghost use Rattle.nbd_state.specs.Heads.{chunk_of};
 

@@ -1,7 +1,6 @@
 //! What a finished session says of its requests.
 
-ghost use Rattle.std.specs.Prelude.{◌≡◌, length};
-ghost use Rattle.std.specs.Option.{option_copied};
+ghost use Rattle.std.specs.{Prelude.{◌≡◌, length}, Option.option_copied};
 ghost use Rattle.nbd_wire.specs.Prelude.{asked_at};
 ghost use Rattle.nbd_laws.specs.Soundness.{IsSoundReport};
 ghost use Rattle.nbd_state.specs.Transcripts.{size_and_flags, report_of_request_if};

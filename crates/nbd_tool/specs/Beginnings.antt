@@ -1,11 +1,6 @@
 -- What of an image is kept.
 use Rattle.std.specs.Prelude.{ℕ, List, ◌≡◌, ◌<◌, Option, IfSome, Result, Ok, Err, length}
-use Rattle.nbd_wire.specs.Prelude.{Start, image, Report}
-use Rattle.nbd_session.specs.declared.fault.SessionFault.{SessionFault}
-use Rattle.nbd_judge.specs.Beginnings.{initial_of}
-use Rattle.nbd_judge.specs.Servable.{size_of}
-use Rattle.nbd_tool.specs.declared.beginning.Beginning.{Beginning}
-use Rattle.nbd_tool.specs.declared.beginning.Beginning.TheVariants.{Longer, Whole}
+use Rattle.nbd_tool.specs.{Common.{Start, image, Report, SessionFault, initial_of, size_of}, declared.beginning.Beginning.{Beginning, TheVariants.{Longer, Whole}}}
 
 -- how many bytes of an image a verdict needs: as many as the export has, none where there is no export or no report
 abbrev pub room_in : Result Report SessionFault → ℕ

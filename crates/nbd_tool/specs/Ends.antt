@@ -1,27 +1,14 @@
 -- How a session that is shown stands at its end, and the last line.
-use Rattle.std.specs.Prelude.{◌≡◌, ℕ, List, [], ◌++◌, Bool, true, false, Option, Some, None, IfSome, Result, IfOk, IfErr, codes}
-use Rattle.std.specs.Io.KnownBytes.{Keeps}
-use Rattle.nbd_wire.specs.declared.profile.Profile.{Profile}
-use Rattle.nbd_wire.specs.Prelude.{Pair, Report}
-use Rattle.nbd_capture.specs.Capture.{Chunk, IsCaptureText}
-use Rattle.nbd_capture.specs.Writing.{AppendsPrefix}
-use Rattle.nbd_session.specs.declared.fault.SessionFault.{SessionFault}
+use Rattle.std.specs.{Prelude.{◌≡◌, ℕ, List, [], ◌++◌, Bool, true, false, Option, Some, None, IfSome, Result, IfOk, IfErr, codes}, Io.KnownBytes.Keeps}
+use Rattle.nbd_tool.specs.{Common.{Profile, Wire, Pair, Report, Chunk, IsCaptureText, AppendsPrefix, SessionFault, EndsIn, Refuses, IsReported, SessionView, bytes_taken, fault_at_end, fault_of, pairs_of, RunFault, Write, Memory}, Runs.flat_of, Verdicts.line}
 use Rattle.nbd_session.specs.declared.fault.SessionFault.TheVariants as session
-use Rattle.nbd_session.specs.Refusals.{EndsIn, Refuses}
-use Rattle.nbd_session.specs.Sessions.{IsReported, SessionView, bytes_taken, fault_at_end, fault_of, pairs_of}
-use Rattle.nbd_wire.specs.declared.verdict.Verdict.TheVariants.{Wire}
-use Rattle.nbd_files.specs.declared.fault.RunFault.{RunFault}
-use Rattle.nbd_files.specs.declared.fault.RunFault.TheVariants.{Write, Memory}
-use Rattle.nbd_tool.specs.Runs.{flat_of}
-use Rattle.nbd_tool.specs.Verdicts.{line}
 
 -- a fault of the wire at this byte
 abbrev pub IsWireAt : ℕ → SessionFault → Type 0
 IsWireAt n (session.Wire at fault) = at ≡ n
 IsWireAt n session.Memory = ⊥
 
--- a session that is held to the profile took all of a capture's bytes, or was closed by a wire fault at the last one
--- that it took
+-- a session held to the profile took all of a capture's bytes, or was closed by a wire fault at the last that it took
 pub record IsOver (profile : Profile) (capture : List Pair) (r : SessionView) : Type 0 where
   pub profile_is : r.profile ≡ profile
   pub left : List Pair

@@ -1,6 +1,6 @@
 pub mod Beginnings
+pub mod Common
 pub mod Ends
 pub mod Runs
-pub mod Uniqueness
 pub mod Verdicts
 pub mod internal

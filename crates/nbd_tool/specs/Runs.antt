@@ -1,20 +1,6 @@
 -- What a run of `check` says of its inputs and leaves written, where the readers and the writer state their bytes.
-use Rattle.std.specs.Prelude.{◌≡◌, ◌↔◌, ℕ, List, ◌++◌, Option, Some, IfSome, IsTrue, Bool, codes, map}
-use Rattle.nbd_wire.specs.declared.entry.Entry.{Entry}
-use Rattle.nbd_wire.specs.declared.profile.Profile.{Profile}
-use Rattle.nbd_wire.specs.Prelude.{IsExplainedOf, Start, Pair, flat}
-use Rattle.std.specs.Io.KnownBytes.{Appends, Keeps}
-use Rattle.nbd_capture.specs.Capture.{Chunk, IsCaptureText, IsFirstBadCaptureLine}
-use Rattle.nbd_capture.specs.Contents.{IsFirstBadContentsLine}
-use Rattle.nbd_capture.specs.Order.{IsOrderText, IsFirstBadOrderLine}
-use Rattle.nbd_files.specs.declared.fault.RunFault.{RunFault}
-use Rattle.nbd_files.specs.declared.fault.RunFault.TheVariants.{CaptureLine, CaptureRead, ContentsLine, ContentsRead, OrderLine, OrderRead, Write, Memory}
-use Rattle.nbd_wire.specs.declared.verdict.Verdict.{Verdict}
-use Rattle.nbd_judge.specs.Captures.{IsChecked}
-use Rattle.nbd_capture.specs.Writing.{AppendsPrefix}
-use Rattle.nbd_files.specs.declared.start.StartFrom.{StartFrom}
-use Rattle.nbd_files.specs.Starts.{IsStartCause}
-use Rattle.nbd_tool.specs.Verdicts.{IsYes, line}
+use Rattle.std.specs.{Prelude.{◌≡◌, ◌↔◌, ℕ, List, ◌++◌, Option, Some, IfSome, IsTrue, Bool, codes, map}, Io.KnownBytes.{Appends, Keeps}}
+use Rattle.nbd_tool.specs.{Common.{Entry, Profile, Verdict, IsExplainedOf, Start, Pair, flat, Chunk, IsCaptureText, IsFirstBadCaptureLine, IsFirstBadContentsLine, IsOrderText, IsFirstBadOrderLine, AppendsPrefix, RunFault, CaptureLine, CaptureRead, ContentsLine, ContentsRead, OrderLine, OrderRead, Write, Memory, StartFrom, IsStartCause, IsChecked}, Verdicts.{IsYes, line}}
 
 -- known bytes are a capture text
 abbrev pub IsCapture : Option (List ℕ) → Type 0
@@ -72,8 +58,7 @@ AnswersExactly profile (Some text) (Some order_text) (Some initial) says =
     × (IsTrue says ↔ IsExplainedOf profile (flat_of chunks) entries initial)
 AnswersExactly profile capture order initial says = Unit {0}
 
--- what a fault says of the known bytes of the capture and of the order, and of the start: the capture is judged first,
--- then the order, then the start
+-- what a fault says of the capture's and the order's known bytes and of the start, which are judged in this order
 abbrev pub IsCause : {I : Type 0} → (I → Option (List ℕ)) → (capture order : Option (List ℕ)) → StartFrom I → RunFault
     → Type 0
 IsCause remaining capture order start (CaptureLine n) = IfSome capture (λ text. IsFirstBadCaptureLine text n)
@@ -92,8 +77,7 @@ pub record TellsPrefix (profile : Profile) (capture order : Option (List ℕ)) (
   pub is_verdict : IsVerdictOn profile capture order initial verdict
   pub appended : AppendsPrefix old new (line verdict)
 
--- what stands written after a fault: a prefix of the line of a verdict of the profile where the writer failed, else
--- nothing
+-- what stands written after a fault: a prefix of a verdict's line of the profile where the writer failed, else nothing
 abbrev pub LeavesWritten : Profile → (capture order : Option (List ℕ)) → Option Start → (old new : Option (List ℕ))
     → RunFault → Type 0
 LeavesWritten profile capture order initial old new Write = TellsPrefix profile capture order initial old new
@@ -111,3 +95,9 @@ SaysYes profile (Some text) (Some order_text) (Some initial) (Some old) (Some ne
     (chunks : List Chunk) × (entries : List Entry) × IsCaptureText text chunks × IsOrderText order_text entries
     × IsExplainedOf profile (flat_of chunks) entries initial
 SaysYes profile capture order initial old new = Unit {0}
+
+-- in a profile a capture text, an order text and a start have one verdict at most, and so one line
+abbrev pub OneLine : Type 0
+OneLine = (profile : Profile) (text order_text : List ℕ) (initial : Start) (v w : Verdict) →
+    IsVerdictOn profile (Some text) (Some order_text) (Some initial) v
+    → IsVerdictOn profile (Some text) (Some order_text) (Some initial) w → v ≡ w

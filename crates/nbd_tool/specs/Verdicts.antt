@@ -1,12 +1,6 @@
 -- The line that states a verdict.
-use Rattle.std.specs.Prelude.{ℕ, List, ◌++◌, codes}
-use Rattle.std.specs.Fmt.{decimal}
-use Rattle.nbd_wire.specs.declared.verdict.Verdict.{Verdict}
-use Rattle.nbd_wire.specs.declared.verdict.Verdict.TheVariants.{Yes, Wire, Image, Order, Content, Status}
-use Rattle.nbd_wire.specs.declared.verdict.OrderFault.{OrderFault}
-use Rattle.nbd_wire.specs.declared.verdict.OrderFault.TheVariants.{NoSuchRequest, Twice, Late, Missing, BadPart, NotCovered}
-use Rattle.nbd_wire.specs.declared.fault.WireFault.{WireFault}
-use Rattle.nbd_wire.specs.declared.fault.WireFault.TheVariants.{BadMagic, NotFixedNewstyle, BadClientFlags, OutOfTurn, WrongOption, BadReplyKind, OutOfProfile, BadReplyPayload, MissingExportInfo, BadExport, ExportTooLarge, CookieInUse, UnknownCookie, SimpleForbidden, ChunkForbidden, BadChunk, BadContent, IncompleteRead, SuccessOfImproper, BadDisconnect, Unfinished, IncompleteStatus, BadReplyOffset}
+use Rattle.std.specs.{Prelude.{ℕ, List, ◌++◌, codes}, Fmt.decimal}
+use Rattle.nbd_tool.specs.Common.{Verdict, Yes, Wire, Image, Order, Content, Status, OrderFault, NoSuchRequest, Twice, Late, Missing, BadPart, NotCovered, WireFault, BadMagic, NotFixedNewstyle, BadClientFlags, OutOfTurn, WrongOption, BadReplyKind, OutOfProfile, BadReplyPayload, MissingExportInfo, BadExport, ExportTooLarge, CookieInUse, UnknownCookie, SimpleForbidden, ChunkForbidden, BadChunk, BadContent, IncompleteRead, SuccessOfImproper, BadDisconnect, Unfinished, IncompleteStatus, BadReplyOffset}
 
 -- a verdict of yes, whatever its counts
 abbrev pub IsYes : Verdict → Type 0

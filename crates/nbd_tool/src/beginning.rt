@@ -1,15 +1,11 @@
 //! What is kept of what the export held when the session began.
 
 ghost use Rattle.std.specs.Prelude.{◌≡◌, ◌⊎◌, ◌<◌, ℕ, Option, IfErr, IfOk, IfSome, Ok, OnOk, length};
-ghost use Rattle.nbd_files.specs.declared.fault.RunFault.TheVariants.{ImageRead, Memory};
-ghost use Rattle.nbd_files.specs.declared.input.Text.TheVariants.{Longer};
+ghost use Rattle.nbd_files.specs.{declared.{fault.RunFault.TheVariants.{ImageRead, Memory}, input.Text.TheVariants.Longer}, Starts.{IsContents, IsStartCause, IsStartWellFormed, IsStartText, IsWithinLimit, OfStart, image_of}, Texts.IsText};
 ghost use Rattle.nbd_wire.specs.protocol.Explains as definitions;
-ghost use Rattle.nbd_tool.specs.Beginnings.{IsBeginningOf, room_in};
-ghost use Rattle.nbd_files.specs.Starts.{IsContents, IsStartCause, IsStartWellFormed, IsStartText, IsWithinLimit, OfStart, image_of};
-ghost use Rattle.nbd_files.specs.Texts.{IsText};
+ghost use Rattle.nbd_tool.specs.{Beginnings.{IsBeginningOf, room_in}, Runs.IsContentsCause};
 ghost use Rattle.nbd_capture.specs.Contents.{IsContentsText};
 ghost use Rattle.nbd_export.specs.Held.{Held, held};
-ghost use Rattle.nbd_tool.specs.Runs.{IsContentsCause};
 
 use nbd_capture::parse_contents;
 use nbd_export::{Extents, Start};

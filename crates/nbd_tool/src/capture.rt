@@ -1,14 +1,10 @@
 //! A session over a capture that is read chunk by chunk.
 
 ghost use Rattle.std.specs.Prelude.{◌≡◌, ◌+◌, ◌<◌, ◌^◌, ◌++◌, [], List, IfErr, IfOk, OnOk, length};
-ghost use Rattle.nbd_wire.specs.declared.profile.Profile.{Profile};
-ghost use Rattle.nbd_wire.specs.Prelude.{Pair, side_pairs};
+ghost use Rattle.nbd_wire.specs.{declared.profile.Profile.Profile, Prelude.{Pair, side_pairs}};
 ghost use Rattle.nbd_capture.specs.Reading.{at_start};
-ghost use Rattle.nbd_files.specs.declared.input.TheConstants.{READ_LIMIT};
-ghost use Rattle.nbd_tool.specs.Runs.{IsCaptureCause};
-ghost use Rattle.nbd_files.specs.Starts.{IsWithinLimit};
-ghost use Rattle.nbd_tool.specs.Ends.{IsFinishOf, IsOverText};
-ghost use Rattle.nbd_tool.specs.internal.Intakes.{IsOverChunks};
+ghost use Rattle.nbd_files.specs.{declared.input.TheConstants.READ_LIMIT, Starts.IsWithinLimit};
+ghost use Rattle.nbd_tool.specs.{Runs.IsCaptureCause, Ends.{IsFinishOf, IsOverText}, internal.IsOverChunks};
 
 use crate::intake::Intake;
 use nbd_capture::CaptureReader;

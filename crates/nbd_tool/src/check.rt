@@ -1,12 +1,9 @@
 //! The command `check`, over any readers and writer.
 ghost use Rattle.std.specs.Prelude.{◌≡◌, ◌≢◌, ◌⊎◌, ℕ, List, OnOk, IfErr, IfOk, IfSome, Option};
 ghost use Rattle.nbd_capture.specs.Order.{IsOrderText};
-ghost use Rattle.nbd_wire.specs.declared.entry.Entry.{Entry};
-ghost use Rattle.nbd_wire.specs.declared.profile.Profile.TheVariants.{Base};
-ghost use Rattle.nbd_tool.specs.Runs.{AnswersExactly, IsCapture, IsOrder, IsCause, IsOrderCause, LeavesWritten, SaysYes, Tells};
-ghost use Rattle.nbd_files.specs.declared.fault.RunFault.TheVariants.{Write};
-ghost use Rattle.nbd_tool.specs.internal.Outcomes.{IsConcluded};
-ghost use Rattle.nbd_files.specs.Starts.{IsStartCause, IsStartWellFormed, IsWithinLimit, OfStart};
+ghost use Rattle.nbd_wire.specs.declared.{entry.Entry.Entry, profile.Profile.TheVariants.Base};
+ghost use Rattle.nbd_tool.specs.{Runs.{AnswersExactly, IsCapture, IsOrder, IsCause, IsOrderCause, LeavesWritten, SaysYes, Tells}, internal.IsConcluded};
+ghost use Rattle.nbd_files.specs.{declared.fault.RunFault.TheVariants.Write, Starts.{IsStartCause, IsStartWellFormed, IsWithinLimit, OfStart}};
 
 use crate::beginning::{read_start, room_of};
 use crate::capture::transcript_over;

@@ -1,9 +1,8 @@
 //! The verdict where an image that does not fit was not kept.
 
 ghost use Rattle.std.specs.Prelude.{◌≡◌, ◌<◌, ℕ, List, IfOk, length};
-ghost use Rattle.nbd_wire.specs.declared.profile.Profile.{Profile};
+ghost use Rattle.nbd_wire.specs.{declared.profile.Profile.Profile, Prelude.{Item, pairs, IsRunOf}};
 ghost use Rattle.nbd_wire.specs.protocol.Explains as definitions;
-ghost use Rattle.nbd_wire.specs.Prelude.{Item, pairs, IsRunOf};
 ghost use Rattle.nbd_judge.specs.Conclusions.{Answers, IsConclusion, IsReportOf};
 ghost use Rattle.nbd_tool.specs.Beginnings.{IsReadAs, room_in};
 

@@ -2,10 +2,8 @@
 
 ghost use Rattle.std.specs.Prelude.{◌≡◌, ◌+◌, ◌++◌, ◌<◌, ◌^◌, Err, List, OnOk, length};
 ghost use Rattle.nbd_session.specs.declared.fault.SessionFault.TheVariants.{Memory};
-ghost use Rattle.nbd_tool.specs.Ends.{IsOver};
-ghost use Rattle.nbd_tool.specs.internal.Intakes.{IsFollowing};
-ghost use Rattle.nbd_wire.specs.declared.profile.Profile.{Profile};
-ghost use Rattle.nbd_wire.specs.Prelude.{Pair, side_pairs};
+ghost use Rattle.nbd_tool.specs.{Ends.IsOver, internal.IsFollowing};
+ghost use Rattle.nbd_wire.specs.{declared.profile.Profile.Profile, Prelude.{Pair, side_pairs}};
 
 use nbd_session::{Monitor, Session, SessionFault};
 use nbd_wire::{Message, Side};

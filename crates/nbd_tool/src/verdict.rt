@@ -1,9 +1,7 @@
 //! The line that states a verdict.
-ghost use Rattle.std.specs.Prelude.{◌≡◌, ◌↔◌, ◌⊎◌, IfErr, IfOk, IsTrue, OnOk};
-ghost use Rattle.std.specs.Io.KnownBytes.{Appends, Keeps};
+ghost use Rattle.std.specs.{Prelude.{◌≡◌, ◌↔◌, ◌⊎◌, IfErr, IfOk, IsTrue, OnOk}, Io.KnownBytes.{Appends, Keeps}};
 ghost use Rattle.nbd_capture.specs.Writing.{AppendsPrefix};
-ghost use Rattle.nbd_tool.specs.Verdicts.{IsYes, fault_name, line, order_fault_name, words};
-ghost use Rattle.nbd_tool.specs.internal.VerdictParts.{parts_words};
+ghost use Rattle.nbd_tool.specs.{Verdicts.{IsYes, fault_name, line, order_fault_name, words}, internal.parts_words};
 ghost use Rattle.nbd_files.specs.declared.fault.RunFault.TheVariants.{Memory, Write};
 
 use nbd_capture::write_whole;
@@ -132,7 +130,7 @@ fn parts_of(verdict: Verdict) -> Parts
 
 impl fmt::Display for Parts {
     ghost use Rattle.std.specs.Prelude.{Some};
-    ghost use Rattle.nbd_tool.specs.internal.VerdictParts.{parts_words};
+    ghost use Rattle.nbd_tool.specs.internal.{parts_words};
 
     ghost output = { λ parts. Some (parts_words parts) };
 
@@ -147,7 +145,7 @@ impl fmt::Display for Parts {
 
 impl fmt::Display for Rest {
     ghost use Rattle.std.specs.Prelude.{Some};
-    ghost use Rattle.nbd_tool.specs.internal.VerdictParts.{rest_words};
+    ghost use Rattle.nbd_tool.specs.internal.{rest_words};
 
     ghost output = { λ rest. Some (rest_words rest) };
 

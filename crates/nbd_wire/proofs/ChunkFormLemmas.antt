@@ -1,7 +1,6 @@
 -- `content_of` and `failure_of` give exactly what has the form of a chunk's payload.
 use Rattle.nbd_wire.proofs.Common.{◌≡◌, ℕ, ◌+◌, ◌<◌, ◌≤◌, ◌^◌, ◌==◌, List, [], ◌++◌, length, take, drop, Option, Some, None, true, false, not, nat_le, ◌&&◌, refl, sym, ◌∙◌, ap, arith, length-drop, length-append, subst, drop-append_seam, cond_both, cond-true, cond-false, eqb-true, eqb-false, ne_eqb, not-true, leb-true, le-leb, and_parts, take-append-drop, length-take-le, same_Some, none-some, big_bytes, big_number-reads_back, OFFSET_DATA, OFFSET_HOLE, ERROR_OFFSET, Piece, Bytes, Hole, Failure, AreBytes, HasContentForm, HasFailureForm, GoesOn, number_at, content_of, failure_of, Reads}
-use Rattle.nbd_wire.proofs.NumberLemmas.{AreBytes-drop, number_at-drop, number_at-lt}
-use Rattle.nbd_wire.proofs.HeadLemmas.{with_next, with_last}
+use Rattle.nbd_wire.proofs.{NumberLemmas.{AreBytes-drop, number_at-drop, number_at-lt}, HeadLemmas.{with_next, with_last}}
 
 above_zero : (n : ℕ) → (n ≡ 0 → ⊥) → 0 < n
 above_zero n h = omega arith

@@ -1,7 +1,6 @@
 -- What `content_of` and `failure_of` of the specification give, from what the readers saw.
 use Rattle.nbd_wire.proofs.Common.{◌≡◌, ℕ, ◌+◌, ◌<◌, ◌≤◌, List, length, drop, Option, Some, None, nat_le, sym, arith, subst, get_or, cond_both, cond-true, cond-false, eqb-true, eqb-false, eq-eqb, ne_eqb, not-true, leb-true, le-leb, lt-leb, and_parts, and_from, and_left, option_map, OFFSET_DATA, OFFSET_HOLE, ERROR, ERROR_OFFSET, Piece, Bytes, Hole, Failure, HasContentForm, HasFailureForm, number_at, content_of, failure_of, Reads, ReadsAs}
-use Rattle.nbd_wire.proofs.ChunkFormLemmas.{content_of-reads, failure_of-reads}
-use Rattle.nbd_wire.proofs.NumberLemmas.{AreBytes-from_places}
+use Rattle.nbd_wire.proofs.{ChunkFormLemmas.{content_of-reads, failure_of-reads}, NumberLemmas.AreBytes-from_places}
 
 pub data-short : (bytes : List ℕ) → length bytes ≤ 8 → None ≡ content_of OFFSET_DATA bytes
 unfolding content_of

@@ -1,7 +1,6 @@
 -- Numbers that stand in bytes one behind the other, each in its width.
-use Rattle.nbd_wire.proofs.Common.{◌≡◌, ℕ, ◌+◌, ◌<◌, ◌^◌, List, [], ◌∷◌, ◌++◌, length, drop, refl, sym, ◌∙◌, ap, subst, arith, length-drop, append-nil, drop_all, drop-drop, drop-append_seam, big_bytes, big_number, big_number-reads_back, length-bytes_high_first, AreBytes, number_at}
+use Rattle.nbd_wire.proofs.{Common.{◌≡◌, ℕ, ◌+◌, ◌<◌, ◌^◌, List, [], ◌∷◌, ◌++◌, length, drop, refl, sym, ◌∙◌, ap, subst, arith, length-drop, append-nil, drop_all, drop-drop, drop-append_seam, big_bytes, big_number, big_number-reads_back, length-bytes_high_first, AreBytes, number_at}, NumberLemmas.{with_number, number_at-lt}}
 use Rattle.std.proofs.lemmas.List.{append_assoc}
-use Rattle.nbd_wire.proofs.NumberLemmas.{with_number, number_at-lt}
 
 -- a width in bytes, and a number
 abbrev pub Field : Type 0

@@ -1,7 +1,6 @@
 -- A filter's payload: `filter_of` gives exactly what has the form.
 use Rattle.nbd_wire.proofs.Common.{◌≡◌, ℕ, zero, suc, ◌*◌, ◌/◌, ◌%◌, ◌<◌, ◌≤◌, ◌^◌, ◌||◌, List, [], ◌∷◌, ◌++◌, length, drop, not, Option, Some, None, Bool, nat_le, if◌then◌else◌, refl, sym, ◌∙◌, ap, arith, length-drop, subst, All, option_map, eqb-false, eqb-true, leb-false, leb-true, All-cons, All-head, All-nil, All-tail, none-some, same_Some, big_bytes, big_number-reads_back, AreBytes, Filter, HasFilterForm, with_ids, filter_of, ids_in, ids_of, number_at, ReadsAs}
-use Rattle.nbd_wire.proofs.HeadLemmas.{with_next}
-use Rattle.nbd_wire.proofs.NumberLemmas.{AreBytes-drop, number_at-lt}
+use Rattle.nbd_wire.proofs.{HeadLemmas.with_next, NumberLemmas.{AreBytes-drop, number_at-lt}}
 
 -- bytes that are too short hold no id, others the first and those behind it
 pub ids-none : (bytes : List ℕ) → length bytes < 4 → ids_of bytes ≡ []

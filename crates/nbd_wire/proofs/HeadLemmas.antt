@@ -1,7 +1,6 @@
 -- A head is known by its length, its first numbers and what stands at its places.
 use Rattle.nbd_wire.proofs.Common.{true, false, Some, None, ap, ◌∙◌, ◌≡◌, ℕ, ◌+◌, ◌≤◌, List, [], ◌∷◌, ◌++◌, length, drop, refl, sym, arith, length-drop, drop_all, big_bytes, GREETING_MAGIC, OPTION_MAGIC, ANSWER_MAGIC, REQUEST_MAGIC, SIMPLE_MAGIC, CHUNK_MAGIC, EXTENDED_REQUEST_MAGIC, EXTENDED_CHUNK_MAGIC, ChoiceHead, AnswerHead, RequestHead, SimpleHead, ChunkHead, AreBytes, IsGreetingHead, IsClientFlagsHead, IsChoiceHead, IsAnswerHead, IsExportHead, IsRequestHead, IsSimpleHead, IsChunkHead, IsExtendedRequestHead, IsExtendedChunkHead, number_at}
-use Rattle.nbd_wire.proofs.FieldsLemmas.{Field, found, only}
-use Rattle.nbd_wire.proofs.NumberLemmas.{with_number}
+use Rattle.nbd_wire.proofs.{FieldsLemmas.{Field, found, only}, NumberLemmas.with_number}
 
 -- the last number of a slice
 pub with_last : (p n : ℕ) (bytes : List ℕ) → AreBytes bytes → length bytes ≡ p + n → drop p bytes ≡ big_bytes n (number_at p n bytes) ++ []

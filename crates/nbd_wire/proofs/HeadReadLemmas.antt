@@ -1,7 +1,6 @@
 -- What the readers of heads answer, from what they read at the places.
 use Rattle.nbd_wire.proofs.Common.{arith, ◌≡◌, ℕ, List, Some, None, length, true, false, GREETING_MAGIC, OPTION_MAGIC, ANSWER_MAGIC, REQUEST_MAGIC, SIMPLE_MAGIC, CHUNK_MAGIC, EXTENDED_REQUEST_MAGIC, EXTENDED_CHUNK_MAGIC, AreBytes, IsGreetingHead, IsClientFlagsHead, IsChoiceHead, IsAnswerHead, IsExportHead, IsRequestHead, IsSimpleHead, IsChunkHead, IsExtendedRequestHead, IsExtendedChunkHead, number_at, Reads}
-use Rattle.nbd_wire.proofs.HeadLemmas.{greeting-found, greeting-only, client_flags-found, client_flags-only, choice-found, choice-only, answer-found, answer-only, export-found, export-only, request-found, request-only, simple-found, simple-only, chunk-found, chunk-only, extended_request-found, extended_request-only, extended_chunk-found, extended_chunk-only}
-use Rattle.nbd_wire.proofs.ReadLemmas.{Reads-none}
+use Rattle.nbd_wire.proofs.{HeadLemmas.{greeting-found, greeting-only, client_flags-found, client_flags-only, choice-found, choice-only, answer-found, answer-only, export-found, export-only, request-found, request-only, simple-found, simple-only, chunk-found, chunk-only, extended_request-found, extended_request-only, extended_chunk-found, extended_chunk-only}, ReadLemmas.Reads-none}
 
 -- a greeting
 pub greeting-reads : (flags : ℕ) (bytes : List ℕ) → AreBytes bytes → length bytes ≡ 18 → number_at 0 8 bytes ≡ GREETING_MAGIC → number_at 8 8 bytes ≡ OPTION_MAGIC → flags ≡ number_at 16 2 bytes → Reads (Some flags) (λ flags. IsGreetingHead flags bytes)

@@ -1,6 +1,5 @@
 -- `info_of` gives exactly what has the form of an INFO payload.
-use Rattle.nbd_wire.proofs.Common.{◌≡◌, ◌≢◌, ℕ, ◌≤◌, List, [], ◌++◌, length, drop, Some, nat_le, refl, ◌∙◌, ap, arith, cond_both, cond-false, eqb-true, eqb-false, ne_eqb, not-false, leb-true, le-leb, same_Some, none-some, big_bytes, big_number-reads_back, EXPORT, BLOCK_SIZE, Info, Export, BlockSize, Other, AreBytes, HasInfoForm, number_at, info_of, Reads}
-use Rattle.nbd_wire.proofs.NumberLemmas.{number_at-lt}
+use Rattle.nbd_wire.proofs.{Common.{◌≡◌, ◌≢◌, ℕ, ◌≤◌, List, [], ◌++◌, length, drop, Some, nat_le, refl, ◌∙◌, ap, arith, cond_both, cond-false, eqb-true, eqb-false, ne_eqb, not-false, leb-true, le-leb, same_Some, none-some, big_bytes, big_number-reads_back, EXPORT, BLOCK_SIZE, Info, Export, BlockSize, Other, AreBytes, HasInfoForm, number_at, info_of, Reads}, NumberLemmas.number_at-lt}
 use Rattle.nbd_wire.proofs.HeadLemmas.{with_known, with_next, with_last}
 
 export-found : (bytes : List ℕ) → AreBytes bytes → number_at 0 2 bytes ≡ EXPORT → length bytes ≡ 12 → HasInfoForm (Export (number_at 2 8 bytes) (number_at 10 2 bytes)) bytes

@@ -1,7 +1,5 @@
 -- What `info_of` of the specification gives, from what the reader saw.
-use Rattle.nbd_wire.proofs.Common.{arith, ◌≡◌, ℕ, ◌<◌, ◌≤◌, List, length, Option, Some, None, false, not, nat_le, sym, ap, subst, get_or, cond-true, cond-false, eq-eqb, ne_eqb, le-leb, lt-leb, EXPORT, BLOCK_SIZE, Info, Export, BlockSize, Other, HasInfoForm, number_at, info_of, Reads}
-use Rattle.nbd_wire.proofs.InfoFormLemmas.{info_of-reads}
-use Rattle.nbd_wire.proofs.NumberLemmas.{AreBytes-from_places}
+use Rattle.nbd_wire.proofs.{Common.{arith, ◌≡◌, ℕ, ◌<◌, ◌≤◌, List, length, Option, Some, None, false, not, nat_le, sym, ap, subst, get_or, cond-true, cond-false, eq-eqb, ne_eqb, le-leb, lt-leb, EXPORT, BLOCK_SIZE, Info, Export, BlockSize, Other, HasInfoForm, number_at, info_of, Reads}, InfoFormLemmas.info_of-reads, NumberLemmas.AreBytes-from_places}
 
 pub info-short : (bytes : List ℕ) → length bytes < 2 → None ≡ info_of bytes
 unfolding info_of

@@ -1,7 +1,6 @@
 -- What stands after a length of four bytes, and `is_listed` and `is_go`, which test for it.
 use Rattle.nbd_wire.proofs.Common.{◌≡◌, ℕ, ◌+◌, ◌*◌, ◌≤◌, ◌==◌, List, ◌++◌, length, take, drop, Bool, true, nat_le, IsTrue, refl, sym, ◌∙◌, ap, arith, length-drop, length-append, append_assoc, ◌↔◌, take-append_seam, drop-append_seam, eqb-true, eq-eqb, leb-true, le-leb, and_parts, and_from, take-append-drop, length-take-le, big_bytes, AreBytes, HasListedForm, HasGoForm, number_at, is_listed, is_go}
-use Rattle.nbd_wire.proofs.NumberLemmas.{AreBytes-drop, number_at-drop, number_at-lt}
-use Rattle.nbd_wire.proofs.HeadLemmas.{with_next}
+use Rattle.nbd_wire.proofs.{NumberLemmas.{AreBytes-drop, number_at-drop, number_at-lt}, HeadLemmas.with_next}
 
 -- a length that is not too large counts out a name and leaves a rest
 pub listed-found : (bytes : List ℕ) → AreBytes bytes → 4 + number_at 0 4 bytes ≤ length bytes → HasListedForm (take (number_at 0 4 bytes) (drop 4 bytes)) (drop (number_at 0 4 bytes) (drop 4 bytes)) bytes

@@ -1,8 +1,6 @@
 -- What the readers of names answer.
 use Rattle.nbd_wire.proofs.Common.{◌≡◌, ℕ, ◌+◌, ◌-◌, ◌*◌, ◌<◌, ◌≤◌, List, length, take, drop, Option, Some, None, Bool, false, IsTrue, nat_le, refl, sym, arith, length-drop, is_some, IsSplitAt, MatchOption, false_from_ne_true, and_left, lt-leb, none-some, take_all, AreBytes, HasListedForm, HasGoForm, number_at, is_listed, is_go, Reads, ReadsAs}
-use Rattle.nbd_wire.proofs.ListedFormLemmas.{Counted, listed-found, listed-only, counted-one, is_listed-exact, is_go-exact, go-found, go-only}
-use Rattle.nbd_wire.proofs.NumberLemmas.{AreBytes-drop}
-use Rattle.nbd_wire.proofs.ReadLemmas.{Reads-none}
+use Rattle.nbd_wire.proofs.{ListedFormLemmas.{Counted, listed-found, listed-only, counted-one, is_listed-exact, is_go-exact, go-found, go-only}, NumberLemmas.AreBytes-drop, ReadLemmas.Reads-none}
 
 pub same_pair : {A B : Type 0} (a x : A) (b y : B) → a ≡ x → b ≡ y → ◌≡◌ {A = A × B} (a, b) (x, y)
 same_pair a x b y e f = cc

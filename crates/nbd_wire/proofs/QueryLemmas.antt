@@ -1,9 +1,6 @@
 -- The data of LIST_META_CONTEXT and SET_META_CONTEXT: `queries_of` gives exactly what has the form.
 use Rattle.nbd_wire.proofs.Common.{◌≡◌, ℕ, zero, suc, ◌-◌, ◌<◌, ◌≤◌, ◌^◌, ◌==◌, ◌&&◌, List, [], ◌∷◌, ◌++◌, length, take, drop, Option, Some, None, Bool, true, false, nat_le, if◌then◌else◌, refl, sym, ◌∙◌, ap, arith, append_assoc, subst, All, IfSome, option_map, and_parts, eqb-true, le-leb, leb-false, leb-true, lt-leb, All-cons, All-head, All-nil, All-tail, none-some, same_Some, big_bytes, big_number-reads_back, AreBytes, Context, HasContextForm, HasListedForm, HasQueriesForm, with_lengths, are_queries, behind_name, context_of, is_listed, name_in, number_at, queries_of, ReadsAs}
-use Rattle.nbd_wire.proofs.HeadLemmas.{with_next}
-use Rattle.nbd_wire.proofs.ListedFormLemmas.{Counted, is_listed-exact, listed-only}
-use Rattle.nbd_wire.proofs.ListedReadLemmas.{same_pair}
-use Rattle.nbd_wire.proofs.NumberLemmas.{AreBytes-drop, number_at-lt}
+use Rattle.nbd_wire.proofs.{HeadLemmas.with_next, ListedFormLemmas.{Counted, is_listed-exact, listed-only}, ListedReadLemmas.same_pair, NumberLemmas.{AreBytes-drop, number_at-lt}}
 
 -- what stands behind the name that was counted out
 pub behind : (name rest bytes : List ℕ) → HasListedForm name rest bytes → behind_name bytes ≡ rest

@@ -1,8 +1,6 @@
 -- The numbers of two bytes that GO names.
-use Rattle.nbd_wire.proofs.Common.{◌≡◌, ℕ, ◌-◌, ◌<◌, ◌+◌, ◌*◌, List, length, drop, arith, HasGoForm, HasListedForm, behind_name, number_at, has_number}
+use Rattle.nbd_wire.proofs.{Common.{◌≡◌, ℕ, ◌-◌, ◌<◌, ◌+◌, ◌*◌, List, length, drop, arith, HasGoForm, HasListedForm, behind_name, number_at, has_number}, ListedFormLemmas.go-only, QueryLemmas.behind}
 use Rattle.std.proofs.Common.{eqb-true}
-use Rattle.nbd_wire.proofs.ListedFormLemmas.{go-only}
-use Rattle.nbd_wire.proofs.QueryLemmas.{behind}
 
 pub first_is_not : (wanted n : ℕ) (bytes : List ℕ) → 0 < n → (number_at 0 2 bytes ≡ wanted → ⊥) → has_number wanted n bytes ≡ has_number wanted (n - 1) (drop 2 bytes)
 first_is_not wanted n bytes l e = grind (arith, eqb-true)

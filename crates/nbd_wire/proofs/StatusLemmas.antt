@@ -1,8 +1,6 @@
 -- A status chunk's payload: `status_of` gives exactly what has the form.
 use Rattle.nbd_wire.proofs.Common.{◌≡◌, ℕ, zero, suc, ◌+◌, ◌*◌, ◌/◌, ◌%◌, ◌<◌, ◌≤◌, ◌^◌, ◌==◌, ◌||◌, List, [], ◌∷◌, ◌++◌, length, drop, not, Option, Some, None, Bool, true, false, nat_le, if◌then◌else◌, refl, sym, ◌∙◌, ap, arith, length-drop, append_assoc, subst, All, option_map, eqb-false, eqb-true, leb-false, leb-true, ne_eqb, All-cons, All-head, All-nil, All-tail, none-some, same_Some, big_bytes, big_number-reads_back, AreBytes, Extent, Status, HasStatusForm, with_extents, extents_in, extents_of, has_empty, number_at, status_of, ReadsAs}
-use Rattle.nbd_wire.proofs.HeadLemmas.{with_known, with_next}
-use Rattle.nbd_wire.proofs.NumberLemmas.{AreBytes-drop, number_at-lt}
-use Rattle.nbd_wire.proofs.ReadLemmas.{Reads-found, Reads-none}
+use Rattle.nbd_wire.proofs.{HeadLemmas.{with_known, with_next}, NumberLemmas.{AreBytes-drop, number_at-lt}, ReadLemmas.{Reads-found, Reads-none}}
 
 -- bytes that are too short hold no descriptor, others the first and those behind it
 pub extents-none : (bytes : List ℕ) → length bytes < 8 → extents_of false bytes ≡ []

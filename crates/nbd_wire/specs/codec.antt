@@ -2,4 +2,3 @@ pub mod Contents
 pub mod Fits
 pub mod Heads
 pub mod Reads
-pub mod RoundTrip

@@ -1,7 +1,5 @@
 //! A payload that its owner keeps.
-ghost use Rattle.std.specs.Prelude.{◌≡◌, ◌==◌, ◌<◌, ◌≤◌, ℕ, List, [], drop, length, take, IfOk, MatchOption, OnErr, OnOk};
-ghost use Rattle.std.specs.Cmp.{partial_equiv_from_equiv};
-ghost use Rattle.std.specs.Cmp.Lexicographic.{nat_list_eq_equiv, pointwise};
+ghost use Rattle.std.specs.{Prelude.{◌≡◌, ◌==◌, ◌<◌, ◌≤◌, ℕ, List, [], drop, length, take, IfOk, MatchOption, OnErr, OnOk}, Cmp.{partial_equiv_from_equiv, Lexicographic.{nat_list_eq_equiv, pointwise}}};
 
 use std::alloc::{AllocError, Global};
 use std::marker::Model;
@@ -35,7 +33,7 @@ struct Short {
 
 impl Model for Bytes {
     ghost use Rattle.std.specs.Prelude.{ℕ, List};
-    ghost use Rattle.nbd_wire.specs.internal.Keeping.{bytes_kept};
+    ghost use Rattle.nbd_wire.specs.internal.{bytes_kept};
 
     ghost Value = { List ℕ };
 
@@ -166,7 +164,7 @@ fn behind(bytes: &[u8], count: u8) -> &[u8]
 }
 
 impl Short {
-    ghost use Rattle.nbd_wire.specs.internal.Keeping.{short_bytes};
+    ghost use Rattle.nbd_wire.specs.internal.{short_bytes};
 
     // These bytes, unless they are too many.
     fn of(from: &[u8]) -> Option<Short>

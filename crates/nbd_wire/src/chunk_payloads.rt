@@ -3,14 +3,8 @@
 //! A reader is given a chunk's type and its whole payload. It returns `Some` exactly where the
 //! payload has a form of that type, and takes no memory.
 
-ghost use Rattle.std.specs.Prelude.{◌≡◌, ◌∷◌, [], MatchOption, true, false};
-ghost use Rattle.std.specs.Option.{option_map};
-ghost use Rattle.nbd_wire.specs.codec.Contents.{extent_of, piece_of};
-ghost use Rattle.nbd_wire.specs.protocol.Contexts.{Status};
-ghost use Rattle.nbd_wire.specs.protocol.Forms.{HasContentForm, HasFailureForm, HasStatusForm};
-ghost use Rattle.nbd_wire.specs.protocol.Payloads.{content_of, extents_of, failure_of, has_empty, status_of};
-ghost use Rattle.nbd_wire.specs.protocol.Transmission.{read_as};
-ghost use Rattle.nbd_wire.specs.codec.Reads.{Reads, ReadsAs};
+ghost use Rattle.std.specs.{Prelude.{◌≡◌, ◌∷◌, [], MatchOption, true, false}, Option.option_map};
+ghost use Rattle.nbd_wire.specs.{codec.{Contents.{extent_of, piece_of}, Reads.{Reads, ReadsAs}}, protocol.{Contexts.Status, Forms.{HasContentForm, HasFailureForm, HasStatusForm}, Payloads.{content_of, extents_of, failure_of, has_empty, status_of}, Transmission.read_as}};
 
 use crate::chunks::{ERROR, ERROR_OFFSET, FIRST_ERROR, OFFSET_DATA, OFFSET_HOLE};
 use crate::numbers::{u16_at, u32_at, u64_at};

@@ -1,8 +1,7 @@
 //! Messages as bytes.
 
 ghost use Rattle.std.specs.Prelude.{◌≡◌, ◌+◌, ◌<◌, ◌≤◌, ◌^◌, ◌++◌, length, vec_capacity, vec_len, OnErr, OnOk};
-ghost use Rattle.nbd_wire.specs.protocol.Encoding.{enc, head, tail};
-ghost use Rattle.nbd_wire.specs.codec.Fits.{FitsItsHead};
+ghost use Rattle.nbd_wire.specs.{protocol.Encoding.{enc, head, tail}, codec.Fits.FitsItsHead};
 
 use crate::Message;
 use crate::head_bytes::{

@@ -1,12 +1,8 @@
 //! What the payload of a BLOCK_STATUS with PAYLOAD_LEN asks: a length, and ids of metadata contexts. proto.md ("Command
 //! flags") has the flag's number alone; the form is that of libnbd and qemu, and is this project's choice.
 
-ghost use Rattle.std.specs.Prelude.{◌≡◌, ◌∷◌, [], MatchOption};
-ghost use Rattle.std.specs.Option.{option_map};
-ghost use Rattle.nbd_wire.specs.protocol.Contexts.{Filter};
-ghost use Rattle.nbd_wire.specs.protocol.Forms.{HasFilterForm};
-ghost use Rattle.nbd_wire.specs.protocol.Payloads.{filter_of, ids_of};
-ghost use Rattle.nbd_wire.specs.codec.Reads.{ReadsAs};
+ghost use Rattle.std.specs.{Prelude.{◌≡◌, ◌∷◌, [], MatchOption}, Option.option_map};
+ghost use Rattle.nbd_wire.specs.{protocol.{Contexts.Filter, Forms.HasFilterForm, Payloads.{filter_of, ids_of}}, codec.Reads.ReadsAs};
 
 use crate::numbers::{u32_at, u64_at};
 

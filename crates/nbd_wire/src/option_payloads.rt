@@ -4,12 +4,8 @@
 //! A reader is given the whole data. It returns `Some` exactly where they have the form, and takes
 //! no memory.
 
-ghost use Rattle.std.specs.Prelude.{◌≡◌, ℕ, List, IfSome, is_some};
-ghost use Rattle.std.specs.Option.{option_map};
-ghost use Rattle.nbd_wire.specs.protocol.Contexts.{Context};
-ghost use Rattle.nbd_wire.specs.protocol.Forms.{HasContextForm, HasGoForm, HasInfoForm, HasListedForm, HasQueriesForm};
-ghost use Rattle.nbd_wire.specs.protocol.Payloads.{are_queries, context_of, info_of, is_go, is_listed, name_in, queries_of};
-ghost use Rattle.nbd_wire.specs.codec.Reads.{Reads, ReadsAs};
+ghost use Rattle.std.specs.{Prelude.{◌≡◌, ℕ, List, IfSome, is_some}, Option.option_map};
+ghost use Rattle.nbd_wire.specs.{protocol.{Contexts.Context, Forms.{HasContextForm, HasGoForm, HasInfoForm, HasListedForm, HasQueriesForm}, Payloads.{are_queries, context_of, info_of, is_go, is_listed, name_in, queries_of}}, codec.Reads.{Reads, ReadsAs}};
 
 use crate::numbers::{u16_at, u32_at, u64_at};
 use crate::{Info, infos};

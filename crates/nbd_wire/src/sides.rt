@@ -1,9 +1,7 @@
 //! Who sends a message, and which messages have an encoding.
 
 ghost use Rattle.std.specs.Prelude.{◌≡◌, ◌↔◌, ◌<◌, ◌^◌, IsTrue, length};
-ghost use Rattle.nbd_wire.specs.codec.Fits.{FitsItsHead};
-ghost use Rattle.nbd_wire.specs.protocol.Sendable.{carries_payload};
-ghost use Rattle.nbd_wire.specs.protocol.Sides.{side};
+ghost use Rattle.nbd_wire.specs.{codec.Fits.FitsItsHead, protocol.{Sendable.carries_payload, Sides.side}};
 
 use crate::flags::has;
 use crate::{Bytes, Message, Side, command_flags, commands};

@@ -1,8 +1,7 @@
 //! Block sizes (proto.md, "Size constraints").
 
 ghost use Rattle.std.specs.Prelude.{◌≡◌, ◌*◌, length};
-ghost use Rattle.nbd_wire.specs.protocol.Payloads.{info_of};
-ghost use Rattle.nbd_wire.specs.protocol.Sizes.{are_allowed, asks_sizes, breaks_sizes, has_number, is_too_long, no_sizing, sizes_for, sizes_kept, sizes_of, sizing_after, sizing_at};
+ghost use Rattle.nbd_wire.specs.protocol.{Payloads.info_of, Sizes.{are_allowed, asks_sizes, breaks_sizes, has_number, is_too_long, no_sizing, sizes_for, sizes_kept, sizes_of, sizing_after, sizing_at}};
 
 use crate::limits::{LEAST_SIZE, NO_LARGEST_SIZE, PREFERRED_SIZE};
 use crate::numbers::u16_at;

@@ -1,18 +1,7 @@
 -- Words of the private functions' contracts, which read a capture piece by piece. No public clause names them.
-use Rattle.std.specs.Prelude.{◌≡◌, ◌++◌, ◌∷◌, ◌<◌, ℕ, List, [], OnSome, Option, Some, None, Result, Ok, Err, length}
-use Rattle.std.specs.Io.KnownBytes.{IsAtEnd}
+use Rattle.std.specs.{Prelude.{◌≡◌, ◌++◌, ◌∷◌, ◌<◌, ℕ, List, [], OnSome, Option, Some, None, Result, Ok, Err, length}, Io.KnownBytes.IsAtEnd}
 use Rattle.nbd_wire.specs.declared.message.Side.{Side}
-use Rattle.nbd_capture.specs.declared.capture.CaptureFault.{CaptureFault}
-use Rattle.nbd_capture.specs.declared.capture.CaptureFault.TheVariants.{Line}
-use Rattle.nbd_capture.specs.declared.reader.State.{State}
-use Rattle.nbd_capture.specs.declared.source.Ending.{Ending}
-use Rattle.nbd_capture.specs.declared.source.Ending.TheVariants.{LineFeed, Text}
-use Rattle.nbd_capture.specs.declared.source.Piece.{Piece}
-use Rattle.nbd_capture.specs.declared.source.Piece.TheVariants.{Part, Last, End}
-use Rattle.nbd_capture.specs.declared.source.Source.{Source}
-use Rattle.nbd_capture.specs.Lines.{IsUnbroken, line_feed}
-use Rattle.nbd_capture.specs.Reading.{IsReaderFault, Reading, Reads, ReadsToEnd, Takes}
-use Rattle.nbd_capture.specs.internal.Kept.{Adds, IsKept, Kept}
+use Rattle.nbd_capture.specs.{declared.{capture.CaptureFault.{CaptureFault, TheVariants.Line}, reader.State.State, source.{Ending.{Ending, TheVariants.{LineFeed, Text}}, Piece.{Piece, TheVariants.{Part, Last, End}}, Source.Source}}, Lines.{IsUnbroken, line_feed}, Reading.{IsReaderFault, Reading, Reads, ReadsToEnd, Takes}, internal.{Adds, IsKept, Kept}}
 
 -- a source in this state, as a contract of the capture reader sees it
 abbrev pub reading : {R : Type 0} → (R → Option (List ℕ)) → Source R → State → Reading

@@ -1,12 +1,7 @@
 -- Words of the private functions' contracts, which read a contents text. No public clause names them.
 use Rattle.std.specs.Prelude.{◌≡◌, ◌+◌, ◌++◌, ◌≤◌, ℕ, List, MatchOption, Option, codes, length}
-use Rattle.nbd_export.specs.declared.extents.Extents.{Extents}
-use Rattle.nbd_export.specs.Extents.{byte_of, size_of}
-use Rattle.nbd_capture.specs.declared.contents_line.Word.{Word}
-use Rattle.nbd_capture.specs.declared.contents_line.Word.TheVariants.{Zero, Unknown, Data}
-use Rattle.nbd_export.specs.Held.{held_from}
-use Rattle.nbd_capture.specs.Contents.{AreContentsLines, IsValue, Piece, Told, nothing, part, told}
-use Rattle.nbd_capture.specs.Reading.{lines_ended}
+use Rattle.nbd_export.specs.{declared.extents.Extents.Extents, Extents.{byte_of, size_of}, Held.held_from}
+use Rattle.nbd_capture.specs.{declared.contents_line.Word.{Word, TheVariants.{Zero, Unknown, Data}}, Contents.{AreContentsLines, IsValue, Piece, Told, nothing, part, told}, Reading.lines_ended}
 
 -- so many lines of the text were read, which tell this, and this is the rest
 pub record Seen (text rest : List ℕ) (number : ℕ) (so_far : Told) : Type 0 where

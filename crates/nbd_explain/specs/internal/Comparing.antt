@@ -1,13 +1,6 @@
 -- How bytes compare with an image, step by step, on the way to the line of it.
 use Rattle.std.specs.Prelude.{◌≡◌, ℕ, List, Bool, true, false, Option, count_by, is_none, is_some, length}
-use Rattle.nbd_wire.specs.Prelude.{IsFirst}
-use Rattle.nbd_export.specs.declared.extents.Extents.{Extents}
-use Rattle.nbd_export.specs.Extents.{byte_of}
-use Rattle.nbd_export.specs.Held.{Held}
-use Rattle.nbd_export.specs.Ranges.{DiffersIn, IsLeast, bytes_from}
-use Rattle.nbd_explain.specs.declared.comparing.Compared.{Compared}
-use Rattle.nbd_explain.specs.declared.comparing.Compared.TheVariants.{Agree, Differ, Sizes}
-use Rattle.nbd_explain.specs.Compared.{DiffersAt, agreeing_line, differing_line, sizes_line}
+use Rattle.nbd_explain.specs.{Common.{IsFirst, Extents, byte_of, Held, DiffersIn, IsLeast, bytes_from}, declared.comparing.Compared.{Compared, TheVariants.{Agree, Differ, Sizes}}, Compared.{DiffersAt, agreeing_line, differing_line, sizes_line}}
 
 -- the least offset at which the first bytes of an image are none of those that are known
 abbrev pub IsLeastOther : Extents → List ℕ → Option ℕ → Type 0

@@ -1,17 +1,8 @@
 -- What replies say of the requests before them.
-use Rattle.std.specs.Prelude.{◌≡◌, ◌++◌, ◌∷◌, ◌==◌, ℕ, List, [], Bool, false, Option, Some, None, codes, if◌then◌else◌}
-use Rattle.std.specs.Io.KnownBytes.{Appends}
-use Rattle.std.specs.BTreeMap.{BTreeMap, get}
-use Rattle.std.specs.Ordering.{nat_cmp}
+use Rattle.std.specs.{Prelude.{◌≡◌, ◌++◌, ◌∷◌, ◌==◌, ℕ, List, [], Bool, false, Option, Some, None, codes, if◌then◌else◌}, Io.KnownBytes.Appends, BTreeMap.{BTreeMap, get}, Ordering.nat_cmp}
 use Rattle.nbd_wire.specs.declared.commands.TheConstants as commands
-use Rattle.nbd_wire.specs.declared.message.Message.{Message}
-use Rattle.nbd_wire.specs.declared.message.Message.TheVariants.{Request, ExtendedRequest}
-use Rattle.nbd_wire.specs.Prelude.{any, ends_reply, is_failing, cookie_of}
-use Rattle.nbd_state.specs.Showing.{outcome_of}
-use Rattle.nbd_state.specs.declared.asked.Outcome.{Outcome}
-use Rattle.nbd_state.specs.declared.asked.Outcome.TheVariants.{Failure, Pending, Success}
-use Rattle.nbd_explain.specs.declared.fates.Reply.{Reply}
-use Rattle.nbd_explain.specs.Named.{IsEnding, has_feed}
+use Rattle.nbd_explain.specs.{Common.{Message, Request, ExtendedRequest, any, ends_reply, is_failing, cookie_of, outcome_of}, declared.fates.Reply.Reply, Named.{IsEnding, has_feed}}
+use Rattle.nbd_state.specs.declared.asked.Outcome.{Outcome, TheVariants.{Failure, Pending, Success}}
 
 -- the message is one of a reply with this cookie
 abbrev pub has_cookie : ℕ → Option ℕ → Bool
@@ -93,8 +84,3 @@ AppendsLine fate old new = (line : List ℕ) × IsLine fate line × Appends old 
 -- lines that name these messages were written
 abbrev pub AppendsNames : List Message → (old new : Option (List ℕ)) → Type 0
 AppendsNames messages old new = (lines : List ℕ) × AreLines messages lines × Appends old new lines
-
--- lines were written that name messages, whatever names the rest of them is written behind
-abbrev pub AppendsFront : (messages later : List Message) → (old new : Option (List ℕ)) → Type 0
-AppendsFront messages later old new = (front : List ℕ)
-    × ((rest : List ℕ) → AreLines later rest → AreLines messages (front ++ rest)) × Appends old new front

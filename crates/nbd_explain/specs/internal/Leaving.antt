@@ -1,24 +1,8 @@
 -- What is left of a session, step by step, on the way to what is written of it.
-use Rattle.std.specs.Prelude.{◌≡◌, ◌↔◌, List, ℕ, Bool, false, IsTrue, Option, Some, None, IfSome, Result, Ok, Err, codes}
-use Rattle.std.specs.Io.KnownBytes.{Appends}
-use Rattle.std.specs.declared.alloc.Global.{Global}
-use Rattle.std.specs.declared.vec.Vec.{Vec}
-use Rattle.nbd_wire.specs.declared.entry.Entry.{Entry}
-use Rattle.nbd_wire.specs.declared.profile.Profile.{Profile}
-use Rattle.nbd_wire.specs.Prelude.{Pair, Start, Report}
-use Rattle.nbd_capture.specs.Capture.{Chunk, IsCaptureText}
-use Rattle.nbd_export.specs.Held.{held}
-use Rattle.nbd_session.specs.declared.fault.SessionFault.{SessionFault}
-use Rattle.nbd_session.specs.declared.fault.SessionFault.TheVariants as session
+use Rattle.std.specs.{Prelude.{◌≡◌, ◌↔◌, List, ℕ, Bool, false, IsTrue, Option, Some, None, IfSome, Result, Ok, Err, codes}, Io.KnownBytes.Appends, declared.{alloc.Global.Global, vec.Vec.Vec}}
+use Rattle.nbd_explain.specs.{Common.{Entry, Profile, Pair, Start, Report, Chunk, IsCaptureText, held, SessionFault, IsLeft, IsLeftByEach, Left, Contents, NoExport, Refused, RunFault, IsOrderCause, flat_of, IsYes, line}, Contents.{HasEntries, IsLeftGiven, IsRefusedGiven, WritesBytes}}
 use Rattle.nbd_wire.specs.declared.verdict.Verdict.TheVariants.{Wire}
-use Rattle.nbd_order.specs.Leaving.{IsLeft}
-use Rattle.nbd_order.specs.Sure.{IsLeftByEach}
-use Rattle.nbd_order.specs.declared.leaving.Left.{Left}
-use Rattle.nbd_order.specs.declared.leaving.Left.TheVariants.{Contents, NoExport, Refused}
-use Rattle.nbd_files.specs.declared.fault.RunFault.{RunFault}
-use Rattle.nbd_tool.specs.Runs.{IsOrderCause, flat_of}
-use Rattle.nbd_tool.specs.Verdicts.{IsYes, line}
-use Rattle.nbd_explain.specs.Contents.{HasEntries, IsLeftGiven, IsRefusedGiven, WritesBytes}
+use Rattle.nbd_session.specs.declared.fault.SessionFault.TheVariants as session
 
 -- the entries that were read, if an order is given
 abbrev pub entries_of : Option (Vec Entry Global) → Option (List Entry)

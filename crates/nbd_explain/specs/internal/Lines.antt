@@ -1,26 +1,9 @@
 -- The text that is made of what looking for an order came to.
-use Rattle.std.specs.Prelude.{◌≡◌, ℕ, List, ◌++◌, Option, Some, None, Result, Ok, Err}
-use Rattle.std.specs.Io.KnownBytes.{Appends}
-use Rattle.nbd_wire.specs.declared.profile.Profile.{Profile}
-use Rattle.nbd_wire.specs.Prelude.{Start, Item, pairs, Report, report, IsRunOf}
-use Rattle.nbd_session.specs.declared.fault.SessionFault.{SessionFault}
+use Rattle.std.specs.{Prelude.{◌≡◌, ℕ, List, ◌++◌, Option, Some, None, Result, Ok, Err}, Io.KnownBytes.Appends}
+use Rattle.nbd_explain.specs.{Common.{Profile, Verdict, Entry, Start, Item, pairs, Report, report, IsRunOf, SessionFault, Answers, IsConclusion, IsReportOf, size_of, IsFound, IsWanted, Says, Found, GaveUp, NoneWhole, Order, Unexplained, Any, IsReadAs, room_in, line, Beginning}, Ordering.found_text, declared.answer.Answer.Answer, Answering.{IsAnswerTo, answer_to}, Orderless.found_lines}
 use Rattle.nbd_session.specs.declared.fault.SessionFault.TheVariants.{Memory, Wire}
-use Rattle.nbd_judge.specs.Conclusions.{Answers, IsConclusion, IsReportOf}
-use Rattle.nbd_wire.specs.declared.verdict.Verdict.{Verdict}
 use Rattle.nbd_wire.specs.declared.verdict.Verdict.TheVariants as verdict
-use Rattle.nbd_judge.specs.Servable.{size_of}
-use Rattle.nbd_order.specs.Finding.{IsFound, IsWanted, Says}
-use Rattle.nbd_order.specs.declared.finding.Found.{Found}
-use Rattle.nbd_order.specs.declared.finding.Found.TheVariants.{GaveUp, Image, NoneWhole, Order, Unexplained}
-use Rattle.nbd_order.specs.declared.finding.Wanted.TheVariants.{Any}
-use Rattle.nbd_tool.specs.Beginnings.{IsReadAs, room_in}
-use Rattle.nbd_tool.specs.Verdicts.{line}
-use Rattle.nbd_explain.specs.Ordering.{found_text}
-use Rattle.nbd_explain.specs.declared.answer.Answer.{Answer}
-use Rattle.nbd_explain.specs.Answering.{IsAnswerTo, answer_to}
-use Rattle.nbd_explain.specs.Orderless.{found_lines}
-use Rattle.nbd_tool.specs.declared.beginning.Beginning.{Beginning}
-use Rattle.nbd_wire.specs.declared.entry.Entry.{Entry}
+use Rattle.nbd_order.specs.declared.finding.Found.TheVariants.{Image}
 
 -- the line of the verdict on the order, from each start that was read so, and that the order was found
 pub record HasVerdictLine (profile : Profile) (told : Report) (entries : List Entry) (beginning : Beginning)

@@ -1,24 +1,10 @@
 -- What `order` says of a session that has ended.
 use Rattle.std.specs.Prelude.{◌≡◌, ℕ, List, Option, Result, Ok, Err}
-use Rattle.nbd_wire.specs.declared.fault.WireFault.{WireFault}
-use Rattle.nbd_wire.specs.declared.profile.Profile.{Profile}
-use Rattle.nbd_wire.specs.Prelude.{Start, Item, Report, report, IsRunOf}
-use Rattle.nbd_session.specs.declared.fault.SessionFault.{SessionFault}
+use Rattle.nbd_explain.specs.{Common.{WireFault, Profile, Start, Item, Report, report, IsRunOf, SessionFault, size_of, IsFound, IsWanted, Says, Found, Wanted, IsBeginningOf, IsReadAs, room_in, line, Beginning}, Ordering.{found_text, ordered_of}, declared.ordering.Ordered.{Ordered, TheVariants.Refuted}}
 use Rattle.nbd_session.specs.declared.fault.SessionFault.TheVariants.{Wire}
-use Rattle.nbd_judge.specs.Servable.{size_of}
 use Rattle.nbd_wire.specs.declared.verdict.Verdict.TheVariants as verdict
-use Rattle.nbd_order.specs.Finding.{IsFound, IsWanted, Says}
-use Rattle.nbd_order.specs.declared.finding.Found.{Found}
-use Rattle.nbd_order.specs.declared.finding.Wanted.{Wanted}
-use Rattle.nbd_tool.specs.Beginnings.{IsBeginningOf, IsReadAs, room_in}
-use Rattle.nbd_explain.specs.Ordering.{found_text, ordered_of}
-use Rattle.nbd_tool.specs.Verdicts.{line}
-use Rattle.nbd_explain.specs.declared.ordering.Ordered.{Ordered}
-use Rattle.nbd_explain.specs.declared.ordering.Ordered.TheVariants.{Refuted}
-use Rattle.nbd_tool.specs.declared.beginning.Beginning.{Beginning}
 
--- the answer and the text: of a report those of what is found of it from this beginning, of a refused session the
--- verdict's line
+-- answer and text: of a report those of what is found of it from this beginning, of a refused session its verdict's
 pub data IsToldOf (profile : Profile) (beginning : Beginning) (wanted : Wanted)
     : Result Report SessionFault → Ordered → List ℕ → Type 0 where
   of_report : (told : Report) (f : Found) → ((initial : Start) → IsReadAs (size_of told.export) initial beginning

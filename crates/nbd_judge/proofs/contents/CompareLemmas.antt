@@ -1,7 +1,7 @@
 -- The least wrong byte of a READ, from its pieces.
 use Rattle.nbd_judge.proofs.Common.{◌≡◌, ℕ, zero, suc, ◌+◌, ◌-◌, ◌<◌, ◌≤◌, ◌⊎◌, inl, inr, List, [], ◌∷◌, length, refl, sym, ◌∙◌, ap, subst, Option, Some, None, arith, Bool, true, false, nat_le, if◌then◌else◌, slice_get, slice_index_or, IsTrue, is_some, map, Bor, ◌==◌, ◌||◌, cases_Bool, eqb-true, or_cases, and_from, and_parts, leb-true, leb-false, cases_eq, Contains, slice_get_within, slice_get-get_or, slice_get-map, option_map, Part, in_part, Piece, Bytes, Hole, IsWrongIn, effect, is_success, Effect, serves, GivesByte, Asked, lesser_of, byte_at, holds, is_in, piece_byte, piece_offset, piece_size, DiffersIn, IsLeast, bytes_from, zeroes, DiffersInOneOf, DiffersInPiece, IsServable}
-use Rattle.nbd_wire.specs.declared.commands.TheConstants as commands
 use Rattle.nbd_judge.proofs.orders.FirstLemmas.{one_first, read_at}
+use Rattle.nbd_wire.specs.declared.commands.TheConstants as commands
 
 pub least_as : (P Q : ℕ → Type 0) (o : Option ℕ) → ((m : ℕ) → P m → Q m) → ((m : ℕ) → Q m → P m) → IsLeast P o → IsLeast Q o
 least_as P Q None to back h = λ n q. h n (back n q)

@@ -1,8 +1,7 @@
 -- What an entry that is served compares and changes.
 use Rattle.nbd_judge.proofs.Common.{◌≡◌, ℕ, ◌+◌, ◌<◌, ◌≤◌, inl, inr, List, [], ◌∷◌, ◌++◌, sym, ◌∙◌, ap, subst, Option, Some, arith, true, slice_get, take_all, le_refl, length, take, ◌⊎◌, Entry, in_part, Effect, IsWrong, IsWrongIn, IsWrongOf, byte_before, effect, effects, is_success, is_in, Asked, Report, AreSameBelow, IsLeast, contents_with_effect, contents_after, IsServable, HasWrongFrom, take_more, get_or_from_slice_get, slice_get_within, and_parts, cases_eq}
+use Rattle.nbd_judge.proofs.contents.{CompareLemmas.{from_in, least_as, wrong_of, wrong_there}, ForwardLemmas.{after_push, applied_same, folding}}
 use Rattle.nbd_wire.specs.declared.commands.TheConstants as commands
-use Rattle.nbd_judge.proofs.contents.CompareLemmas.{from_in, least_as, wrong_of, wrong_there}
-use Rattle.nbd_judge.proofs.contents.ForwardLemmas.{after_push, applied_same, folding}
 
 -- the entries up to entry i
 pub taken_one : (order : List Entry) (i : ℕ) (e : Entry) → slice_get order i ≡ Some e → take (i + 1) order ≡ take i order ++ e ∷ []

@@ -1,6 +1,5 @@
 -- A part that may be served lies in its request's range.
-use Rattle.nbd_judge.proofs.Common.{◌≡◌, ℕ, ◌+◌, ◌-◌, ◌<◌, ◌≤◌, inl, inr, List, refl, sym, ◌∙◌, ap, subst, take, Option, Some, None, true, arith, slice_get, cases_Bool, cases_eq, Entry, Part, IsMisplaced, inside_of, Exporting, IsBadPart, Asked, Report, asked_at, inside_asked, inside_in, IsPartIn}
-use Rattle.nbd_judge.proofs.contents.CompareLemmas.{in_from}
+use Rattle.nbd_judge.proofs.{Common.{◌≡◌, ℕ, ◌+◌, ◌-◌, ◌<◌, ◌≤◌, inl, inr, List, refl, sym, ◌∙◌, ap, subst, take, Option, Some, None, true, arith, slice_get, cases_Bool, cases_eq, Entry, Part, IsMisplaced, inside_of, Exporting, IsBadPart, Asked, Report, asked_at, inside_asked, inside_in, IsPartIn}, contents.CompareLemmas.in_from}
 
 -- what lies inside a request lies in its range
 inside_range : (export : Option Exporting) (a : Asked) (x : ℕ) → inside_of a.proper export a.command a.offset a.length x ≡ true → (a.offset ≤ x) × (x < a.offset + a.length)

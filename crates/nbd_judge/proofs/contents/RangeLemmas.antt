@@ -1,7 +1,7 @@
 -- Bytes of a range, taken out of a list of bytes.
 use Rattle.nbd_judge.proofs.Common.{◌≡◌, ℕ, zero, suc, ◌+◌, ◌-◌, ◌<◌, ◌≤◌, ◌&&◌, ◌⊎◌, inl, inr, List, [], ◌∷◌, length, refl, sym, ◌∙◌, ap, subst, Option, Some, None, Bool, true, false, if◌then◌else◌, arith, le_refl, max, min, slice_get, slice_range, take, drop, Part, Piece, Bytes, Hole, effect, effect_byte, is_success, new_byte, serves, is_change, is_in, piece_byte, piece_offset, piece_size, Asked, lesser_of, DiffersIn, IsLeast, bytes_from, overlay, zeroes, contents_with_effect, Span, DiffersInOneWithin, DiffersWithin, length-drop, length-take-le, nat_tests, and-true, slice_get-get_or, IsPartIn, served_span}
-use Rattle.nbd_wire.specs.declared.commands.TheConstants as commands
 use Rattle.nbd_judge.proofs.contents.CompareLemmas.{from_in, from_more, in_from, least_as, least_lesser, to_more}
+use Rattle.nbd_wire.specs.declared.commands.TheConstants as commands
 
 pub drop_get : {A : Type 0} (xs : List A) (a i : ℕ) → slice_get (drop a xs) i ≡ slice_get xs (a + i)
 drop_get (x ∷ xs) zero i = ap (slice_get (x ∷ xs)) (omega arith)

@@ -1,7 +1,6 @@
 -- Pieces in the order of their offsets, and those that meet a part.
 use Rattle.nbd_judge.proofs.Common.{◌≡◌, ℕ, zero, suc, ◌+◌, ◌-◌, ◌<◌, ◌≤◌, inl, inr, List, [], ◌∷◌, length, max, refl, sym, ◌∙◌, ap, subst, Option, Some, None, Bool, true, false, arith, nat_le, nat_lt, cond, slice_get, slice_index_or, IsTrue, map, Bor, take, drop, filter, sum_by, leb-true, leb-false, lt-ltb, ltb-false, ltb-true, cases_Bool, cases_eq, length-drop, length-map, length-take-le, sum_by-cons, Contains-permutation, IsPermutation-map, IsPermutation-sym, sum_by-IsPermutation, get_or_from_slice_get, slice_get_within, slice_get-get_or, slice_get-map, option_map, BTreeMap, get, nat_cmp, Contains, IsNonDecreasingBy, IsPartitionPoint, IsPermutation, Vec, Part, Piece, holds, is_in, piece_offset, piece_size, Asked, asked_at, IsLeast, AddsSorted, AreApart, AreInOrder, AreInside, AreSorted, AreThose, DiffersInOneOf, DiffersInOneWithin, IsOneOf, IsSortedAt}
-use Rattle.nbd_judge.proofs.contents.CompareLemmas.{contained, from_in, in_from, least_as}
-use Rattle.nbd_judge.proofs.contents.RangeLemmas.{drop_get, take_get}
+use Rattle.nbd_judge.proofs.contents.{CompareLemmas.{contained, from_in, in_from, least_as}, RangeLemmas.{drop_get, take_get}}
 
 -- the pieces behind references
 abbrev seen : List (Bor Piece) → List Piece

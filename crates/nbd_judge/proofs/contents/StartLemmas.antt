@@ -1,5 +1,6 @@
 -- A verdict depends on the bytes at first only below the export's size.
 use Rattle.nbd_judge.proofs.Common.{◌≡◌, ℕ, ◌+◌, ◌<◌, ◌≤◌, List, refl, sym, ◌∙◌, ap, arith, Option, Some, None, Result, Ok, Err, IfOk, take, subst, inl, inr, ◌⊎◌, and_parts, Profile, Entry, Part, in_part, is_in, Effect, IsWrong, IsWrongIn, effect, effect_if, effects, last_touch, byte_or_start, byte_before, FitsImage, Start, start_byte, Asked, Report, asked_at, Exporting, AreSameBelow, IsSoundReport, size_and_flags, Verdict, given_length, initial_of, size_of, HasWrongFrom, IsJudged, IsVerdict, FirstWrongFrom}
+use Rattle.nbd_judge.proofs.{contents.CompareLemmas.{from_in, wrong_of}, orders.FirstLemmas.first_of, verdicts.SoundLemmas.servable}
 use Rattle.nbd_wire.specs.declared.commands.TheConstants as commands
 use Rattle.nbd_wire.specs.Prelude.{Held, known}
 use Rattle.nbd_export.specs.Starts as contents
@@ -10,9 +11,6 @@ use Rattle.std.specs.Prelude.{[], ◌∷◌, zero, suc, map, slice_get}
 use Rattle.std.proofs.lemmas.List.{length-map}
 use Rattle.nbd_export.specs.Extents.{byte_of, size_of as extent_size}
 use Rattle.nbd_export.proofs.HeldLemmas.{length-held_from, slice_get-held_from}
-use Rattle.nbd_judge.proofs.contents.CompareLemmas.{from_in, wrong_of}
-use Rattle.nbd_judge.proofs.orders.FirstLemmas.{first_of}
-use Rattle.nbd_judge.proofs.verdicts.SoundLemmas.{servable}
 
 request_of : (o : Option Asked) (e : Effect) → effect_if o ≡ Some e → (a : Asked) × (o ≡ Some a) × (effect a ≡ e)
 request_of None e h = absurd (cc)

@@ -1,7 +1,7 @@
 -- What entries serve of a request.
 use Rattle.nbd_judge.proofs.Common.{◌≡◌, ℕ, zero, suc, ◌+◌, ◌-◌, ◌<◌, ◌≤◌, ◌==◌, ◌&&◌, ◌||◌, ◌⊎◌, inl, inr, List, [], ◌∷◌, ◌++◌, refl, sym, ◌∙◌, ap, subst, Option, Some, None, Bool, true, false, is_some, if◌then◌else◌, arith, nat_le, eqb-true, eq-eqb, append_assoc, append-nil, nat_tests, cases_Bool, cases_lt, cases_eq, Entry, Part, Piece, Hole, HasBadPart, IsServedAt, MayServe, Names, NamesWhole, in_part, is_served, SharesNone, byte_at, holds, is_in, piece_byte, piece_offset, piece_size, is_apart, is_apart_from, total, apart_from-shares, covered_total, full_total_covers, no_overlap, total_within, apart_snoc, whole_names, Span, HasMore, IsApart, IsBare, IsFree, IsHeld, IsIndex, Meets, index-more, index-none, AreParts, IsSpanOf, LieApart, part_pieces, parts_of}
-use Rattle.nbd_laws.proofs.requests.LaidLemmas.{AreApart, AreInside}
 use Rattle.nbd_judge.proofs.contents.CompareLemmas.{from_in, in_from}
+use Rattle.nbd_laws.proofs.requests.LaidLemmas.{AreApart, AreInside}
 
 -- a test passes at each offset of a range, or fails at one
 pub all_or_one : (f : ℕ → Bool) (offset size : ℕ) → ((x : ℕ) → offset ≤ x → x < offset + size → f x ≡ true) ⊎ ((x : ℕ) × (offset ≤ x) × (x < offset + size) × (f x ≡ false))

@@ -1,8 +1,8 @@
 -- What of a READ the messages before the last one showed, and the least count at which a span was shown.
 use Rattle.nbd_judge.proofs.Common.{◌≡◌, ℕ, zero, suc, ◌+◌, ◌<◌, ◌≤◌, ◌⊎◌, ◌&&◌, ◌==◌, Bor, inl, inr, List, [], ◌∷◌, length, refl, sym, ◌∙◌, ap, Option, Some, None, arith, Bool, IsTrue, if◌then◌else◌, slice_get, and_from, and_parts, cases_Bool, cases_eq, slice_get_past, slice_get_read, slice_get_within, IsLeast, Span, shown_in, with_counts, option_copied, IsItemAt, Piece, is_in, piece_offset, piece_size, first_shown, lesser_of, Shown, Entry, OrderFault, Missing, NotCovered, AreApart, IsFaultOfService, IsShownAt}
+use Rattle.nbd_judge.proofs.contents.CompareLemmas.{from_in, in_from, least_as, least_lesser}
 use Rattle.nbd_state.specs.declared.asked.Asked.{Asked}
 use Rattle.nbd_wire.specs.declared.commands.TheConstants as commands
-use Rattle.nbd_judge.proofs.contents.CompareLemmas.{from_in, in_from, least_as, least_lesser}
 
 -- the range of a piece, with a count
 abbrev pub span_at : ℕ → Piece → Shown

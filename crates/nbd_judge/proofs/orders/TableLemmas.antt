@@ -1,9 +1,8 @@
 -- The table of what an order serves of each request.
 use Rattle.nbd_judge.proofs.Common.{slice_get_within, take-length, IsFaultless, MatchOption, is_some, ◌≡◌, ℕ, zero, suc, ◌+◌, ◌-◌, ◌<◌, ◌≤◌, ◌==◌, ◌&&◌, inl, inr, List, [], ◌∷◌, ◌++◌, length, refl, sym, ◌∙◌, ap, subst, Option, Some, None, Result, Ok, Err, Bool, true, false, if◌then◌else◌, arith, nat_le, nat_lt, cases_Bool, eqb-true, slice_get, slice_set, take, ◌||◌, not, IsTrue, cases_eq, Entry, HasBadPart, IsTwice, MayServe, NamesWhole, inside_of, Exporting, has_range, is_chunked, IsBad, IsDue, IsLate, IsUnserved, NamesNone, Part, Profile, is_in, Asked, Report, asked_at, due_in, due_of, first_shown, inside_asked, inside_in, lesser_of, Names-left, Names-push_cases, NamesWhole-left, total, Span, IsIndex, sizes_of, Service, Unnamed, Whole, InParts, OrderFault, Twice, Missing, BadPart, NotCovered, IsOrderFault, has_inside, AreServices, IsAllServed, IsBadAt, IsFaultAfter, IsFaultOfService, IsFirstBad, IsNext, IsServiceAfter, IsServiceOf, IsShownAt, IsSpanOf, IsUnservedBy, LieApart, TellsFaultOf, TellsUnserved, part_pieces, parts_of, span_if, span_of_asked, IsFair, nat_tests, and-false, and_assoc}
+use Rattle.nbd_judge.proofs.{orders.DueLemmas.{due_chunked, due_none, due_whole}, contents.EffectLemmas.taken_one}
 use Rattle.nbd_wire.specs.declared.commands.TheConstants as commands
 use Rattle.nbd_judge.specs.internal.Services.{IsFaultOf}
-use Rattle.nbd_judge.proofs.orders.DueLemmas.{due_chunked, due_none, due_whole}
-use Rattle.nbd_judge.proofs.contents.EffectLemmas.{taken_one}
 
 -- a range, as far as the export goes
 span_is : (size : ℕ) (b : Bool) (offset len x : ℕ) → let span : Span = span_if (b && nat_lt offset size) offset len size in (b && (is_in offset len x && nat_lt x size)) ≡ is_in span.offset span.size x

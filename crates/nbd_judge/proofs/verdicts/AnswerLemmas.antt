@@ -1,7 +1,7 @@
 -- What a verdict on the report of a run says of the run's bytes.
 use Rattle.nbd_judge.proofs.Common.{◌≡◌, ℕ, List, sym, ◌∙◌, ap, subst, Profile, Entry, Start, start_byte, Item, pairs, Report, report, IsRunOf, IsFaultless, Passes, answered_count, improper_count, request_count, ExplainedPasses, IsNoOf, PassingIsExplained, OrdersAreFaultless, SameReports, Yes, Wire, Image, Order, Content, Status, orders_are_faultless, same_reports, VerdictsAnswerRuns, IsOrderFault, OrderFault}
-use Rattle.nbd_judge.specs.Conclusions.{IsUnserved}
 use Rattle.nbd_judge.proofs.verdicts.SingleLemmas.{fits_not, has_fault, has_wrong}
+use Rattle.nbd_judge.specs.Conclusions.{IsUnserved}
 
 -- where an order has a fault, no run with these bytes is served in it
 fault_unserved : OrdersAreFaultless → SameReports → (profile : Profile) (items : List Item) (order : List Entry) (entry : ℕ) (fault : OrderFault) → IsRunOf profile items →

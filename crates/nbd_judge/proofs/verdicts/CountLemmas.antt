@@ -1,6 +1,5 @@
 -- One more request of those that are counted.
-use Rattle.nbd_judge.proofs.Common.{◌≡◌, ℕ, ◌+◌, ◌<◌, List, length, sym, ◌∙◌, ap, arith, add-one, Option, Some, None, Bool, true, false, take, slice_get, count_by, count_by_more_no, count_by_more_yes, get_or_from_slice_get, slice_get_within, Asked, asked_at}
-use Rattle.nbd_judge.proofs.orders.FirstLemmas.{past}
+use Rattle.nbd_judge.proofs.{Common.{◌≡◌, ℕ, ◌+◌, ◌<◌, List, length, sym, ◌∙◌, ap, arith, add-one, Option, Some, None, Bool, true, false, take, slice_get, count_by, count_by_more_no, count_by_more_yes, get_or_from_slice_get, slice_get_within, Asked, asked_at}, orders.FirstLemmas.past}
 
 -- request number i + 1 of these stands at i
 there : (asked : List Asked) (i : ℕ) (o : Option Asked) → asked_at (i + 1) asked ≡ o → slice_get asked i ≡ o

@@ -1,7 +1,7 @@
 -- A capture in which no answer of success on metadata contexts comes has the same verdict in both profiles.
 use Rattle.nbd_judge.proofs.Common.{◌≡◌, ℕ, List, [], ◌∷◌, length, refl, sym, ◌∙◌, ap, subst, inl, inr, Entry, WireFault, Message, Side, Client, Server, Profile, ArePairs, Pair, AreBytes, Start, Item, pairs, without_service, Report, report, due_in, inside_in, IsRunOf, Obeys, IsPlaceOf, IsUnderWayOf, State, start_of, NothingParts, Both, fresh_of, reads, Busy, Idle, Loose, Open, Walk, ended, final, loose, middle, opening, serving, dues_agree, nothing_before, places_agree, runs_agree, under_way_in, pairs_unserved, each_with, FirstLate, HasNoOrderFault, LeastMissing, LeastNotCovered, IsFaultless, improper_count, IsOrderFault, OrderFault, Late, Missing, NotCovered, but_last, places_begin_no_run, read_no_place, walk_of, explained_passes, passing_is_explained, orders_are_faultless, reports_ignore_service, same_reports, IsOpenEndOf, IsRefusalOf, IsWireFaultOf, LeavesOpen, CompletesExactlyOf, completes_exactly, Verdict, Yes, Wire, Image, Order, HasVerdict, Answers, AnswersAtOnceIn, NothingPartsIn, with_improper, VerdictsAgree, IsVerdict}
-use Rattle.nbd_wire.specs.Prelude.{get}
 use Rattle.nbd_judge.proofs.verdicts.AnswerLemmas.{answers_runs}
+use Rattle.nbd_wire.specs.Prelude.{get}
 
 -- what is left of an open message are bytes
 abbrev LeavesBytes : Side → Open → Type 0

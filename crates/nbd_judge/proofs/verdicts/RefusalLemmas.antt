@@ -1,9 +1,9 @@
 -- A session over chunks that ends in a fault.
 use Rattle.nbd_judge.proofs.Common.{◌≡◌, ℕ, suc, ◌<◌, List, ◌∷◌, ◌++◌, length, sym, ◌∙◌, ap, subst, take, drop, drop-cons, get_or, append_assoc, inl, Result, Ok, Err, IfOk, IfErr, take-append-drop, Global, Profile, Entry, Side, IsExplainedOf, Start, Pair, flat, side_pairs, SessionFault, Memory, EndsIn, IsRefusalOf, IsWireFaultOf, Refuses, AddsPrefix, IsAtEnd, SessionView, pairs_of, sent-append, no_run_of, Verdict, IsChecked, IsFaultOf, SaysYes, records_of, ◌↔◌}
+use Rattle.nbd_judge.proofs.verdicts.ChunkLemmas.{joined}
 use Rattle.std.proofs.Common.{Vec}
 use Rattle.nbd_session.specs.declared.fault.SessionFault.TheVariants.{Wire}
 use Rattle.nbd_wire.specs.declared.verdict.Verdict.TheVariants as verdict
-use Rattle.nbd_judge.proofs.verdicts.ChunkLemmas.{joined}
 
 -- before a chunk, the chunk, and after it
 split_at : (cs : List (Side × Vec ℕ Global)) (i : ℕ) (c : Side × Vec ℕ Global) → i < length cs → c ≡ get_or cs i c →

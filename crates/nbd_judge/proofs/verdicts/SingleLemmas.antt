@@ -1,7 +1,7 @@
 -- The cases of the definitions of a verdict exclude each other.
 use Rattle.nbd_judge.proofs.Common.{◌≡◌, ℕ, ◌+◌, ◌<◌, ◌⊎◌, inl, inr, List, length, refl, sym, ◌∙◌, ap, subst, Option, Some, None, slice_get, take, arith, Entry, Part, IsAgain, Names, whole_names, IsWrong, effects, FitsImage, Start, start_byte, IsBad, IsFirst, IsLate, IsUnserved, NamesAgain, NamesNone, Report, due_in, inside_in, asked_at, Asked, Profile, Exporting, IsFaultless, OrderFault, NoSuchRequest, Twice, Late, Missing, BadPart, NotCovered, Verdict, Yes, Wire, Image, Order, Content, Status, IsOtherSize, IsOrderFault, OneJudgement, OneVerdict, FirstWrongFrom, HasNoneWrongFrom, HasWrongFrom, FirstWrongOf, IsJudged, IsVerdict}
-use Rattle.nbd_wire.specs.protocol.Explains as starts
 use Rattle.nbd_judge.proofs.orders.FirstLemmas.{one_first, place_before}
+use Rattle.nbd_wire.specs.protocol.Explains as starts
 
 module _ (profile : Profile) (r : Report) (order : List Entry) where
   abbrev Bad : ℕ → Type 0

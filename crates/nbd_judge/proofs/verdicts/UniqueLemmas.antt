@@ -1,7 +1,6 @@
 -- A capture is refused in one way at most, and has one answer at most.
-use Rattle.nbd_judge.proofs.Common.{◌≡◌, ℕ, List, [], ◌∷◌, ◌++◌, ◌⊎◌, length, refl, sym, ◌∙◌, ap, subst, inl, inr, append-nil, Profile, Entry, WireFault, Message, Pair, Start, report, IsPlaceOf, one_place, prefixes_have_no_place, under_way_agree, IsOpenEndOf, IsRefusedAtOf, no_run_of, Verdict, Wire, HasVerdict, IsChecked, IsFaultOf, OneAnswer, OneWireFault}
+use Rattle.nbd_judge.proofs.{Common.{◌≡◌, ℕ, List, [], ◌∷◌, ◌++◌, ◌⊎◌, length, refl, sym, ◌∙◌, ap, subst, inl, inr, append-nil, Profile, Entry, WireFault, Message, Pair, Start, report, IsPlaceOf, one_place, prefixes_have_no_place, under_way_agree, IsOpenEndOf, IsRefusedAtOf, no_run_of, Verdict, Wire, HasVerdict, IsChecked, IsFaultOf, OneAnswer, OneWireFault}, verdicts.SingleLemmas.one_verdict}
 use Rattle.nbd_session.specs.declared.fault.SessionFault.TheVariants as session
-use Rattle.nbd_judge.proofs.verdicts.SingleLemmas.{one_verdict}
 
 -- of two prefixes of a list one begins with the other
 prefixes : {A : Type 0} (xs ys us vs : List A) → xs ++ us ≡ ys ++ vs → ((w : List A) × (ys ≡ xs ++ w)) ⊎ ((w : List A) × (xs ≡ ys ++ w))

@@ -1,12 +1,6 @@
 -- Where the pieces of a READ differ from contents, and these pieces in the order of their offsets.
-use Rattle.std.specs.Prelude.{ℕ, List, ◌≡◌, ◌+◌, ◌<◌, ◌≤◌, ◌⊎◌, Option, Some, IsTrue, map, slice_get}
-use Rattle.std.specs.Borrow.{Bor}
-use Rattle.std.specs.BTreeMap.{BTreeMap, get}
-use Rattle.std.specs.Ordering.{nat_cmp}
-use Rattle.std.specs.declared.vec.Vec.{Vec}
-use Rattle.nbd_wire.specs.declared.entry.Part.{Part}
-use Rattle.nbd_wire.specs.declared.payloads.Piece.{Piece}
-use Rattle.nbd_wire.specs.Prelude.{Differs, holds, is_in, piece_byte, piece_offset, piece_size}
+use Rattle.std.specs.{Prelude.{ℕ, List, ◌≡◌, ◌+◌, ◌<◌, ◌≤◌, ◌⊎◌, Option, Some, IsTrue, map, slice_get}, Borrow.Bor, BTreeMap.{BTreeMap, get}, Ordering.nat_cmp, declared.vec.Vec.Vec}
+use Rattle.nbd_wire.specs.{declared.{entry.Part.Part, payloads.Piece.Piece}, Prelude.{Differs, holds, is_in, piece_byte, piece_offset, piece_size}}
 
 -- x lies in the piece, whose byte there is not the known one
 abbrev pub DiffersInPiece : (ℕ → Option ℕ) → Piece → ℕ → Type 0

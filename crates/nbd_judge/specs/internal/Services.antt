@@ -1,22 +1,10 @@
 -- What the entries of an order serve of one request, and a table of that.
-use Rattle.std.specs.Prelude.{ℕ, suc, List, [], ◌∷◌, ◌++◌, ◌≡◌, ◌+◌, ◌-◌, ◌<◌, ◌≤◌, ◌==◌, ◌&&◌, Bool, true, false, min, nat_lt, if◌then◌else◌, Option, Some, None, Result, Ok, Err, MatchResult, length, slice_get, take, ◌||◌, not, IsTrue}
-use Rattle.std.specs.declared.vec.Vec.{Vec}
-use Rattle.nbd_wire.specs.declared.entry.Entry.{Entry}
-use Rattle.nbd_wire.specs.declared.entry.Part.{Part}
-use Rattle.nbd_wire.specs.declared.payloads.Piece.{Piece}
-use Rattle.nbd_wire.specs.declared.payloads.Piece.TheVariants.{Hole}
-use Rattle.nbd_wire.specs.protocol.Entries.{HasBadPart, IsTwice}
-use Rattle.nbd_wire.specs.Prelude.{IsServedAt, MayServe, Names, NamesWhole, Exporting, has_range, IsBad, IsBadPart, SharesNone, is_in, piece_offset, piece_size, Asked, Report, asked_at, due_in, first_shown, inside_in, Shown, total}
+use Rattle.std.specs.{Prelude.{ℕ, suc, List, [], ◌∷◌, ◌++◌, ◌≡◌, ◌+◌, ◌-◌, ◌<◌, ◌≤◌, ◌==◌, ◌&&◌, Bool, true, false, min, nat_lt, if◌then◌else◌, Option, Some, None, Result, Ok, Err, MatchResult, length, slice_get, take, ◌||◌, not, IsTrue}, declared.vec.Vec.Vec}
+use Rattle.nbd_wire.specs.declared.{entry.{Entry.Entry, Part.Part}, payloads.Piece.{Piece, TheVariants.Hole}, profile.Profile.Profile, verdict.OrderFault.{OrderFault, TheVariants.{NoSuchRequest, Twice, Missing, BadPart, NotCovered}}}
+use Rattle.nbd_wire.specs.Prelude.{HasBadPart, IsTwice, IsServedAt, MayServe, Names, NamesWhole, Exporting, has_range, IsBad, IsBadPart, SharesNone, is_in, piece_offset, piece_size, Asked, Report, asked_at, due_in, first_shown, inside_in, Shown, total, IsDue, IsMissing, IsNotCovered, IsUnserved, NamesAgain, NamesNone}
 use Rattle.nbd_wire.specs.declared.commands.TheConstants as commands
-use Rattle.nbd_wire.specs.protocol.Orders.{IsDue, IsMissing, IsNotCovered, IsUnserved, NamesAgain, NamesNone}
-use Rattle.nbd_wire.specs.declared.profile.Profile.{Profile}
-use Rattle.nbd_state.specs.declared.span.Span.{Span}
-use Rattle.nbd_state.specs.Indexes.{IsIndex}
-use Rattle.nbd_state.specs.Sizes.{sizes_of}
-use Rattle.nbd_judge.specs.declared.service.Service.{Service}
-use Rattle.nbd_judge.specs.declared.service.Service.TheVariants.{Unnamed, Whole, InParts}
-use Rattle.nbd_wire.specs.declared.verdict.OrderFault.{OrderFault}
-use Rattle.nbd_wire.specs.declared.verdict.OrderFault.TheVariants.{NoSuchRequest, Twice, Missing, BadPart, NotCovered}
+use Rattle.nbd_state.specs.{declared.span.Span.Span, Indexes.IsIndex, Sizes.sizes_of}
+use Rattle.nbd_judge.specs.{declared.service.Service.{Service, TheVariants.{Unnamed, Whole, InParts}}, Servable.size_of}
 
 -- an entry's part, as a hole
 abbrev pub part_pieces : Option Part → List Piece
@@ -36,8 +24,7 @@ LieApart span (p ∷ ps) =
     × SharesNone p ps
     × LieApart span ps
 
--- the parts of request k that the entries name, in an index, and how many bytes of the span they leave; no entry serves
--- the request atomically
+-- the parts of request k that the entries name, in an index, and what they leave of the span; no entry serves it whole
 pub record AreParts (sizes : ℕ → Option ℕ) (left : ℕ) (span : Span) (entries : List Entry) (k : ℕ) : Type 0 where
   pub in_parts : NamesWhole entries k → ⊥
   pub index : IsIndex sizes (parts_of entries k)
@@ -124,17 +111,11 @@ has_inside a = (a.proper || not (a.command == commands.BLOCK_STATUS)) && has_ran
 abbrev pub span_in : (size : ℕ) → Asked → Span
 span_in size a = span_if (has_inside a && nat_lt a.offset size) a.offset a.length size
 
--- the size of an export, if there is one
-abbrev pub export_size : Option Exporting → ℕ
-export_size (Some export) = export.size
-export_size None = 0
-
 -- the same of a request of a report
 abbrev pub span_of_asked : Option Exporting → Asked → Span
-span_of_asked export a = span_in (export_size export) a
+span_of_asked export a = span_in (size_of export) a
 
--- the table has a cell for each request, that of request k at k - 1; each says what the first n entries serve, none of
--- which is bad
+-- the table has a cell for each request, that of request k at k - 1, with what the first n entries serve; none is bad
 pub record AreServices (r : Report) (order : List Entry) (n : ℕ) (table : List Service) : Type 0 where
   pub len : length table ≡ length r.asked
   pub none_bad : (i : ℕ) → i < n → IsBad (length r.asked) (inside_in r) order i → ⊥

@@ -1,14 +1,6 @@
 -- What the requests of a session tell of an offset.
-use Rattle.std.specs.Prelude.{ℕ, ◌+◌, List, [], ◌∷◌, ◌||◌, Bool, false, nat_le, nat_lt, Option, Some, None, if◌then◌else◌, max, min}
-use Rattle.std.specs.Option.{option_or, unwrap_or}
-use Rattle.nbd_wire.specs.declared.payloads.Piece.{Piece}
-use Rattle.nbd_wire.specs.Prelude.{is_change, holds, is_in, Asked}
-use Rattle.nbd_order.specs.Leaving.{is_open}
-use Rattle.nbd_order.specs.Sure.{is_read, leaves_unknown}
-use Rattle.nbd_order.specs.declared.here.Got.{Got}
-use Rattle.nbd_order.specs.declared.here.Here.{Here}
-use Rattle.nbd_order.specs.declared.here.Holds.{Holds}
-use Rattle.nbd_order.specs.declared.here.Holds.TheVariants.{Change, First, Read, Unknown}
+use Rattle.std.specs.{Prelude.{ℕ, ◌+◌, List, [], ◌∷◌, ◌||◌, Bool, false, nat_le, nat_lt, Option, Some, None, if◌then◌else◌, max, min}, Option.{option_or, unwrap_or}}
+use Rattle.nbd_order.specs.{Common.{Piece, is_change, holds, is_in, Asked}, Leaving.is_open, Sure.{is_read, leaves_unknown}, declared.{here.{Got.Got, Here.Here, Holds.{Holds, TheVariants.{Change, First, Read, Unknown}}}, stretches.Stretch.Stretch, touches.Touch.Touch}}
 
 -- no request tells anything
 abbrev pub nothing : Here
@@ -90,3 +82,23 @@ held_behind here None = First
 -- what an offset holds of which this is told
 abbrev pub held_by : Here → Holds
 held_by here = held_behind here here.last
+
+-- what it tells of x
+abbrev pub touch_here : Touch → (x : ℕ) → Here
+touch_here touch x = here_if (is_in touch.span.offset touch.span.size x) touch.here
+
+-- what they tell of x, the earlier ones first
+abbrev pub touches_here : List Touch → (x : ℕ) → Here
+touches_here [] x = nothing
+touches_here (touch ∷ touches) x = joined (touch_here touch x) (touches_here touches x)
+
+-- what is told of x, where x lies in a stretch: in the first that ends behind it
+abbrev pub stretch_here : List Stretch → (x : ℕ) → Option Here
+stretch_here [] x = None
+stretch_here (stretch ∷ stretches) x = if nat_lt x stretch.end then Some stretch.here else stretch_here stretches x
+
+-- both joined, where there are both
+abbrev pub joined_if : Option Here → Option Here → Option Here
+joined_if (Some earlier) (Some later) = Some (joined earlier later)
+joined_if (Some earlier) None = None
+joined_if None later = None

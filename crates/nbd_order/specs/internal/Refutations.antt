@@ -1,13 +1,9 @@
 -- Why no order explains a report at one offset: READs that get their byte there in no order of some changes, and no
 -- other change can help. A BLOCK_STATUS that calls the offset zero is such a READ too, of the byte 0.
 use Rattle.std.specs.Prelude.{ℕ, List, ◌≡◌, ◌<◌, ◌⊎◌, ◌==◌, ◌||◌, Bool, true, false, Option, Some, None, IsTrue, slice_get}
-use Rattle.nbd_order.specs.declared.refutation.State.{State}
-use Rattle.nbd_wire.specs.Prelude.{Differs, Effect, effect_byte, effects, touches, Report, due_in}
-use Rattle.nbd_wire.specs.declared.profile.Profile.{Profile}
-use Rattle.nbd_order.specs.Unexplained.{IsReadOf, has}
+use Rattle.nbd_order.specs.{declared.refutation.State.State, Unexplained.{IsReadOf, has}, Common.{Differs, Effect, effect_byte, effects, touches, Report, due_in, Profile}}
 
--- each entry that serves x of request j stands before each of request k, where an order is not late: j was due at x
--- before k was complete
+-- each entry that serves x of j stands before each of k in an order that is not late: j was due there before k ended
 abbrev pub IsBefore : Profile → Report → (x j k : ℕ) → Type 0
 IsBefore profile r x j k = (n : ℕ) × (due_in profile r j x ≡ Some n) × (n < k)
 
@@ -77,8 +73,7 @@ abbrev pub AreSteps : Profile → Report → (x : ℕ) → (reads changes : List
 AreSteps profile r x reads changes states served = (c : ℕ) → has changes c ≡ true
     → IsStep profile r x reads changes states served c
 
--- the change w, which leaves this byte, is no help to READ k: k gave another byte, or surely came before, or one of the
--- changes surely comes between the two
+-- the change w, which leaves this byte, is no help to READ k: another byte, surely before it, or a change between
 abbrev pub IsNoHelp : Profile → Report → (x : ℕ) → (changes : List ℕ) → (w : ℕ) → (byte : Option ℕ) → (k : ℕ) → Type 0
 IsNoHelp profile r x changes w byte k =
     IsOther r x k byte ⊎ IsBefore profile r x k w
@@ -114,14 +109,3 @@ IsUnfinished reads served = (k : ℕ) × (has reads k ≡ true) × (has served k
 -- in no state all READs are served
 abbrev pub NoneIsLast : (reads : List ℕ) → (states : List State) → Type 0
 NoneIsLast reads states = (i : ℕ) (s : State) → slice_get states i ≡ Some s → IsUnfinished reads s.served.items
-
--- at x the READs get their bytes in no order of the changes: one of the states is the beginning, each change leads from
--- a state to a state, and in no state all READs are served; and no other change is a help to one of them
-pub record IsRefutation (profile : Profile) (r : Report) (initial : ℕ → Option ℕ) (x : ℕ) (reads changes : List ℕ)
-    (states : List State) : Type 0 where
-  pub are_reads : (k : ℕ) → has reads k ≡ true → IsReadAt profile r x k
-  pub are_changes : (c : ℕ) → has changes c ≡ true → IsChangeAt r x c
-  pub covered : (w : ℕ) → HelpsNone profile r x reads changes w
-  pub begins : HasBeginning profile r initial x reads changes states
-  pub steps : EachSteps profile r x reads changes states
-  pub ends : NoneIsLast reads states

@@ -1,9 +1,6 @@
 -- The pieces of a request, as it keeps them.
 use Rattle.std.specs.Prelude.{[], ◌∷◌, false}
-use Rattle.nbd_state.specs.Pieces.{PiecesView}
-use Rattle.nbd_state.specs.declared.asking.Telling.{Telling}
-use Rattle.nbd_state.specs.declared.pieces.Kept.{Kept}
-use Rattle.nbd_state.specs.declared.pieces.Kept.TheVariants.{Nothing, One, Many}
+use Rattle.nbd_state.specs.{Pieces.PiecesView, declared.{asking.Telling.Telling, pieces.Kept.{Kept, TheVariants.{Nothing, One, Many}}}}
 
 -- the reply has to tell each context
 abbrev pub nothing_told : Telling

@@ -1,8 +1,6 @@
 -- What a content chunk carries, as a piece that its owner keeps.
-use Rattle.nbd_wire.specs.declared.payloads.Content.{Content}
+use Rattle.nbd_wire.specs.declared.payloads.{Content.Content, Extent.Extent, Piece.Piece}
 use Rattle.nbd_wire.specs.declared.payloads.Content.TheVariants as content
-use Rattle.nbd_wire.specs.declared.payloads.Extent.{Extent}
-use Rattle.nbd_wire.specs.declared.payloads.Piece.{Piece}
 use Rattle.nbd_wire.specs.declared.payloads.Piece.TheVariants as piece
 use Rattle.nbd_wire.specs.protocol.Contexts as contexts
 

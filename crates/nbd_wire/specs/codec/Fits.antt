@@ -1,9 +1,6 @@
 -- Which messages can be encoded.
 use Rattle.std.specs.Prelude.{◌≡◌, ◌<◌, ◌^◌, ◌==◌, length, if◌then◌else◌}
-use Rattle.nbd_wire.specs.declared.commands.TheConstants.{WRITE}
-use Rattle.nbd_wire.specs.declared.message.Message.{Message}
-use Rattle.nbd_wire.specs.protocol.Sendable.{carries_payload}
-use Rattle.nbd_wire.specs.declared.message.Message.TheVariants.{Choice, Answer, Request, Simple, Chunk, ExtendedRequest, ExtendedChunk}
+use Rattle.nbd_wire.specs.{declared.{commands.TheConstants.WRITE, message.Message.{Message, TheVariants.{Choice, Answer, Request, Simple, Chunk, ExtendedRequest, ExtendedChunk}}}, protocol.Sendable.carries_payload}
 
 -- a payload's length has four bytes (proto.md; for a simple reply and behind an extended header this project's choice),
 -- and a request carries bytes where it is a WRITE, as many as its length says (proto.md, "Request message"); one with

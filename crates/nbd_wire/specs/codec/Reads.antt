@@ -1,6 +1,5 @@
 -- What a reader's answer says of what it read.
-use Rattle.std.specs.Prelude.{◌≡◌, ◌↔◌, Option, Some}
-use Rattle.std.specs.Option.{option_map}
+use Rattle.std.specs.{Prelude.{◌≡◌, ◌↔◌, Option, Some}, Option.option_map}
 
 -- the answer is a value exactly where the value has this form: so None exactly where no value has it
 abbrev pub Reads : {A : Type 0} → Option A → (A → Type 0) → Type 0

@@ -1,6 +1,5 @@
 -- A capture: a list of bytes with their senders.
-use Rattle.std.specs.Prelude.{ℕ, ◌<◌, List, [], ◌∷◌, map}
-use Rattle.std.specs.List.{flat_map}
+use Rattle.std.specs.{Prelude.{ℕ, ◌<◌, List, [], ◌∷◌, map}, List.flat_map}
 use Rattle.nbd_wire.specs.declared.message.Side.{Side}
 
 -- a byte on the wire with its sender (this project's choice: only the order of these counts)

@@ -1,6 +1,5 @@
 -- Metadata contexts (proto.md, "Metadata querying").
-use Rattle.std.specs.Prelude.{ℕ, List, [], ◌∷◌, ◌==◌, ◌&&◌, not, Bool, true, false, Option, Some, None, sum_by}
-use Rattle.std.specs.List.{list_any}
+use Rattle.std.specs.{Prelude.{ℕ, List, [], ◌∷◌, ◌==◌, ◌&&◌, not, Bool, true, false, Option, Some, None, sum_by}, List.list_any}
 
 -- a metadata context: the id that the server gave it, and its name
 pub record Context : Type 0 where
@@ -22,8 +21,7 @@ no_selection = record { export_name = []; contexts = []; granted = false }
 abbrev pub has_id : List Context → ℕ → Bool
 has_id contexts id = list_any (λ (c : Context). c.id == id) contexts
 
--- one descriptor of a status chunk: how many bytes it speaks of, above 0, and their flags (proto.md, "Structured reply
--- types")
+-- one descriptor of a status chunk: how many bytes, above 0, and their flags (proto.md, "Structured reply types")
 pub record Extent : Type 0 where
   pub length : ℕ
   pub flags : ℕ
@@ -33,8 +31,7 @@ pub record Status : Type 0 where
   pub id : ℕ
   pub extents : List Extent
 
--- what the payload of a BLOCK_STATUS asks: how long its range is, in bytes, and the contexts with these ids (this
--- project's choice, read from libnbd and qemu)
+-- what a BLOCK_STATUS's payload asks: its range's length, contexts by id (this project's choice, as libnbd and qemu)
 pub record Filter : Type 0 where
   pub length : ℕ
   pub ids : List ℕ

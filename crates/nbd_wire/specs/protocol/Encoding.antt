@@ -1,9 +1,7 @@
 -- The bytes of a message.
 use Rattle.std.specs.Prelude.{ℕ, List, ◌++◌, ◌<◌, ◌∷◌, [], replicate, if◌then◌else◌, length}
 use Rattle.nbd_wire.specs.protocol.Layouts.{greeting_bytes, client_flags_bytes, choice_bytes, answer_bytes, export_bytes, request_bytes, simple_bytes, chunk_bytes, extended_request_bytes, extended_chunk_bytes}
-use Rattle.nbd_wire.specs.declared.head_lengths.TheConstants.{PADDING}
-use Rattle.nbd_wire.specs.declared.message.Message.{Message}
-use Rattle.nbd_wire.specs.declared.message.Message.TheVariants.{Greeting, ClientFlags, Choice, Answer, Exported, Request, Simple, Chunk, ExtendedRequest, ExtendedChunk}
+use Rattle.nbd_wire.specs.declared.{head_lengths.TheConstants.PADDING, message.Message.{Message, TheVariants.{Greeting, ClientFlags, Choice, Answer, Exported, Request, Simple, Chunk, ExtendedRequest, ExtendedChunk}}}
 
 -- the fixed part of a message (proto.md, "Newstyle negotiation", "Request message", "Simple reply message",
 -- "Structured reply chunk message")

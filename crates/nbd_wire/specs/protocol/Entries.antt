@@ -1,10 +1,7 @@
 -- Entries of an order of service, and what of its request each of them serves (this project's choice).
-use Rattle.std.specs.Prelude.{ℕ, List, [], ◌∷◌, ◌≡◌, ◌⊎◌, ◌==◌, ◌&&◌, ◌||◌, Bool, true, false, not, nat_lt, Option, Some, None, IsTrue, map}
+use Rattle.std.specs.Prelude.{ℕ, List, [], ◌∷◌, ◌≡◌, ◌⊎◌, ◌==◌, ◌&&◌, ◌||◌, Bool, true, false, not, nat_lt, Option, Some, None, IsTrue}
 use Rattle.nbd_wire.specs.declared.commands.TheConstants as commands
-use Rattle.nbd_wire.specs.declared.entry.Entry.{Entry}
-use Rattle.nbd_wire.specs.declared.entry.Part.{Part}
-use Rattle.nbd_wire.specs.protocol.Operations.{Exporting, has_range}
-use Rattle.nbd_wire.specs.protocol.Pieces.{is_in}
+use Rattle.nbd_wire.specs.{declared.entry.{Entry.Entry, Part.Part}, protocol.{Operations.{Exporting, has_range}, Pieces.is_in}}
 
 -- the entry that serves request k atomically
 abbrev pub whole : ℕ → Entry
@@ -13,10 +10,6 @@ whole k = record { request = k; part = None }
 -- the entry that serves a part of request k: so many bytes from an offset of the export on
 abbrev pub part : (k offset length : ℕ) → Entry
 part k offset len = record { request = k; part = Some (record { offset = offset; length = len }) }
-
--- the numbers of the requests that the entries name, in order
-abbrev pub numbers : List Entry → List ℕ
-numbers entries = map (λ (e : Entry). e.request) entries
 
 -- an entry names request k
 abbrev pub Names : List Entry → ℕ → Type 0
@@ -38,8 +31,7 @@ abbrev pub is_served : List Entry → ℕ → ℕ → Bool
 is_served [] k x = false
 is_served (e ∷ entries) k x = ((e.request == k) && in_part e.part x) || is_served entries k x
 
--- x lies inside a request of this type, offset and length: in its range, and below the export's size; nothing does
--- where the type has no range
+-- x lies inside a request of this type, offset and length: in its range, if it has one, and below the export's size
 abbrev pub inside : Option Exporting → (command offset length : ℕ) → ℕ → Bool
 inside (Some export) command offset len x = has_range command && (is_in offset len x && nat_lt x export.size)
 inside None command offset len x = false
@@ -49,20 +41,17 @@ abbrev pub inside_of : (proper : Bool) → Option Exporting → (command offset 
 inside_of proper export command offset len x =
     (proper || not (command == commands.BLOCK_STATUS)) && inside export command offset len x
 
--- request k, inside which these offsets lie, is served as far as x asks for it: an entry names it, and one serves x,
--- where x lies inside
+-- request k, inside which these offsets lie, is served at x: an entry names it, and one serves x, where x lies inside
 pub record IsServedAt (within : ℕ → Bool) (entries : List Entry) (k x : ℕ) : Type 0 where
   pub named : Names entries k
   pub covered : IsTrue (within x) → IsTrue (is_served entries k x)
 
--- after these entries request k is served again: atomically though an entry names it, or in part though one serves it
--- atomically
+-- request k is served again after these entries: atomically though one names it, or in part though one serves it whole
 abbrev pub IsAgain : List Entry → ℕ → Option Part → Type 0
 IsAgain before k None = Names before k
 IsAgain before k (Some p) = NamesWhole before k
 
--- the part of request k is empty, leaves the inside of the request, or has an offset that one of the entries before
--- serves
+-- the part of request k is empty, leaves the inside of the request, or has an offset that an earlier entry serves
 abbrev pub IsMisplaced : (within : ℕ → Bool) → List Entry → ℕ → Option Part → Type 0
 IsMisplaced within before k None = ⊥
 IsMisplaced within before k (Some p) =

@@ -1,14 +1,6 @@
 -- What it means that an order of service explains a capture.
 use Rattle.std.specs.Prelude.{ℕ, List, ◌≡◌, Option, Some, None, length, map, slice_get}
-use Rattle.nbd_wire.specs.declared.entry.Entry.{Entry}
-use Rattle.nbd_wire.specs.declared.profile.Profile.{Profile}
-use Rattle.nbd_wire.specs.declared.profile.Profile.TheVariants.{Base}
-use Rattle.nbd_wire.specs.protocol.ExportBytes.{IsWrong, effects}
-use Rattle.nbd_wire.specs.protocol.Marks.{Item, pairs, service_order}
-use Rattle.nbd_wire.specs.protocol.Captures.{Pair}
-use Rattle.nbd_wire.specs.protocol.Reports.{Report, report}
-use Rattle.nbd_wire.specs.protocol.Operations.{Exporting}
-use Rattle.nbd_wire.specs.protocol.Rules.{IsRunOf}
+use Rattle.nbd_wire.specs.{declared.{entry.Entry.Entry, profile.Profile.Profile}, protocol.{ExportBytes.{IsWrong, effects}, Marks.{Item, pairs, service_order}, Captures.Pair, Reports.{Report, report}, Operations.Exporting, Rules.IsRunOf}}
 
 -- what the export held at first: unknown bytes, zeroes, or each of its bytes in order, None where it is unknown
 pub data Start : Type 0 where
@@ -50,7 +42,3 @@ pub record IsExplainedOf (profile : Profile) (capture : List Pair) (order : List
   pub has_order : service_order items ≡ order
   pub fits_image : FitsImage (report items).export initial
   pub reads : HasNoWrongByte (report items) order initial
-
--- the same, of the profile Base
-abbrev pub IsExplained : List Pair → List Entry → Start → Type 0
-IsExplained capture order initial = IsExplainedOf Base capture order initial

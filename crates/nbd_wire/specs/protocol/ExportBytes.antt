@@ -1,12 +1,7 @@
 -- The export's bytes, looked up backwards from an entry of the order of service.
 use Rattle.std.specs.Prelude.{ℕ, List, [], ◌∷◌, ◌≡◌, ◌⊎◌, ◌-◌, ◌==◌, ◌&&◌, Bool, true, false, if◌then◌else◌, Option, Some, None, slice_get, take, IsTrue, is_some}
 use Rattle.nbd_wire.specs.declared.commands.TheConstants as commands
-use Rattle.nbd_wire.specs.declared.entry.Entry.{Entry}
-use Rattle.nbd_wire.specs.declared.entry.Part.{Part}
-use Rattle.nbd_wire.specs.protocol.Entries.{in_part}
-use Rattle.nbd_wire.specs.protocol.Reports.{Asked, Report, asked_at}
-use Rattle.nbd_wire.specs.protocol.Operations.{Outcome, Success, is_change}
-use Rattle.nbd_wire.specs.protocol.Pieces.{byte_at, is_in}
+use Rattle.nbd_wire.specs.{declared.entry.{Entry.Entry, Part.Part}, protocol.{Entries.in_part, Reports.{Asked, Report, asked_at}, Operations.{Outcome, Success, is_change}, Pieces.{byte_at, is_in}}}
 
 -- a numbered request and what became of it; `read` is the byte that its reply gives at an offset
 pub record Effect : Type 0 where
@@ -82,8 +77,7 @@ abbrev pub byte_or_start : Option Effect → (ℕ → Option ℕ) → ℕ → Op
 byte_or_start (Some e) initial x = effect_byte e x
 byte_or_start None initial x = initial x
 
--- the export's byte at x at entry i of the order, counted from 0: what the last change before it left, or else the byte
--- at the start (this project's choice)
+-- the byte at x at entry i of the order, from 0: what the last change left, or the start's (this project's choice)
 abbrev pub byte_before : (ℕ → Option Effect) → List Entry → (ℕ → Option ℕ) → ℕ → ℕ → Option ℕ
 byte_before requests order initial i x = byte_or_start (last_touch requests x (take i order)) initial x
 
@@ -91,8 +85,7 @@ byte_before requests order initial i x = byte_or_start (last_touch requests x (t
 abbrev pub Differs : (byte read : ℕ → Option ℕ) → ℕ → Type 0
 Differs byte read x = (b : ℕ) × (byte x ≡ Some b) × (read x ≡ Some b → ⊥)
 
--- a READ says what the byte at x is, and a BLOCK_STATUS where its reply calls it zero (proto.md, "Request types",
--- "Metadata querying")
+-- a READ says what the byte at x is, as a status that calls it zero (proto.md, "Request types", "Metadata querying")
 abbrev pub GivesByte : Effect → ℕ → Type 0
 GivesByte e x = (e.command ≡ commands.READ) ⊎ (e.command ≡ commands.BLOCK_STATUS) × IsTrue (is_some (e.read x))
 

@@ -1,17 +1,9 @@
 -- The forms of payloads, from what they state to their bytes. Numbers are big-endian.
 use Rattle.std.specs.Prelude.{◌≡◌, ◌≢◌, ℕ, ◌<◌, ◌*◌, ◌^◌, List, [], ◌∷◌, ◌++◌, Option, Some, None, All, length, Bool, true, false}
 use Rattle.byteorder.specs.Endian.{big_bytes}
-use Rattle.nbd_wire.specs.declared.chunks.TheConstants.{OFFSET_DATA, OFFSET_HOLE, ERROR, ERROR_OFFSET}
-use Rattle.nbd_wire.specs.declared.infos.TheConstants.{EXPORT, BLOCK_SIZE}
-use Rattle.nbd_wire.specs.declared.payloads.Info.{Info}
-use Rattle.nbd_wire.specs.declared.payloads.Info.TheVariants.{Export, BlockSize, Other}
-use Rattle.nbd_wire.specs.declared.payloads.Piece.{Piece}
-use Rattle.nbd_wire.specs.declared.payloads.Piece.TheVariants.{Bytes, Hole}
-use Rattle.nbd_wire.specs.declared.payloads.Failure.{Failure}
-use Rattle.nbd_wire.specs.protocol.Contexts.{Context, Extent, Filter, Status}
+use Rattle.nbd_wire.specs.{declared.{chunks.TheConstants.{OFFSET_DATA, OFFSET_HOLE, ERROR, ERROR_OFFSET}, infos.TheConstants.{EXPORT, BLOCK_SIZE}, payloads.{Info.{Info, TheVariants.{Export, BlockSize, Other}}, Piece.{Piece, TheVariants.{Bytes, Hole}}, Failure.Failure}}, protocol.Contexts.{Context, Extent, Filter, Status}}
 
--- INFO: a type and what belongs to it; other types than EXPORT and BLOCK_SIZE may go on as they like (proto.md, "Option
--- reply types")
+-- INFO: a type and what belongs to it; other types than EXPORT and BLOCK_SIZE have any (proto.md, "Option reply types")
 unfoldable pub HasInfoForm : Info → List ℕ → Type 0
 HasInfoForm (Export size flags) bytes =
     (size < 2 ^ 64) × (flags < 2 ^ 16) × (bytes ≡ big_bytes 2 EXPORT ++ big_bytes 8 size ++ big_bytes 2 flags)
@@ -25,8 +17,7 @@ HasInfoForm (Other kind) bytes =
 unfoldable pub HasListedForm : List ℕ → List ℕ → List ℕ → Type 0
 HasListedForm name text bytes = (length name < 2 ^ 32) × (bytes ≡ big_bytes 4 (length name) ++ name ++ text)
 
--- INFO and GO data: a name after its length, and the information asked for after its count, two bytes each (proto.md,
--- "Option types")
+-- INFO and GO data: a name after its length, and infos, two bytes each, after their count (proto.md, "Option types")
 unfoldable pub HasGoForm : List ℕ → ℕ → List ℕ → Type 0
 HasGoForm name count bytes =
     (length name < 2 ^ 32) × (count < 2 ^ 16)
@@ -58,8 +49,7 @@ HasContentForm kind (Hole offset size) payload =
     (kind ≡ OFFSET_HOLE) × (offset < 2 ^ 64) × (0 < size) × (size < 2 ^ 32)
     × (payload ≡ big_bytes 8 offset ++ big_bytes 4 size)
 
--- what goes on after an error chunk's message: an offset where the type has one, and then any bytes (proto.md,
--- "Structured reply types")
+-- what follows an error chunk's message: the type's offset, if any, and any bytes (proto.md, "Structured reply types")
 abbrev pub GoesOn : ℕ → Option ℕ → List ℕ → Type 0
 GoesOn kind None rest = kind ≡ ERROR
 GoesOn kind (Some offset) rest = (kind ≡ ERROR_OFFSET) × (offset < 2 ^ 64)
@@ -77,8 +67,7 @@ abbrev pub with_ids : List ℕ → List ℕ
 with_ids [] = []
 with_ids (id ∷ ids) = big_bytes 4 id ++ with_ids ids
 
--- the payload of a BLOCK_STATUS with PAYLOAD_LEN: a length, and ids to the end (this project's choice, read from libnbd
--- and qemu)
+-- the payload of a BLOCK_STATUS with PAYLOAD_LEN: a length, and ids (this project's choice, read from libnbd and qemu)
 unfoldable pub HasFilterForm : Filter → List ℕ → Type 0
 HasFilterForm filter bytes =
     (filter.length < 2 ^ 64) × All (λ (id : ℕ). id < 2 ^ 32) filter.ids

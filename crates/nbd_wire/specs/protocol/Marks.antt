@@ -1,16 +1,8 @@
--- A capture with the marks of its messages: where each starts and completes, and where requests or parts of them are
--- served.
+-- A capture with the marks of its messages: where each starts and completes, and where requests or parts are served.
 use Rattle.std.specs.Prelude.{ℕ, List, [], ◌∷◌, ◌++◌, map, flat_map, ◌≡◌, if◌then◌else◌}
-use Rattle.nbd_wire.specs.declared.message.Side.{Side}
-use Rattle.nbd_wire.specs.declared.message.Side.TheVariants.{Client, Server}
-use Rattle.nbd_wire.specs.declared.message.Message.{Message}
-use Rattle.nbd_wire.specs.declared.entry.Entry.{Entry}
-use Rattle.nbd_wire.specs.protocol.Encoding.{enc}
-use Rattle.nbd_wire.specs.protocol.Sides.{same_side}
-use Rattle.nbd_wire.specs.protocol.Captures.{Pair}
+use Rattle.nbd_wire.specs.{declared.{message.{Side.{Side, TheVariants.{Client, Server}}, Message.Message}, entry.Entry.Entry}, protocol.{Encoding.enc, Sides.same_side, Captures.Pair}}
 
--- a byte of a side, or a mark between two bytes: a message starts, a message completes, or the
--- server carries out what an entry names (this project's choice)
+-- a byte of a side, or a mark: a message starts or completes, or the server serves an entry (this project's choice)
 pub data Item : Type 0 where
   Byte : (side : Side) (byte : ℕ) → Item
   Starts : (side : Side) (message : Message) → Item
@@ -55,8 +47,7 @@ of_side s (Serves e ∷ items) = of_side s items
 abbrev pub block : Side → Message → List Item
 block s m = Starts s m ∷ map (λ b. Byte s b) (enc m) ++ Completes s m ∷ []
 
--- a side's bytes and marks, taken alone, are whole messages, one after the other, and after them
--- bytes of no completed message
+-- a side's bytes and marks, taken alone, are whole messages one after the other, then bytes of no completed message
 pub record IsSided (s : Side) (items : List Item) (rest : List ℕ) : Type 0 where
   pub messages : List Message
   pub blocks : of_side s items ≡ flat_map (block s) messages ++ map (λ b. Byte s b) rest
@@ -66,8 +57,7 @@ abbrev pub IsByteOf : Side → Item → Type 0
 IsByteOf s (Byte t b) = s ≡ t
 IsByteOf s _ = ⊥
 
--- which items may stand beside each other: a message starts directly before its first byte and
--- completes directly after its last
+-- which items may stand side by side: a message starts just before its first byte and completes just after its last
 abbrev pub MayFollow : Item → Item → Type 0
 MayFollow (Starts s m) next = IsByteOf s next
 MayFollow (Byte s b) (Completes t m) = s ≡ t

@@ -1,19 +1,10 @@
 -- A numbered request, its replies, and what became of it.
 use Rattle.std.specs.Prelude.{ℕ, List, [], ◌∷◌, ◌++◌, ◌+◌, Bool, true, false, Option, Some, None, length, not, ◌&&◌, ◌||◌, ◌==◌, nat_le, if◌then◌else◌, IsTrue, is_some}
-use Rattle.nbd_wire.specs.declared.message.Message.{Message}
-use Rattle.nbd_wire.specs.declared.profile.Profile.{Profile}
-use Rattle.nbd_wire.specs.declared.profile.Profile.TheVariants.{Base, Wide}
-use Rattle.nbd_wire.specs.declared.message.Message.TheVariants.{Simple, Chunk, ExtendedChunk}
-use Rattle.nbd_wire.specs.declared.payloads.Piece.{Piece}
+use Rattle.nbd_wire.specs.{declared.{message.Message.{Message, TheVariants.{Simple, Chunk, ExtendedChunk}}, profile.Profile.{Profile, TheVariants.{Base, Wide}}, payloads.Piece.Piece, sizes.Sizes.Sizes}, protocol.{Contexts.{Context, Filter, are_once, has_id}, Sizes.breaks_sizes, Flags.{has, has_only}, Pieces.{piece_of, is_in, byte_at}}}
 use Rattle.nbd_wire.specs.declared.chunks.TheConstants as chunks
 use Rattle.nbd_wire.specs.declared.command_flags.TheConstants as command_flags
 use Rattle.nbd_wire.specs.declared.commands.TheConstants as commands
 use Rattle.nbd_wire.specs.declared.transmission.TheConstants as transmission
-use Rattle.nbd_wire.specs.declared.sizes.Sizes.{Sizes}
-use Rattle.nbd_wire.specs.protocol.Contexts.{Context, Filter, are_once, has_id}
-use Rattle.nbd_wire.specs.protocol.Sizes.{breaks_sizes}
-use Rattle.nbd_wire.specs.protocol.Flags.{has, has_only}
-use Rattle.nbd_wire.specs.protocol.Pieces.{piece_of, is_in, byte_at}
 
 -- the export of the session: its size in bytes and its transmission flags
 pub record Exporting : Type 0 where
@@ -92,16 +83,14 @@ Covers e pieces = (x : ℕ) → IsTrue (is_in e.offset e.length x) → IsTrue (i
 abbrev pub asks_status : Operation → Bool
 asks_status e = (e.command == commands.BLOCK_STATUS) && not (length e.contexts == 0)
 
--- the type of a numbered request is one that this project follows; BLOCK_STATUS is one only where a context is in force
--- (proto.md, "Request types", "Metadata querying")
+-- this project follows the type, BLOCK_STATUS with a context in force (proto.md, "Request types", "Metadata querying")
 abbrev pub is_known : Operation → Bool
 is_known e =
     (e.command == commands.READ) || (e.command == commands.WRITE) || (e.command == commands.FLUSH)
     || (e.command == commands.TRIM) || (e.command == commands.CACHE) || (e.command == commands.WRITE_ZEROES)
     || asks_status e
 
--- in this profile a server may serve requests of this type while it sends their reply, message by message: READs in
--- Wide (this project's choice)
+-- in this profile a server may serve such requests while it sends the reply: READs in Wide (this project's choice)
 abbrev pub is_chunked : Profile → (command : ℕ) → Bool
 is_chunked Base command = false
 is_chunked Wide command = command == commands.READ
@@ -137,8 +126,7 @@ takes_filter export contexts (Some filter) =
     has export transmission.BLOCK_STATUS_PAYLOAD && are_once (has_id contexts) filter.ids
 takes_filter export contexts None = false
 
--- PAYLOAD_LEN is a flag of a WRITE with an extended header, and of a request with a filter that a client may send (this
--- project's choice)
+-- PAYLOAD_LEN is a flag of a WRITE with an extended header, and with a filter that may be sent (this project's choice)
 abbrev pub may_carry : (export : ℕ) → Operation → Bool
 may_carry export e = (e.extended && (e.command == commands.WRITE)) || takes_filter export e.contexts e.filter
 

@@ -1,27 +1,16 @@
 -- The turns of negotiation (proto.md, "Fixed newstyle negotiation", "Option types", "Option reply types").
-use Rattle.std.specs.Prelude.{ℕ, List, [], ◌∷◌, ◌++◌, ◌==◌, ◌&&◌, ◌||◌, not, Bool, true, false, if◌then◌else◌, Option, Some, None, length, is_some}
-use Rattle.std.specs.Str.{bytes_eq}
-use Rattle.nbd_wire.specs.declared.message.Side.{Side}
-use Rattle.nbd_wire.specs.declared.message.Side.TheVariants.{Client, Server}
-use Rattle.nbd_wire.specs.declared.message.Message.{Message}
-use Rattle.nbd_wire.specs.declared.message.Message.TheVariants.{Greeting, ClientFlags, Choice, Answer, Exported}
-use Rattle.nbd_wire.specs.declared.payloads.Info.{Info}
-use Rattle.nbd_wire.specs.declared.payloads.Info.TheVariants.{Export}
+use Rattle.std.specs.{Prelude.{ℕ, List, [], ◌∷◌, ◌++◌, ◌==◌, ◌&&◌, ◌||◌, not, Bool, true, false, if◌then◌else◌, Option, Some, None, length, is_some}, Str.bytes_eq}
+use Rattle.nbd_wire.specs.declared.{message.{Side.{Side, TheVariants.{Client, Server}}, Message.{Message, TheVariants.{Greeting, ClientFlags, Choice, Answer, Exported}}}, payloads.Info.{Info, TheVariants.Export}}
+use Rattle.nbd_wire.specs.protocol.{Contexts.{Context, Selection}, Payloads.{context_of, info_of, is_go, name_in, queries_of}, Operations.Exporting, Flags.has, States.{Phase, Greet, Flags, Choosing, Naming, Aborting, Answering, Ended, Transmission}}
 use Rattle.nbd_wire.specs.declared.answers.TheConstants as answers
 use Rattle.nbd_wire.specs.declared.options.TheConstants as options
-use Rattle.nbd_wire.specs.protocol.Contexts.{Context, Selection}
-use Rattle.nbd_wire.specs.protocol.Payloads.{context_of, info_of, is_go, name_in, queries_of}
-use Rattle.nbd_wire.specs.protocol.Operations.{Exporting}
-use Rattle.nbd_wire.specs.protocol.Flags.{has}
-use Rattle.nbd_wire.specs.protocol.States.{Phase, Greet, Flags, Choosing, Naming, Aborting, Answering, Ended, Transmission}
 
 -- the kind of an option reply is an error (proto.md, "Option reply types")
 abbrev pub is_error : ℕ → Bool
 is_error kind = has kind answers.ERROR
 
--- the data of an option has its form; EXPORT_NAME and ABORT take any data; an option that is not listed here is not
--- followed and counts as malformed (proto.md, "Option types"; not following it, and that EXTENDED_HEADERS has no data,
--- is this project's choice)
+-- the data of an option has its form; EXPORT_NAME and ABORT take any; an option that is not listed here is not followed
+-- and malformed (proto.md, "Option types"; that, and that EXTENDED_HEADERS has no data, is this project's choice)
 unfoldable pub is_proper_option : ℕ → List ℕ → Bool
 is_proper_option option payload =
     if (option == options.EXPORT_NAME) || (option == options.ABORT) then true
@@ -52,8 +41,7 @@ takes_contexts option payload =
     (option == options.LIST_META_CONTEXT)
     || ((option == options.SET_META_CONTEXT) && not (asks_nothing (queries_of payload)))
 
--- what is selected once an option is chosen: SET_META_CONTEXT replaces what an earlier one selected, whatever its
--- answer (proto.md, "Option types")
+-- the selection once an option is chosen: SET_META_CONTEXT replaces it, whatever its answer (proto.md, "Option types")
 abbrev pub selection_at : (id : ℕ) (payload : List ℕ) → Selection → Selection
 selection_at id payload selection =
     if id == options.SET_META_CONTEXT then

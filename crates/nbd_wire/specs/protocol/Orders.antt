@@ -2,8 +2,7 @@
 -- request which offsets lie inside it, and `due` of a request and an offset how many requests had completed when it had
 -- to be served there; a number that is no offset inside stands for the request itself.
 use Rattle.std.specs.Prelude.{ℕ, List, ◌≡◌, ◌+◌, ◌<◌, ◌≤◌, ◌⊎◌, Bool, Option, Some, IsTrue, drop, slice_get, take}
-use Rattle.nbd_wire.specs.declared.entry.Entry.{Entry}
-use Rattle.nbd_wire.specs.protocol.Entries.{HasBadPart, IsServedAt, IsTwice, Names, is_served}
+use Rattle.nbd_wire.specs.{declared.entry.Entry.Entry, protocol.Entries.{HasBadPart, IsServedAt, IsTwice, Names, is_served}}
 
 -- the least number with the property
 abbrev pub IsFirst : (ℕ → Type 0) → ℕ → Type 0
@@ -25,8 +24,7 @@ IsBadPart inside order i = (e : Entry) × (slice_get order i ≡ Some e) × HasB
 abbrev pub IsBad : ℕ → (inside : ℕ → ℕ → Bool) → List Entry → ℕ → Type 0
 IsBad count inside order i = NamesNone count order i ⊎ NamesAgain order i ⊎ IsBadPart inside order i
 
--- entry i or a later one serves a request at an offset that was due before the request of entry i had completed; an
--- entry without a part serves each offset
+-- from entry i on one serves a request where it was due before i's request completed; without a part, at each offset
 abbrev pub IsLate : (due : ℕ → ℕ → Option ℕ) → List Entry → ℕ → Type 0
 IsLate due order i = (e : Entry) × (k : ℕ) × (x : ℕ) × (n : ℕ) × (slice_get order i ≡ Some e)
     × IsTrue (is_served (drop i order) k x) × (due k x ≡ Some n) × (n < e.request)

@@ -1,12 +1,6 @@
 -- What the payloads of options, of option replies and of chunks state. Numbers are big-endian.
-use Rattle.std.specs.Prelude.{ℕ, zero, suc, List, [], Option, Some, None, length, ◌∷◌, ◌==◌, ◌&&◌, ◌||◌, ◌+◌, ◌*◌, ◌/◌, ◌%◌, not, nat_le, if◌then◌else◌, take, drop, Bool, true, false}
-use Rattle.std.specs.List.{list_any}
-use Rattle.nbd_wire.specs.declared.payloads.Info.{Info}
-use Rattle.nbd_wire.specs.declared.payloads.Info.TheVariants.{Export, BlockSize, Other}
-use Rattle.nbd_wire.specs.declared.payloads.Piece.{Piece}
-use Rattle.nbd_wire.specs.declared.payloads.Piece.TheVariants.{Bytes, Hole}
-use Rattle.nbd_wire.specs.declared.payloads.Failure.{Failure}
-use Rattle.nbd_wire.specs.protocol.Contexts.{Context, Extent, Filter, Status}
+use Rattle.std.specs.{Prelude.{ℕ, zero, suc, List, [], Option, Some, None, length, ◌∷◌, ◌==◌, ◌&&◌, ◌||◌, ◌+◌, ◌*◌, ◌/◌, ◌%◌, not, nat_le, if◌then◌else◌, take, drop, Bool, true, false}, List.list_any}
+use Rattle.nbd_wire.specs.{declared.payloads.{Info.{Info, TheVariants.{Export, BlockSize, Other}}, Piece.{Piece, TheVariants.{Bytes, Hole}}, Failure.Failure}, protocol.Contexts.{Context, Extent, Filter, Status}}
 use Rattle.byteorder.specs.Endian.{big_number}
 use Rattle.nbd_wire.specs.declared.chunks.TheConstants as chunks
 use Rattle.nbd_wire.specs.declared.infos.TheConstants as infos
@@ -15,8 +9,7 @@ use Rattle.nbd_wire.specs.declared.infos.TheConstants as infos
 abbrev pub number_at : ℕ → ℕ → List ℕ → ℕ
 number_at place n bytes = big_number n (drop place bytes)
 
--- an INFO answer: EXPORT (0) with a size and flags, BLOCK_SIZE (3) with three sizes, or any other type
--- (proto.md, "Option reply types")
+-- an INFO: EXPORT (0) with size and flags, BLOCK_SIZE (3) with three sizes, or another (proto.md, "Option reply types")
 unfoldable pub info_of : List ℕ → Option Info
 info_of bytes =
     let kind : ℕ = number_at 0 2 bytes in
@@ -32,8 +25,7 @@ info_of bytes =
 unfoldable pub is_listed : List ℕ → Bool
 is_listed bytes = nat_le 4 (length bytes) && nat_le (4 + number_at 0 4 bytes) (length bytes)
 
--- the name in data that begin with a name's length and the name; none where they are too short (proto.md, "Option
--- types")
+-- the name in data that begin with a name's length and the name; none where too short (proto.md, "Option types")
 abbrev pub name_in : List ℕ → List ℕ
 name_in bytes = if is_listed bytes then take (number_at 0 4 bytes) (drop 4 bytes) else []
 
@@ -98,8 +90,7 @@ ids_in (suc n) bytes = number_at 0 4 bytes ∷ ids_in n (drop 4 bytes)
 abbrev pub ids_of : List ℕ → List ℕ
 ids_of bytes = ids_in (length bytes / 4) bytes
 
--- the payload of a BLOCK_STATUS with PAYLOAD_LEN: a length, and ids to the end (this project's choice, read from libnbd
--- and qemu)
+-- the payload of a BLOCK_STATUS with PAYLOAD_LEN: a length, and ids (this project's choice, read from libnbd and qemu)
 unfoldable pub filter_of : List ℕ → Option Filter
 filter_of bytes =
     let rest : List ℕ = drop 8 bytes in
@@ -122,9 +113,8 @@ extents_of true bytes = extents_in 8 (length bytes / 16) bytes
 abbrev pub has_empty : List Extent → Bool
 has_empty extents = list_any (λ (x : Extent). x.length == 0) extents
 
--- a BLOCK_STATUS chunk: an id, and one or more descriptors to the end, of which none is empty (proto.md, "Structured
--- reply types"); a BLOCK_STATUS_EXT chunk: an id, how many descriptors come, and these (this project's choice: proto.md
--- has the type's number alone)
+-- a BLOCK_STATUS chunk: an id, and one or more descriptors, none of them empty (proto.md, "Structured reply types"); a
+-- BLOCK_STATUS_EXT chunk: an id, a count of descriptors, and these (this project's choice: proto.md has its number)
 unfoldable pub status_of : (extended : Bool) → List ℕ → Option Status
 status_of false bytes =
     let rest : List ℕ = drop 4 bytes in

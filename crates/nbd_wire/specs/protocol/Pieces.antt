@@ -1,10 +1,6 @@
 -- What a READ was answered, in pieces, and what they give at an offset (proto.md, "Structured reply types").
 use Rattle.std.specs.Prelude.{ℕ, List, [], ◌∷◌, ◌≡◌, ◌+◌, ◌-◌, Bool, ◌&&◌, nat_le, nat_lt, if◌then◌else◌, Option, Some, None, length, IsTrue, slice_index}
-use Rattle.nbd_wire.specs.declared.message.Message.{Message}
-use Rattle.nbd_wire.specs.declared.message.Message.TheVariants.{Simple, Chunk, ExtendedChunk}
-use Rattle.nbd_wire.specs.declared.payloads.Piece.{Piece}
-use Rattle.nbd_wire.specs.declared.payloads.Piece.TheVariants.{Bytes, Hole}
-use Rattle.nbd_wire.specs.protocol.Payloads.{content_of}
+use Rattle.nbd_wire.specs.{declared.{message.Message.{Message, TheVariants.{Simple, Chunk, ExtendedChunk}}, payloads.Piece.{Piece, TheVariants.{Bytes, Hole}}}, protocol.Payloads.content_of}
 
 -- the bytes of a simple reply as a piece: none where it has none
 abbrev pub simple_piece : ℕ → List ℕ → List Piece

@@ -1,14 +1,6 @@
 -- What a run says of its requests, whatever the moments of their service.
 use Rattle.std.specs.Prelude.{ℕ, zero, suc, List, [], ◌∷◌, ◌++◌, Bool, false, Option, Some, None, length, slice_get, if◌then◌else◌, nat_le}
-use Rattle.nbd_wire.specs.declared.profile.Profile.{Profile}
-use Rattle.nbd_wire.specs.declared.payloads.Piece.{Piece}
-use Rattle.nbd_wire.specs.protocol.Marks.{Item, Starts, Completes}
-use Rattle.nbd_wire.specs.protocol.Entries.{inside_of}
-use Rattle.nbd_wire.specs.protocol.Operations.{Operation, Exporting, Outcome, is_outside, outcome, pieces, proper_on, is_chunked}
-use Rattle.nbd_wire.specs.protocol.Statuses.{zeroes}
-use Rattle.nbd_wire.specs.protocol.Rules.{is_reply_to, complete, ends_at}
-use Rattle.nbd_wire.specs.protocol.Pieces.{is_in}
-use Rattle.nbd_wire.specs.protocol.States.{Core, Shown, export_in, start}
+use Rattle.nbd_wire.specs.{declared.{profile.Profile.Profile, payloads.Piece.Piece}, protocol.{Marks.{Item, Starts, Completes}, Entries.inside_of, Operations.{Operation, Exporting, Outcome, is_outside, outcome, pieces, proper_on, is_chunked}, Statuses.zeroes, Rules.{is_reply_to, complete, ends_at}, Pieces.is_in, States.{Core, Shown, export_in, start}}}
 
 -- the numbered requests of a run
 abbrev pub operations_of : List Item → List Operation

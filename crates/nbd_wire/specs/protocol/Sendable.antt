@@ -1,11 +1,8 @@
 -- Which messages may stand in a run: those whose fields fit their widths.
 use Rattle.std.specs.Prelude.{ℕ, List, ◌≡◌, ◌<◌, ◌^◌, ◌==◌, ◌||◌, Bool, if◌then◌else◌, length}
-use Rattle.nbd_wire.specs.declared.message.Message.{Message}
-use Rattle.nbd_wire.specs.declared.message.Message.TheVariants.{Greeting, ClientFlags, Choice, Answer, Exported, Request, Simple, Chunk, ExtendedRequest, ExtendedChunk}
+use Rattle.nbd_wire.specs.{declared.message.Message.{Message, TheVariants.{Greeting, ClientFlags, Choice, Answer, Exported, Request, Simple, Chunk, ExtendedRequest, ExtendedChunk}}, protocol.{Flags.has, Encoding.AreBytes}}
 use Rattle.nbd_wire.specs.declared.command_flags.TheConstants as command_flags
 use Rattle.nbd_wire.specs.declared.commands.TheConstants as commands
-use Rattle.nbd_wire.specs.protocol.Flags.{has}
-use Rattle.nbd_wire.specs.protocol.Encoding.{AreBytes}
 
 -- a payload of bytes whose length has four bytes (the limit on a simple reply is this project's choice)
 abbrev pub IsPayload : List ℕ → Type 0

@@ -1,9 +1,6 @@
 -- The two sides, and which of them sends a message.
 use Rattle.std.specs.Prelude.{Bool, true, false}
-use Rattle.nbd_wire.specs.declared.message.Side.{Side}
-use Rattle.nbd_wire.specs.declared.message.Side.TheVariants.{Client, Server}
-use Rattle.nbd_wire.specs.declared.message.Message.{Message}
-use Rattle.nbd_wire.specs.declared.message.Message.TheVariants.{ClientFlags, Choice, Request, ExtendedRequest}
+use Rattle.nbd_wire.specs.declared.message.{Side.{Side, TheVariants.{Client, Server}}, Message.{Message, TheVariants.{ClientFlags, Choice, Request, ExtendedRequest}}}
 
 -- who sends the message (proto.md, "Newstyle negotiation", "Transmission")
 abbrev pub side : Message → Side

@@ -3,13 +3,8 @@ use Rattle.std.specs.Prelude.{ℕ, zero, suc, List, ◌==◌, ◌&&◌, ◌||◌
 use Rattle.nbd_wire.specs.declared.answers.TheConstants as answers
 use Rattle.nbd_wire.specs.declared.commands.TheConstants as commands
 use Rattle.nbd_wire.specs.declared.infos.TheConstants as infos
-use Rattle.nbd_wire.specs.declared.limits.TheConstants.{LEAST_SIZE, NO_LARGEST_SIZE, PREFERRED_SIZE}
+use Rattle.nbd_wire.specs.{declared.{limits.TheConstants.{LEAST_SIZE, NO_LARGEST_SIZE, PREFERRED_SIZE}, payloads.Info.{Info, TheVariants.BlockSize}, sizes.{Sizes.Sizes, Sizing.Sizing}}, protocol.Payloads.{behind_name, info_of, is_go, number_at}}
 use Rattle.nbd_wire.specs.declared.options.TheConstants as options
-use Rattle.nbd_wire.specs.declared.payloads.Info.{Info}
-use Rattle.nbd_wire.specs.declared.payloads.Info.TheVariants.{BlockSize}
-use Rattle.nbd_wire.specs.declared.sizes.Sizes.{Sizes}
-use Rattle.nbd_wire.specs.declared.sizes.Sizing.{Sizing}
-use Rattle.nbd_wire.specs.protocol.Payloads.{behind_name, info_of, is_go, number_at}
 
 -- a server may announce these sizes: the least and the preferred one are powers of 2 (one bit of them is set), the
 -- least is 65,536 at most, the preferred one neither below 512 nor below the least, and the largest is not 0 (proto.md,
@@ -41,8 +36,7 @@ asks_sizes bytes =
 abbrev pub no_sizing : Sizing
 no_sizing = record { asked = false; told = None }
 
--- once an option is chosen: GO alone can bring sizes in force, and what came before is forgotten (proto.md, "Size
--- constraints")
+-- once an option is chosen: GO alone can bring sizes in force, earlier ones are gone (proto.md, "Size constraints")
 abbrev pub sizing_at : (id : ℕ) (payload : List ℕ) → Sizing
 sizing_at id payload = record { asked = (id == options.GO) && asks_sizes payload; told = None }
 
@@ -73,8 +67,7 @@ is_too_long sizes command length =
     ((command == commands.READ) || (command == commands.WRITE))
     && not (sizes.largest == NO_LARGEST_SIZE) && nat_lt sizes.largest length
 
--- a range breaks the sizes, if there are some: its offset or its length is no multiple of the least, or a payload is
--- too long (proto.md, "Size constraints")
+-- a range breaks the sizes: no multiples of the least, or a payload that is too long (proto.md, "Size constraints")
 abbrev pub breaks_sizes : Option Sizes → (command offset length : ℕ) → Bool
 breaks_sizes None command offset length = false
 breaks_sizes (Some sizes) command offset length =

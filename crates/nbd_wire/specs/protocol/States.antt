@@ -1,13 +1,6 @@
 -- What the completed messages of a session have led to.
 use Rattle.std.specs.Prelude.{ℕ, zero, suc, List, [], ◌∷◌, ◌++◌, ◌==◌, ◌&&◌, not, Bool, false, if◌then◌else◌, Option, Some, None, length}
-use Rattle.nbd_wire.specs.declared.message.Message.{Message}
-use Rattle.nbd_wire.specs.declared.entry.Entry.{Entry}
-use Rattle.nbd_wire.specs.declared.profile.Profile.{Profile}
-use Rattle.nbd_wire.specs.declared.profile.Profile.TheVariants.{Base}
-use Rattle.nbd_wire.specs.protocol.Contexts.{Context, Selection, no_selection}
-use Rattle.nbd_wire.specs.declared.sizes.Sizing.{Sizing}
-use Rattle.nbd_wire.specs.protocol.Operations.{Exporting, Operation, is_finished}
-use Rattle.nbd_wire.specs.protocol.Sizes.{no_sizing}
+use Rattle.nbd_wire.specs.{declared.{message.Message.Message, entry.Entry.Entry, profile.Profile.{Profile, TheVariants.Base}, sizes.Sizing.Sizing}, protocol.{Contexts.{Context, Selection, no_selection}, Operations.{Exporting, Operation, is_finished}, Sizes.no_sizing}}
 
 -- a range of a READ that a message of its reply showed, and how many numbered requests had completed when that had come
 pub record Shown : Type 0 where

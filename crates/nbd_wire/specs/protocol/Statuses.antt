@@ -1,17 +1,9 @@
 -- What the reply to a BLOCK_STATUS says of its range (proto.md, "Structured reply types").
-use Rattle.std.specs.Prelude.{ℕ, List, [], ◌∷◌, ◌++◌, ◌+◌, ◌-◌, ◌==◌, ◌&&◌, ◌||◌, Bool, true, false, not, min, codes, bytes_eq, if◌then◌else◌, option_to_list, take}
-use Rattle.std.specs.List.{list_any, flat_map, list_all}
-use Rattle.nbd_wire.specs.declared.message.Message.{Message}
-use Rattle.nbd_wire.specs.declared.message.Message.TheVariants.{Chunk, ExtendedChunk}
+use Rattle.std.specs.{Prelude.{ℕ, List, [], ◌∷◌, ◌++◌, ◌+◌, ◌-◌, ◌==◌, ◌&&◌, ◌||◌, Bool, true, false, not, min, codes, bytes_eq, if◌then◌else◌, option_to_list, take}, List.{list_any, flat_map, list_all}}
+use Rattle.nbd_wire.specs.{declared.{message.Message.{Message, TheVariants.{Chunk, ExtendedChunk}}, payloads.Piece.{Piece, TheVariants.Hole}}, protocol.{Contexts.{Context, Extent, Status, is_left_out}, Payloads.status_of, Flags.has, Operations.{Exporting, Operation, is_proper}}}
 use Rattle.nbd_wire.specs.declared.chunks.TheConstants as chunks
-use Rattle.nbd_wire.specs.protocol.Contexts.{Context, Extent, Status, is_left_out}
-use Rattle.nbd_wire.specs.protocol.Payloads.{status_of}
 use Rattle.nbd_wire.specs.declared.commands.TheConstants as commands
-use Rattle.nbd_wire.specs.declared.payloads.Piece.{Piece}
-use Rattle.nbd_wire.specs.declared.payloads.Piece.TheVariants.{Hole}
 use Rattle.nbd_wire.specs.declared.states.TheConstants as states
-use Rattle.nbd_wire.specs.protocol.Flags.{has}
-use Rattle.nbd_wire.specs.protocol.Operations.{Exporting, Operation, is_proper}
 
 -- the status in a message, where it is a status chunk
 abbrev pub status_in : Message → List Status
@@ -52,8 +44,7 @@ abbrev pub is_allocation : List Context → ℕ → Bool
 is_allocation contexts id =
     list_any (λ (c : Context). (c.id == id) && bytes_eq c.name (codes "base:allocation")) contexts
 
--- what extents call zero that follow one another from an offset on, as far as so many bytes go (proto.md, "Metadata
--- querying")
+-- what extents in a row from an offset on call zero, as far as so many bytes go (proto.md, "Metadata querying")
 abbrev pub zeroes_in : (offset size : ℕ) → List Extent → List Piece
 zeroes_in offset size [] = []
 zeroes_in offset size (x ∷ extents) =

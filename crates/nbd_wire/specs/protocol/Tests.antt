@@ -1,6 +1,5 @@
--- Lists of tests. What is refused of a message is a list at the last byte of its head and one at its last byte: in each
--- line a fault and its test, and behind `else` the next line. The first line whose test holds names the fault; a list
--- without a hit is None.
+-- Lists of tests of a message, one at the last byte of its head and one at its last byte: in each line a fault and its
+-- test, behind `else` the next line. The first line whose test holds names the fault; a list without a hit is None.
 use Rattle.std.specs.Prelude.{Bool, true, false, Option, Some}
 use Rattle.nbd_wire.specs.declared.fault.WireFault.{WireFault}
 

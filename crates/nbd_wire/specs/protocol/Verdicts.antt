@@ -1,12 +1,6 @@
 -- The tests that part a yes from a no, on the report of a run, and what they answer with.
 use Rattle.std.specs.Prelude.{ℕ, List, Bool, true, false, not, ◌||◌, length, count_by}
-use Rattle.nbd_wire.specs.declared.entry.Entry.{Entry}
-use Rattle.nbd_wire.specs.declared.profile.Profile.{Profile}
-use Rattle.nbd_wire.specs.declared.profile.Profile.TheVariants.{Base, Wide}
-use Rattle.nbd_wire.specs.protocol.Explains.{FitsImage, HasNoWrongByte, Start}
-use Rattle.nbd_wire.specs.protocol.Orders.{HasNoOrderFault}
-use Rattle.nbd_wire.specs.protocol.Reports.{Asked, Report, due_in, inside_in}
-use Rattle.nbd_wire.specs.protocol.Operations.{Outcome, Pending}
+use Rattle.nbd_wire.specs.{declared.{entry.Entry.Entry, profile.Profile.{Profile, TheVariants.{Base, Wide}}}, protocol.{Explains.{FitsImage, HasNoWrongByte, Start}, Orders.HasNoOrderFault, Reports.{Asked, Report, due_in, inside_in}, Operations.{Outcome, Pending}}}
 
 -- the order has no fault for the requests of the report, in the profile
 abbrev pub IsFaultless : Profile → Report → List Entry → Type 0

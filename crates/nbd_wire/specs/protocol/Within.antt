@@ -1,10 +1,6 @@
 -- What completes in a run within the bytes that it begins with.
 use Rattle.std.specs.Prelude.{ℕ, zero, suc, List, [], ◌∷◌, ◌++◌, ◌≡◌, length}
-use Rattle.nbd_wire.specs.declared.message.Message.{Message}
-use Rattle.nbd_wire.specs.declared.profile.Profile.{Profile}
-use Rattle.nbd_wire.specs.protocol.Marks.{Item, Byte, Completes, pairs}
-use Rattle.nbd_wire.specs.protocol.Captures.{Pair}
-use Rattle.nbd_wire.specs.protocol.Rules.{IsRunOf}
+use Rattle.nbd_wire.specs.{declared.{message.Message.Message, profile.Profile.Profile}, protocol.{Marks.{Item, Byte, Completes, pairs}, Captures.Pair, Rules.IsRunOf}}
 
 -- the messages that complete within the first n bytes, in order
 abbrev pub within : ℕ → List Item → List Message

@@ -1,8 +1,7 @@
 //! A capture that is read whole: what a caller can prove of its chunks, and what readers give it that fail or never end.
 
 ghost use Rattle.std.specs.Prelude.{IfErr, IfOk, IfSome, ◌≤◌, length};
-ghost use Rattle.nbd_capture.specs.Capture.{IsCaptureText, chunks_of};
-ghost use Rattle.nbd_capture.specs.Reading.{NamesFirstBadLine};
+ghost use Rattle.nbd_capture.specs.{Capture.{IsCaptureText, chunks_of}, Reading.NamesFirstBadLine};
 
 use nbd_capture::{CaptureFault, CaptureReader};
 use nbd_wire::Side;

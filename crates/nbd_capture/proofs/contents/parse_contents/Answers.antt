@@ -1,5 +1,4 @@
-use Rattle.nbd_capture.proofs.Common.{arith, err_from_is_err_and, held, part, subst, sym, [], Seen}
-use Rattle.nbd_capture.proofs.ContentsTextLemmas.{one_reading, only_memory}
+use Rattle.nbd_capture.proofs.{Common.{arith, err_from_is_err_and, held, part, subst, sym, [], Seen}, ContentsTextLemmas.{one_reading, only_memory}}
 use Rattle.nbd_capture.proofs.contents.parse_contents.Goals as goal
 
 pub returns-in_err-size-clause-only : goal.returns-in_err-size-clause-only

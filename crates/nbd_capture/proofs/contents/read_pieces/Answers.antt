@@ -1,8 +1,6 @@
-use Rattle.nbd_capture.proofs.Common.{◌≡◌, arith, refl, subst, sym, ◌∙◌, Seen, up_to, held_from}
+use Rattle.nbd_capture.proofs.{Common.{◌≡◌, arith, refl, subst, sym, ◌∙◌, Seen, up_to, held_from}, ContentsTextLemmas.{bad_line, line_seen, no_rest, shorter, short_text, some_rest, told_all, whole_text}, contents.read_pieces.Goals.{then-not-is_empty-via-then-not-is_empty, then-not-is_empty-via-else-not-is_empty+then-at-size}}
 use Rattle.nbd_export.specs.Extents.{byte_of, size_of}
 use Rattle.nbd_export.proofs.HeldLemmas.{length-held_from}
-use Rattle.nbd_capture.proofs.ContentsTextLemmas.{bad_line, line_seen, no_rest, shorter, short_text, some_rest, told_all, whole_text}
-use Rattle.nbd_capture.proofs.contents.read_pieces.Goals.{then-not-is_empty-via-then-not-is_empty, then-not-is_empty-via-else-not-is_empty+then-at-size}
 use Rattle.nbd_capture.proofs.contents.read_pieces.Goals as goal
 
 pub loop-line-init : goal.loop-line-init

@@ -1,6 +1,4 @@
-use Rattle.nbd_capture.proofs.Common.{arith, nothing}
-use Rattle.nbd_capture.proofs.ContentsLineLemmas.{loud, no_beginning, silent}
-use Rattle.nbd_capture.proofs.ContentsTextLemmas.{bad_line, line_seen, none_seen, shorter, short_text}
+use Rattle.nbd_capture.proofs.{Common.{arith, nothing}, ContentsLineLemmas.{loud, no_beginning, silent}, ContentsTextLemmas.{bad_line, line_seen, none_seen, shorter, short_text}}
 use Rattle.nbd_capture.proofs.contents.read_size.Goals as goal
 
 pub loop-line-init : goal.loop-line-init

@@ -1,6 +1,4 @@
-use Rattle.nbd_capture.proofs.Common.{◌≡◌, ◌∙◌, ◌+◌, ◌≤◌, ◌<◌, length, subst, arith, told, known, AreDigits}
-use Rattle.nbd_capture.proofs.HeldLemmas.{laid_here, length-known, known_at}
-use Rattle.nbd_capture.proofs.FormLemmas.{same_bytes}
+use Rattle.nbd_capture.proofs.{Common.{◌≡◌, ◌∙◌, ◌+◌, ◌≤◌, ◌<◌, length, subst, arith, told, known, AreDigits}, HeldLemmas.{laid_here, length-known, known_at}, FormLemmas.same_bytes}
 use Rattle.nbd_export.specs.Extents.{byte_of, size_of}
 use Rattle.nbd_export.specs.Ranges as ranges
 use Rattle.nbd_capture.proofs.contents_line.lay_bytes.Goals as goal

@@ -1,5 +1,4 @@
-use Rattle.nbd_capture.proofs.Common.{◌≡◌, length, arith, told, unknown}
-use Rattle.nbd_capture.proofs.HeldLemmas.{laid_here, length-unknown, unknown_at}
+use Rattle.nbd_capture.proofs.{Common.{◌≡◌, length, arith, told, unknown}, HeldLemmas.{laid_here, length-unknown, unknown_at}}
 use Rattle.nbd_export.specs.Extents.{byte_of, size_of}
 use Rattle.nbd_export.specs.Ranges as ranges
 use Rattle.nbd_capture.proofs.contents_line.lay_unknown.Goals as goal

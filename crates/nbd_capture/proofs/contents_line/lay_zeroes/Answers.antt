@@ -1,5 +1,4 @@
-use Rattle.nbd_capture.proofs.Common.{◌≡◌, length, arith, told, zeroes}
-use Rattle.nbd_capture.proofs.HeldLemmas.{laid_here, length-zeroes, zeroes_at}
+use Rattle.nbd_capture.proofs.{Common.{◌≡◌, length, arith, told, zeroes}, HeldLemmas.{laid_here, length-zeroes, zeroes_at}}
 use Rattle.nbd_export.specs.Extents.{byte_of, size_of}
 use Rattle.nbd_export.specs.Ranges as ranges
 use Rattle.nbd_capture.proofs.contents_line.lay_zeroes.Goals as goal

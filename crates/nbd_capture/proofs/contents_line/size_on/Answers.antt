@@ -1,5 +1,4 @@
-use Rattle.nbd_capture.proofs.Common.{◌≡◌, ◌∷◌, ◌++◌, ◌∙◌, ◌<◌, ◌^◌, [], sym, ap, subst, codes, arith, space, IsContentsLine, nothing, part, size-line}
-use Rattle.nbd_capture.proofs.ContentsLineLemmas.{no_size, same_bytes-eq, same_bytes-ne, size_digits}
+use Rattle.nbd_capture.proofs.{Common.{◌≡◌, ◌∷◌, ◌++◌, ◌∙◌, ◌<◌, ◌^◌, [], sym, ap, subst, codes, arith, space, IsContentsLine, nothing, part, size-line}, ContentsLineLemmas.{no_size, same_bytes-eq, same_bytes-ne, size_digits}}
 use Rattle.nbd_capture.proofs.contents_line.size_on.Goals as goal
 
 pub returns-in_err-word : goal.returns-in_err-word

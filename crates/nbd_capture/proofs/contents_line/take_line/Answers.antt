@@ -1,5 +1,4 @@
-use Rattle.nbd_capture.proofs.Common.{arith, ◌∷◌, ◌++◌, ap, ◌∙◌, codes, known, space, unknown, word_text, zeroes}
-use Rattle.nbd_capture.proofs.ContentsLineLemmas.{known_kind, loud, no_piece, silent, taken_or_refused, unknown_kind, zeroes_kind}
+use Rattle.nbd_capture.proofs.{Common.{arith, ◌∷◌, ◌++◌, ap, ◌∙◌, codes, known, space, unknown, word_text, zeroes}, ContentsLineLemmas.{known_kind, loud, no_piece, silent, taken_or_refused, unknown_kind, zeroes_kind}}
 use Rattle.nbd_capture.proofs.contents_line.take_line.Goals as goal
 
 pub returns-then-is_silent-clause-taken : goal.returns-then-is_silent-clause-taken

@@ -1,6 +1,4 @@
-use Rattle.nbd_capture.proofs.Common.{◌∙◌, sym, IsNumber}
-use Rattle.nbd_capture.proofs.ContentsLineLemmas.{no_second, piece_words, word_of}
-use Rattle.nbd_capture.proofs.contents_line.value_at.Goals.{in_default-via-in-Some-Some+else-from-at, in_default-via-in-Some+in_default, in_default-via-in_default}
+use Rattle.nbd_capture.proofs.{Common.{◌∙◌, sym, IsNumber}, ContentsLineLemmas.{no_second, piece_words, word_of}, contents_line.value_at.Goals.{in_default-via-in-Some-Some+else-from-at, in_default-via-in-Some+in_default, in_default-via-in_default}}
 use Rattle.nbd_capture.proofs.contents_line.value_at.Goals as goal
 
 pub returns-in_err-offset : goal.returns-in_err-offset

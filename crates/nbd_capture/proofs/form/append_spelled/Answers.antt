@@ -1,5 +1,4 @@
-use Rattle.nbd_capture.proofs.Common.{◌+◌, ◌/◌, ◌∙◌, arith, length, rules}
-use Rattle.nbd_capture.proofs.SpellLemmas.{begins, decoded, seam}
+use Rattle.nbd_capture.proofs.{Common.{◌+◌, ◌/◌, ◌∙◌, arith, length, rules}, SpellLemmas.{begins, decoded, seam}}
 use Rattle.nbd_capture.proofs.form.append_spelled.Goals as goal
 
 pub returns-clause-spelled : goal.returns-clause-spelled

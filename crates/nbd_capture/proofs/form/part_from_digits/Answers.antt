@@ -1,5 +1,4 @@
-use Rattle.nbd_capture.proofs.Common.{◌∷◌, ◌∙◌, [], sym, ap, subst, AreDigits, letter, none, IsOf}
-use Rattle.nbd_capture.proofs.SpellLemmas.{on_form}
+use Rattle.nbd_capture.proofs.{Common.{◌∷◌, ◌∙◌, [], sym, ap, subst, AreDigits, letter, none, IsOf}, SpellLemmas.on_form}
 use Rattle.nbd_capture.proofs.form.part_from_digits.Goals as goal
 
 pub returns-in-Some : goal.returns-in-Some

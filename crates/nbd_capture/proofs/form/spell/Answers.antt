@@ -1,5 +1,4 @@
-use Rattle.nbd_capture.proofs.Common.{arith, ◌++◌, ◌∷◌, sym, subst, letter, space, IsOf}
-use Rattle.nbd_capture.proofs.SpellLemmas.{no_second, on_form, with_second}
+use Rattle.nbd_capture.proofs.{Common.{arith, ◌++◌, ◌∷◌, sym, subst, letter, space, IsOf}, SpellLemmas.{no_second, on_form, with_second}}
 use Rattle.nbd_capture.proofs.form.spell.Goals as goal
 
 pub returns-then-branch : goal.returns-then-branch

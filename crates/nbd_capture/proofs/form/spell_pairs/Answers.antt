@@ -1,5 +1,4 @@
-use Rattle.nbd_capture.proofs.Common.{◌++◌, ◌∙◌, arith, take-append-drop}
-use Rattle.nbd_capture.proofs.SpellLemmas.{no_line, with_pairs}
+use Rattle.nbd_capture.proofs.{Common.{◌++◌, ◌∙◌, arith, take-append-drop}, SpellLemmas.{no_line, with_pairs}}
 use Rattle.nbd_capture.proofs.form.spell_pairs.Goals as goal
 
 pub returns-then-branch : goal.returns-then-branch

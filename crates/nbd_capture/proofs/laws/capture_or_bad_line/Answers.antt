@@ -1,6 +1,4 @@
-use Rattle.nbd_capture.proofs.Common.{IsCaptureLine}
-use Rattle.nbd_capture.proofs.TotalLemmas.{decide_capture}
-use Rattle.nbd_capture.proofs.TotalTextLemmas.{told}
+use Rattle.nbd_capture.proofs.{Common.IsCaptureLine, TotalLemmas.decide_capture, TotalTextLemmas.told}
 use Rattle.nbd_capture.proofs.laws.capture_or_bad_line.Goals as goal
 
 pub returns : goal.returns

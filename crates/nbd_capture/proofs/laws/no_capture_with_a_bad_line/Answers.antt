@@ -1,5 +1,4 @@
-use Rattle.nbd_capture.proofs.Common.{IsCaptureLine}
-use Rattle.nbd_capture.proofs.ReadingLemmas.{no_reading}
+use Rattle.nbd_capture.proofs.{Common.IsCaptureLine, ReadingLemmas.no_reading}
 use Rattle.nbd_capture.proofs.laws.no_capture_with_a_bad_line.Goals as goal
 
 pub returns : goal.returns

@@ -1,5 +1,4 @@
-use Rattle.nbd_capture.proofs.Common.{IsOrderLine}
-use Rattle.nbd_capture.proofs.ReadingLemmas.{no_reading}
+use Rattle.nbd_capture.proofs.{Common.IsOrderLine, ReadingLemmas.no_reading}
 use Rattle.nbd_capture.proofs.laws.no_order_with_a_bad_line.Goals as goal
 
 pub returns : goal.returns

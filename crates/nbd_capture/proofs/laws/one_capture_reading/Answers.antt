@@ -1,6 +1,4 @@
-use Rattle.nbd_capture.proofs.Common.{IsCaptureLine}
-use Rattle.nbd_capture.proofs.FormLemmas.{one_saying}
-use Rattle.nbd_capture.proofs.ReadingLemmas.{one_reading}
+use Rattle.nbd_capture.proofs.{Common.IsCaptureLine, FormLemmas.one_saying, ReadingLemmas.one_reading}
 use Rattle.nbd_capture.proofs.laws.one_capture_reading.Goals as goal
 
 pub returns : goal.returns

@@ -1,6 +1,4 @@
-use Rattle.nbd_capture.proofs.Common.{IsOrderLine}
-use Rattle.nbd_capture.proofs.OrderLineLemmas.{one_entry}
-use Rattle.nbd_capture.proofs.ReadingLemmas.{one_reading}
+use Rattle.nbd_capture.proofs.{Common.IsOrderLine, OrderLineLemmas.one_entry, ReadingLemmas.one_reading}
 use Rattle.nbd_capture.proofs.laws.one_order_reading.Goals as goal
 
 pub returns : goal.returns

@@ -1,5 +1,4 @@
-use Rattle.nbd_capture.proofs.Common.{subst, sym, ◌∷◌, [], Some, IsOrderLine, atomically, of_part}
-use Rattle.nbd_capture.proofs.OrderLineLemmas.{no_number, no_parted}
+use Rattle.nbd_capture.proofs.{Common.{subst, sym, ◌∷◌, [], Some, IsOrderLine, atomically, of_part}, OrderLineLemmas.{no_number, no_parted}}
 use Rattle.nbd_capture.proofs.order.entry_on.Goals as goal
 
 pub returns-in_err-request-in-None : goal.returns-in_err-request-in-None

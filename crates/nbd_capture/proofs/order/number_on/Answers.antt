@@ -1,5 +1,4 @@
-use Rattle.nbd_capture.proofs.Common.{◌+◌, ◌*◌, arith, take_all}
-use Rattle.nbd_capture.proofs.NumeralLemmas.{all_with, no_digit, some_digits, too_large, with_digit}
+use Rattle.nbd_capture.proofs.{Common.{◌+◌, ◌*◌, arith, take_all}, NumeralLemmas.{all_with, no_digit, some_digits, too_large, with_digit}}
 use Rattle.nbd_capture.proofs.order.number_on.Goals as goal
 
 pub returns-then-not-is_ascii_digit : goal.returns-then-not-is_ascii_digit

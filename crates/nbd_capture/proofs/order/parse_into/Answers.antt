@@ -1,5 +1,4 @@
-use Rattle.nbd_capture.proofs.Common.{◌∷◌, [], arith, IsOrderLine}
-use Rattle.nbd_capture.proofs.ProgressLemmas.{advance, cut_off, done, stopped}
+use Rattle.nbd_capture.proofs.{Common.{◌∷◌, [], arith, IsOrderLine}, ProgressLemmas.{advance, cut_off, done, stopped}}
 use Rattle.nbd_capture.proofs.order.parse_into.Goals as goal
 
 pub returns-in_default-entry_on-clause-fault : goal.returns-in_default-entry_on-clause-fault

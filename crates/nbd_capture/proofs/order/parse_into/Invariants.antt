@@ -1,5 +1,4 @@
-use Rattle.nbd_capture.proofs.Common.{length, vec_capacity, ◌≤◌, IsOrderLine}
-use Rattle.nbd_capture.proofs.ProgressLemmas.{Progress}
+use Rattle.nbd_capture.proofs.{Common.{length, vec_capacity, ◌≤◌, IsOrderLine}, ProgressLemmas.Progress}
 use Rattle.nbd_capture.proofs.order.parse_into.Given as goal
 
 abbrev pub invariant-loop-line : goal.invariant-loop-line

@@ -1,5 +1,4 @@
-use Rattle.nbd_capture.proofs.Common.{rules}
-use Rattle.nbd_capture.proofs.FaultLemmas.{only_entries}
+use Rattle.nbd_capture.proofs.{Common.rules, FaultLemmas.only_entries}
 use Rattle.nbd_capture.proofs.order.parse_order.Goals as goal
 
 pub returns-clause-only : goal.returns-clause-only

@@ -1,6 +1,5 @@
-use Rattle.nbd_capture.proofs.Common.{List, ℕ, take, drop, sym, take_rest}
+use Rattle.nbd_capture.proofs.{Common.{List, ℕ, take, drop, sym, take_rest}, WriterLemmas.{one_more, plainly}}
 use Rattle.std.proofs.Common.{take-append-drop}
-use Rattle.nbd_capture.proofs.WriterLemmas.{one_more, plainly}
 use Rattle.nbd_capture.proofs.writing.write_whole.Goals as goal
 
 pub loop-rest-preserved : goal.loop-rest-preserved

@@ -1,5 +1,4 @@
-use Rattle.nbd_capture.proofs.Common.{ℕ, List, length}
-use Rattle.nbd_capture.proofs.WriterLemmas.{Wrote}
+use Rattle.nbd_capture.proofs.{Common.{ℕ, List, length}, WriterLemmas.Wrote}
 use Rattle.nbd_capture.proofs.writing.write_whole.Given as goal
 
 abbrev pub invariant-loop-rest : goal.invariant-loop-rest

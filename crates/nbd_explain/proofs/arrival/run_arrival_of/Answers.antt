@@ -1,5 +1,4 @@
-use Rattle.nbd_explain.proofs.ExplainedLemmas.{arrives, arrives_not}
-use Rattle.nbd_explain.proofs.Common.{subst, rules, Appends, number_lines}
+use Rattle.nbd_explain.proofs.{ExplainedLemmas.{arrives, arrives_not}, Common.{subst, rules, Appends, number_lines}}
 use Rattle.nbd_explain.proofs.arrival.run_arrival_of.Goals as goal
 
 pub returns-in_ok-write_numbers-in-Ok-clause-written : goal.returns-in_ok-write_numbers-in-Ok-clause-written

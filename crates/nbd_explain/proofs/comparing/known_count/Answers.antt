@@ -1,6 +1,5 @@
-use Rattle.nbd_explain.proofs.Common.{arith}
+use Rattle.nbd_explain.proofs.{Common.arith, CountLemmas.{counted_more, counted_none}}
 use Rattle.nbd_export.specs.Extents.{byte_of}
-use Rattle.nbd_explain.proofs.CountLemmas.{counted_more, counted_none}
 use Rattle.nbd_explain.proofs.comparing.known_count.Goals as goal
 
 pub loop-at-init : goal.loop-at-init

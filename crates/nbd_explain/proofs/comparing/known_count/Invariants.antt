@@ -1,8 +1,7 @@
 -- So many bytes are known before this offset.
 use Rattle.nbd_explain.proofs.Common.{◌≡◌, ◌-◌, ◌≤◌, is_some}
 use Rattle.std.specs.Prelude.{count_by}
-use Rattle.nbd_export.specs.Extents.{byte_of, size_of}
-use Rattle.nbd_export.specs.Held.{held_from}
+use Rattle.nbd_export.specs.{Extents.{byte_of, size_of}, Held.held_from}
 use Rattle.nbd_explain.proofs.comparing.known_count.Given as goal
 
 abbrev pub invariant-loop-at : goal.invariant-loop-at

@@ -1,5 +1,4 @@
-use Rattle.nbd_explain.proofs.Common.{sym, rules, take}
-use Rattle.nbd_explain.proofs.ComparingLemmas.{compared_more, compared_nothing}
+use Rattle.nbd_explain.proofs.{Common.{sym, rules, take}, ComparingLemmas.{compared_more, compared_nothing}}
 use Rattle.nbd_explain.proofs.comparing.read_against.Goals as goal
 
 pub loop-count-init : goal.loop-count-init

@@ -1,8 +1,7 @@
 -- So many bytes were read and compared.
-use Rattle.nbd_explain.proofs.Common.{◌≡◌, ◌+◌, ◌-◌, length}
+use Rattle.nbd_explain.proofs.{Common.{◌≡◌, ◌+◌, ◌-◌, length}, ComparingLemmas.HasCompared}
 use Rattle.nbd_files.specs.declared.input.TheConstants.{PORTION}
 use Rattle.nbd_explain.specs.declared.comparing.TheConstants.{MOST}
-use Rattle.nbd_explain.proofs.ComparingLemmas.{HasCompared}
 use Rattle.nbd_explain.proofs.comparing.read_against.Given as goal
 
 abbrev pub invariant-loop-count : goal.invariant-loop-count

@@ -1,6 +1,5 @@
-use Rattle.nbd_explain.proofs.Common.{subst, Appends}
+use Rattle.nbd_explain.proofs.{Common.{subst, Appends}, ComparingLemmas.written_of_known}
 use Rattle.nbd_export.specs.Held.{held}
-use Rattle.nbd_explain.proofs.ComparingLemmas.{written_of_known}
 use Rattle.nbd_explain.proofs.comparing.write_compared.Goals as goal
 
 pub returns-clause-written : goal.returns-clause-written

@@ -1,5 +1,4 @@
-use Rattle.nbd_explain.proofs.ExplainedLemmas.{map_ok}
-use Rattle.nbd_explain.proofs.ContentsLemmas.{left_read}
+use Rattle.nbd_explain.proofs.{ExplainedLemmas.map_ok, ContentsLemmas.left_read}
 use Rattle.nbd_explain.proofs.contents.left_behind.Goals as goal
 
 pub returns-clause-left : goal.returns-clause-left

@@ -1,5 +1,4 @@
-use Rattle.nbd_explain.proofs.ExplainedLemmas.{map_ok}
-use Rattle.nbd_explain.proofs.ContentsLemmas.{writes_contents}
+use Rattle.nbd_explain.proofs.{ExplainedLemmas.map_ok, ContentsLemmas.writes_contents}
 use Rattle.nbd_explain.proofs.contents.run_contents.Goals as goal
 
 pub returns-clause-written : goal.returns-clause-written

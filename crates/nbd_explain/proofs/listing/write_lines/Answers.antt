@@ -1,5 +1,4 @@
-use Rattle.nbd_explain.proofs.Common.{◌≡◌, length, arith, rules}
-use Rattle.nbd_explain.proofs.FateLemmas.{all_lines, next_line}
+use Rattle.nbd_explain.proofs.{Common.{◌≡◌, length, arith, rules}, FateLemmas.{all_lines, next_line}}
 use Rattle.nbd_explain.proofs.listing.write_lines.Goals as goal
 
 pub loop-place-preserved : goal.loop-place-preserved

@@ -1,5 +1,6 @@
 -- Lines were written that name the messages before a place.
-use Rattle.nbd_explain.proofs.Common.{◌≡◌, List, drop, Message, AppendsFront, fates_behind}
+use Rattle.nbd_explain.proofs.Common.{◌≡◌, List, drop, Message, fates_behind}
+use Rattle.nbd_explain.proofs.FateLemmas.{AppendsFront}
 use Rattle.nbd_explain.proofs.listing.write_lines.Given as goal
 
 abbrev pub invariant-loop-place : goal.invariant-loop-place

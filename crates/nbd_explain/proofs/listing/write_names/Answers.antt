@@ -1,5 +1,4 @@
-use Rattle.nbd_explain.proofs.Common.{subst, AppendsNames}
-use Rattle.nbd_explain.proofs.NamedLemmas.{last_cause_over, named_over, told_cause_over}
+use Rattle.nbd_explain.proofs.{Common.{subst, AppendsNames}, NamedLemmas.{last_cause_over, named_over, told_cause_over}}
 use Rattle.nbd_explain.proofs.listing.write_names.Goals as goal
 
 pub returns-in_err-write_story-clause-cause : goal.returns-in_err-write_story-clause-cause

@@ -1,5 +1,4 @@
-use Rattle.nbd_explain.proofs.Common.{◌≡◌, ◌∙◌, None, subst, sym, All-nil, Entry, size_of, Passes, AreWhole, Image, Order, says_of, whole_wanted, IsReadAs}
-use Rattle.nbd_explain.proofs.OrderingLemmas.{counted_other, nothing_passes}
+use Rattle.nbd_explain.proofs.{Common.{◌≡◌, ◌∙◌, None, subst, sym, All-nil, Entry, size_of, Passes, AreWhole, Image, Order, says_of, whole_wanted, IsReadAs}, OrderingLemmas.{counted_other, nothing_passes}}
 use Rattle.nbd_explain.proofs.ordering.find_order.Goals as goal
 
 pub returns-in-Some-clause-says : goal.returns-in-Some-clause-says

@@ -1,5 +1,4 @@
-use Rattle.nbd_explain.proofs.Common.{Err, ap}
-use Rattle.nbd_explain.proofs.OrderingLemmas.{told_refused}
+use Rattle.nbd_explain.proofs.{Common.{Err, ap}, OrderingLemmas.told_refused}
 use Rattle.nbd_explain.proofs.ordering.told_of_fault.Goals as goal
 
 pub returns-in_ok-text-in-Wire : goal.returns-in_ok-text-in-Wire

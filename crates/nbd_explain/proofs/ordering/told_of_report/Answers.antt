@@ -1,5 +1,4 @@
-use Rattle.nbd_explain.proofs.Common.{Ok, refl}
-use Rattle.nbd_explain.proofs.OrderingLemmas.{told_found}
+use Rattle.nbd_explain.proofs.{Common.{Ok, refl}, OrderingLemmas.told_found}
 use Rattle.nbd_explain.proofs.ordering.told_of_report.Goals as goal
 
 pub returns : goal.returns

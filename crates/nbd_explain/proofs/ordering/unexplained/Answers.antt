@@ -1,5 +1,4 @@
-use Rattle.nbd_explain.proofs.Common.{IfOk, subst, ◌≡◌}
-use Rattle.nbd_explain.proofs.OrderingLemmas.{several_line}
+use Rattle.nbd_explain.proofs.{Common.{IfOk, subst, ◌≡◌}, OrderingLemmas.several_line}
 use Rattle.nbd_explain.proofs.ordering.unexplained.Goals as goal
 
 pub returns-then-reads-ne1 : goal.returns-then-reads-ne1

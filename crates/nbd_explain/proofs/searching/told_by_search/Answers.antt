@@ -1,5 +1,4 @@
-use Rattle.nbd_explain.proofs.Common.{subst, sym, IfOk, IsToldBySearch}
-use Rattle.nbd_explain.proofs.ExplainedLemmas.{map_ok}
+use Rattle.nbd_explain.proofs.{Common.{subst, sym, IfOk, IsToldBySearch}, ExplainedLemmas.map_ok}
 use Rattle.nbd_explain.proofs.searching.told_by_search.Goals as goal
 
 pub returns-in-Err : goal.returns-in-Err

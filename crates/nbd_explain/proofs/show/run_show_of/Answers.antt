@@ -1,5 +1,4 @@
-use Rattle.nbd_explain.proofs.Common.{subst, Appends, AppendsPrefix, message_lines, capture_over}
-use Rattle.nbd_explain.proofs.LastLineLemmas.{all_shown, last_stopped, output_cause, stopped}
+use Rattle.nbd_explain.proofs.{Common.{subst, Appends, AppendsPrefix, message_lines, capture_over}, LastLineLemmas.{all_shown, last_stopped, output_cause, stopped}}
 use Rattle.nbd_explain.proofs.show.run_show_of.Goals as goal
 
 pub returns-in_err-write_messages-clause-left : goal.returns-in_err-write_messages-clause-left

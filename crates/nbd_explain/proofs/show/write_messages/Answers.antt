@@ -1,5 +1,4 @@
-use Rattle.std.proofs.Common.{OnErr}
-use Rattle.std.proofs.lemmas.List.Concat.{flat_map-append}
+use Rattle.std.proofs.{Common.OnErr, lemmas.List.Concat.flat_map-append}
 use Rattle.std.specs.Vec.Iter.{into_iter_items}
 use Rattle.nbd_explain.proofs.Common.{◌≡◌, ℕ, List, [], ◌∷◌, ◌++◌, Option, Result, Ok, Err, sym, ap, subst, ◌∙◌, append_assoc, Appends, Appends-trans, AppendsPrefix, Message, message_lines, prefix_then, then_prefix}
 use Rattle.nbd_lines.specs.Script.{shown_line}

@@ -1,5 +1,4 @@
-use Rattle.nbd_export.proofs.Common.{◌<◌, sym, ◌∙◌, arith, IsNonzeroAt}
-use Rattle.nbd_export.proofs.LeastLemmas.{none_further}
+use Rattle.nbd_export.proofs.{Common.{◌<◌, sym, ◌∙◌, arith, IsNonzeroAt}, LeastLemmas.none_further}
 use Rattle.nbd_export.proofs.slices.first_nonzero.Goals as goal
 
 pub returns-in-Some : goal.returns-in-Some

@@ -1,5 +1,4 @@
-use Rattle.nbd_export.proofs.Common.{◌<◌, ◌∙◌, inl, inr, arith, common_steps, nat_tests}
-use Rattle.nbd_export.proofs.KindLemmas.{other_key}
+use Rattle.nbd_export.proofs.{Common.{◌<◌, ◌∙◌, inl, inr, arith, common_steps, nat_tests}, KindLemmas.other_key}
 use Rattle.nbd_export.proofs.starts.clear_between.Goals as goal
 
 pub loop-start-preserved : goal.loop-start-preserved

@@ -1,5 +1,4 @@
-use Rattle.nbd_export.proofs.Common.{◌≡◌, ◌<◌, is_gt, nat_cmp, false, arith, nat_tests, kind_from}
-use Rattle.nbd_export.proofs.KindLemmas.{none_unless}
+use Rattle.nbd_export.proofs.{Common.{◌≡◌, ◌<◌, is_gt, nat_cmp, false, arith, nat_tests, kind_from}, KindLemmas.none_unless}
 use Rattle.nbd_export.proofs.starts.end_of.Goals as goal
 
 pub returns-in-Some-clause-one : goal.returns-in-Some-clause-one

@@ -1,5 +1,4 @@
-use Rattle.nbd_export.proofs.Common.{◌≡◌, Some, refl, sym, ◌∙◌, ap, arith, rules, same_true, same_false, the_type, kind_before, kind_from}
-use Rattle.nbd_export.proofs.KindLemmas.{apart_at_first, kind_joined, kind_unjoined, kind_before-pred, other_key}
+use Rattle.nbd_export.proofs.{Common.{◌≡◌, Some, refl, sym, ◌∙◌, ap, arith, rules, same_true, same_false, the_type, kind_before, kind_from}, KindLemmas.{apart_at_first, kind_joined, kind_unjoined, kind_before-pred, other_key}}
 use Rattle.nbd_export.proofs.starts.join.Goals as goal
 
 pub returns-then-at-eq0-clause-done : goal.returns-then-at-eq0-clause-done

@@ -1,5 +1,4 @@
-use Rattle.nbd_export.proofs.Common.{◌≡◌, ◌≤◌, ◌∙◌, None, arith, is_lt, nat_cmp, false, nat_tests, common_steps, kind_from}
-use Rattle.nbd_export.proofs.KindLemmas.{kind_at-along, kind_at-here, none_behind, same_none}
+use Rattle.nbd_export.proofs.{Common.{◌≡◌, ◌≤◌, ◌∙◌, None, arith, is_lt, nat_cmp, false, nat_tests, common_steps, kind_from}, KindLemmas.{kind_at-along, kind_at-here, none_behind, same_none}}
 use Rattle.nbd_export.proofs.starts.kind_at.Goals as goal
 
 pub returns : goal.returns

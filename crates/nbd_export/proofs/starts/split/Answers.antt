@@ -1,5 +1,4 @@
-use Rattle.nbd_export.proofs.Common.{sym, ◌∙◌, kind_from}
-use Rattle.nbd_export.proofs.KindLemmas.{kind_at-begun}
+use Rattle.nbd_export.proofs.{Common.{sym, ◌∙◌, kind_from}, KindLemmas.kind_at-begun}
 use Rattle.nbd_export.proofs.starts.split.Goals as goal
 
 pub returns-then-contains_key-clause-here : goal.returns-then-contains_key-clause-here

@@ -1,5 +1,4 @@
-use Rattle.nbd_files.proofs.Common.{◌<◌, ◌+◌, sym, rules, arith, take}
-use Rattle.nbd_files.proofs.InputLemmas.{read_more}
+use Rattle.nbd_files.proofs.{Common.{◌<◌, ◌+◌, sym, rules, arith, take}, InputLemmas.read_more}
 use Rattle.nbd_files.proofs.input.read_into.Goals as goal
 
 pub loop-count-preserved : goal.loop-count-preserved

@@ -1,6 +1,5 @@
 -- So many bytes were read, and where there is room for them they stand in the text.
-use Rattle.nbd_files.proofs.Common.{◌≡◌, ◌≤◌, ◌+◌, ◌-◌, length, vec_capacity, vec_items, READ_LIMIT, PORTION}
-use Rattle.nbd_files.proofs.InputLemmas.{HasRead}
+use Rattle.nbd_files.proofs.{Common.{◌≡◌, ◌≤◌, ◌+◌, ◌-◌, length, vec_capacity, vec_items, READ_LIMIT, PORTION}, InputLemmas.HasRead}
 use Rattle.nbd_files.proofs.input.read_into.Given as goal
 
 abbrev pub invariant-loop-count : goal.invariant-loop-count

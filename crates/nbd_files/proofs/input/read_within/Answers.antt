@@ -1,7 +1,5 @@
-use Rattle.nbd_files.proofs.Common.{◌≡◌, ◌∙◌, Ok, sym, arith, ap, Longer, Whole}
-use Rattle.nbd_files.proofs.InputLemmas.{all_counted, all_kept}
+use Rattle.nbd_files.proofs.{Common.{◌≡◌, ◌∙◌, Ok, sym, arith, ap, Longer, Whole}, InputLemmas.{all_counted, all_kept}, input.read_within.Goals.{then-count-room, else-count-room}}
 use Rattle.nbd_files.proofs.input.read_within.Goals as goal
-use Rattle.nbd_files.proofs.input.read_within.Goals.{then-count-room, else-count-room}
 
 pub returns-clause-read : goal.returns-clause-read
 returns-clause-read g c = elim c.if-count-room.branch [

@@ -1,5 +1,4 @@
-use Rattle.nbd_judge.proofs.Common.{◌+◌, ◌-◌, ℕ, Option, length, ap, sym, ◌∙◌, slice_range, Asked, bytes_from, overlay, report_of_request, Span}
-use Rattle.nbd_judge.proofs.contents.RangeLemmas.{written}
+use Rattle.nbd_judge.proofs.{Common.{◌+◌, ◌-◌, ℕ, Option, length, ap, sym, ◌∙◌, slice_range, Asked, bytes_from, overlay, report_of_request, Span}, contents.RangeLemmas.written}
 use Rattle.nbd_judge.proofs.change.change.Goals as goal
 
 pub returns-in_ok-put-in-1-clause-done : goal.returns-in_ok-put-in-1-clause-done

@@ -1,6 +1,6 @@
 use Rattle.std.proofs.Common.{sym, ap}
 use Rattle.nbd_state.specs.Transcripts.{report_of_request}
-use Rattle.nbd_judge.specs.internal.Servable.{served_span}
+use Rattle.nbd_judge.specs.internal.{served_span}
 use Rattle.nbd_judge.proofs.change.served.Goals as goal
 
 pub returns-in-Some : goal.returns-in-Some

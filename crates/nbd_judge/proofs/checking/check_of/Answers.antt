@@ -1,5 +1,4 @@
-use Rattle.nbd_judge.proofs.Common.{flat, initial_of, records_of}
-use Rattle.nbd_judge.proofs.verdicts.ChunkLemmas.{conclusion_checked}
+use Rattle.nbd_judge.proofs.{Common.{flat, initial_of, records_of}, verdicts.ChunkLemmas.conclusion_checked}
 use Rattle.nbd_judge.proofs.checking.check_of.Goals as goal
 
 pub returns-clause-verdict : goal.returns-clause-verdict

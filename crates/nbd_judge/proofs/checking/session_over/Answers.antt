@@ -1,6 +1,4 @@
-use Rattle.nbd_judge.proofs.Common.{◌++◌, length, sym, ◌∙◌, ap, arith, take, take_all, flat, side_pairs, IsFaultOf, records_of}
-use Rattle.nbd_judge.proofs.verdicts.ChunkLemmas.{finish_told, prefix_more, handed_on, piece_fits}
-use Rattle.nbd_judge.proofs.verdicts.RefusalLemmas.{fault_in, finish_fault}
+use Rattle.nbd_judge.proofs.{Common.{◌++◌, length, sym, ◌∙◌, ap, arith, take, take_all, flat, side_pairs, IsFaultOf, records_of}, verdicts.{ChunkLemmas.{finish_told, prefix_more, handed_on, piece_fits}, RefusalLemmas.{fault_in, finish_fault}}}
 use Rattle.nbd_judge.proofs.checking.session_over.Goals as goal
 
 pub push-requires : goal.push-requires

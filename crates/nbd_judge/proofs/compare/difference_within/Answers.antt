@@ -1,7 +1,4 @@
-use Rattle.nbd_judge.proofs.Common.{◌≡◌, ◌+◌, ◌≤◌, ◌∙◌, ℕ, IsTrue, Option, Bor, List, arith, length, map, subst, sym, length-map, IsLeast, Piece, is_in, piece_offset, piece_size, DiffersInOneWithin, DiffersWithin}
-use Rattle.nbd_judge.proofs.contents.CompareLemmas.{at_reference}
-use Rattle.nbd_judge.proofs.contents.RangeLemmas.{one_within}
-use Rattle.nbd_judge.proofs.contents.SortLemmas.{inside_those, least_references}
+use Rattle.nbd_judge.proofs.{Common.{◌≡◌, ◌+◌, ◌≤◌, ◌∙◌, ℕ, IsTrue, Option, Bor, List, arith, length, map, subst, sym, length-map, IsLeast, Piece, is_in, piece_offset, piece_size, DiffersInOneWithin, DiffersWithin}, contents.{CompareLemmas.at_reference, RangeLemmas.one_within, SortLemmas.{inside_those, least_references}}}
 use Rattle.nbd_judge.proofs.compare.difference_within.Goals as goal
 
 pub piece_difference_within-requires : goal.piece_difference_within-requires

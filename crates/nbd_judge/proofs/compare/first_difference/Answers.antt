@@ -1,5 +1,4 @@
-use Rattle.nbd_judge.proofs.Common.{map, subst, sym, length-map, IsLeast, DiffersInOneOf}
-use Rattle.nbd_judge.proofs.contents.SortLemmas.{least_sorted}
+use Rattle.nbd_judge.proofs.{Common.{map, subst, sym, length-map, IsLeast, DiffersInOneOf}, contents.SortLemmas.least_sorted}
 use Rattle.nbd_judge.proofs.compare.first_difference.Goals as goal
 
 pub returns-clause-least : goal.returns-clause-least

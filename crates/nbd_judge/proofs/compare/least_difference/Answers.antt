@@ -1,5 +1,4 @@
-use Rattle.nbd_judge.proofs.Common.{ℕ, Option, length, map, sym, ◌∙◌, subst, arith, ◌≡◌, ◌+◌, ◌≤◌, IsLeast, piece_offset, piece_size, DiffersInOneOf, DiffersInPiece}
-use Rattle.nbd_judge.proofs.contents.CompareLemmas.{at_reference, one_more}
+use Rattle.nbd_judge.proofs.{Common.{ℕ, Option, length, map, sym, ◌∙◌, subst, arith, ◌≡◌, ◌+◌, ◌≤◌, IsLeast, piece_offset, piece_size, DiffersInOneOf, DiffersInPiece}, contents.CompareLemmas.{at_reference, one_more}}
 use Rattle.nbd_judge.proofs.compare.least_difference.Goals as goal
 
 pub piece_difference-requires : goal.piece_difference-requires

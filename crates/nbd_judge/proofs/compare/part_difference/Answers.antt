@@ -1,5 +1,4 @@
-use Rattle.nbd_judge.proofs.Common.{ℕ, Option, Bor, List, length, map, rules, subst, IsLeast, Piece, AreInOrder, AreInside, DiffersInOneWithin}
-use Rattle.nbd_judge.proofs.contents.SortLemmas.{inside_those, least_in_part, sorted_there}
+use Rattle.nbd_judge.proofs.{Common.{ℕ, Option, Bor, List, length, map, rules, subst, IsLeast, Piece, AreInOrder, AreInside, DiffersInOneWithin}, contents.SortLemmas.{inside_those, least_in_part, sorted_there}}
 use Rattle.nbd_judge.proofs.compare.part_difference.Goals as goal
 
 pub difference_within-requires-clause-inside : goal.difference_within-requires-clause-inside

@@ -1,5 +1,4 @@
-use Rattle.nbd_judge.proofs.Common.{ℕ, List, length, sym, subst, Piece, DiffersIn, IsLeast, bytes_from, DiffersInPiece}
-use Rattle.nbd_judge.proofs.contents.CompareLemmas.{bytes_difference, hole_difference}
+use Rattle.nbd_judge.proofs.{Common.{ℕ, List, length, sym, subst, Piece, DiffersIn, IsLeast, bytes_from, DiffersInPiece}, contents.CompareLemmas.{bytes_difference, hole_difference}}
 use Rattle.nbd_judge.proofs.compare.piece_difference.Goals as goal
 
 pub returns-in-Bytes-clause-least : goal.returns-in-Bytes-clause-least

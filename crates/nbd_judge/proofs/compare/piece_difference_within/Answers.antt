@@ -1,5 +1,4 @@
-use Rattle.nbd_judge.proofs.Common.{◌≡◌, ◌+◌, ◌-◌, ℕ, List, max, min, ap, ◌∙◌, slice_range, Part, Bytes, Hole, Span, span_of}
-use Rattle.nbd_judge.proofs.contents.RangeLemmas.{bytes_within, hole_within}
+use Rattle.nbd_judge.proofs.{Common.{◌≡◌, ◌+◌, ◌-◌, ℕ, List, max, min, ap, ◌∙◌, slice_range, Part, Bytes, Hole, Span, span_of}, contents.RangeLemmas.{bytes_within, hole_within}}
 use Rattle.nbd_judge.proofs.compare.piece_difference_within.Goals as goal
 
 pub returns-in-Bytes-clause-least : goal.returns-in-Bytes-clause-least

@@ -1,5 +1,4 @@
-use Rattle.nbd_judge.proofs.Common.{ℕ, List, OnOk, Option, length, sym, subst, ◌∙◌, Some, IfOk-weaker, IsLeast, Piece, report_of_request, AddsSorted, DiffersInOneOf, DiffersInOneWithin}
-use Rattle.nbd_judge.proofs.contents.CompareLemmas.{compared_of, wrong_part, wrong_read}
+use Rattle.nbd_judge.proofs.{Common.{ℕ, List, OnOk, Option, length, sym, subst, ◌∙◌, Some, IfOk-weaker, IsLeast, Piece, report_of_request, AddsSorted, DiffersInOneOf, DiffersInOneWithin}, contents.CompareLemmas.{compared_of, wrong_part, wrong_read}}
 use Rattle.nbd_judge.proofs.compare.wrong.Goals as goal
 
 pub returns-in-Some-clause-least : goal.returns-in-Some-clause-least

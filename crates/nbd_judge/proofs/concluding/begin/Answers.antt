@@ -1,7 +1,5 @@
-use Rattle.nbd_judge.proofs.Common.{◌≡◌, ℕ, None, Some, sym, ◌∙◌, given_length, initial_of}
-use Rattle.nbd_judge.proofs.contents.StartLemmas.{image_fits, same_start, start_fits}
+use Rattle.nbd_judge.proofs.{Common.{◌≡◌, ℕ, None, Some, sym, ◌∙◌, given_length, initial_of}, contents.StartLemmas.{image_fits, same_start, start_fits}, concluding.begin.Goals.{in-Some+else-image-size, in_default}}
 use Rattle.nbd_judge.proofs.concluding.begin.Goals as goal
-use Rattle.nbd_judge.proofs.concluding.begin.Goals.{in-Some+else-image-size, in_default}
 
 pub new-requires : goal.new-requires
 new-requires c = start_fits c.args.size c.args.start

@@ -1,5 +1,4 @@
-use Rattle.nbd_judge.proofs.Common.{◌≡◌, ℕ, ◌<◌, Option, Exporting, sym, ◌∙◌, ap, subst, FitsImage, start_byte, byte_of, AreSameBelow, initial_of, size_of}
-use Rattle.nbd_judge.proofs.contents.StartLemmas.{report_of_conclusion, exporting_of}
+use Rattle.nbd_judge.proofs.{Common.{◌≡◌, ℕ, ◌<◌, Option, Exporting, sym, ◌∙◌, ap, subst, FitsImage, start_byte, byte_of, AreSameBelow, initial_of, size_of}, contents.StartLemmas.{report_of_conclusion, exporting_of}}
 use Rattle.nbd_judge.proofs.concluding.verdict_on.Goals as goal
 
 pub returns-in-Ok : goal.returns-in-Ok

@@ -1,9 +1,5 @@
-use Rattle.nbd_judge.proofs.Common.{◌≡◌, ℕ, true, Some, sym, ◌∙◌, ap, subst, Span, report_of_request, in_part, is_in, Asked, Report, asked_at, due_in, inside_in, IsLeastDue, is_chunked}
-use Rattle.nbd_judge.proofs.orders.DueLemmas.{least_chunked, least_whole}
-use Rattle.nbd_judge.proofs.orders.TableLemmas.{span_of_request}
-use Rattle.nbd_judge.proofs.verdicts.SoundLemmas.{servable}
+use Rattle.nbd_judge.proofs.{Common.{◌≡◌, ℕ, true, Some, sym, ◌∙◌, ap, subst, Span, report_of_request, in_part, is_in, Asked, Report, asked_at, due_in, inside_in, IsLeastDue, is_chunked}, orders.{DueLemmas.{least_chunked, least_whole}, TableLemmas.span_of_request}, verdicts.SoundLemmas.servable, due.least_due.Goals.{in-Some, in-None}}
 use Rattle.nbd_judge.proofs.due.least_due.Goals as goal
-use Rattle.nbd_judge.proofs.due.least_due.Goals.{in-Some, in-None}
 
 pub returns-then-not-serves_by_chunk : goal.returns-then-not-serves_by_chunk
 returns-then-not-serves_by_chunk c =

@@ -1,7 +1,6 @@
-use Rattle.nbd_judge.proofs.Common.{◌≡◌, ◌+◌, ◌&&◌, ℕ, Some, slice_get, slice_index_or, sym, ◌∙◌, ap, subst, arith, IsTrue, slice_get-get_or, option_copied, IsLeast, Span, with_counts, is_in, first_shown}
-use Rattle.nbd_judge.proofs.orders.ShownLemmas.{ShownBefore, least_first, looked_up, read_shows, shown_apart, shown_met, shown_none, shown_one, shown_past, span_at}
-use Rattle.nbd_judge.proofs.due.least_shown.Goals as goal
+use Rattle.nbd_judge.proofs.{Common.{◌≡◌, ◌+◌, ◌&&◌, ℕ, Some, slice_get, slice_index_or, sym, ◌∙◌, ap, subst, arith, IsTrue, slice_get-get_or, option_copied, IsLeast, Span, with_counts, is_in, first_shown}, orders.ShownLemmas.{ShownBefore, least_first, looked_up, read_shows, shown_apart, shown_met, shown_none, shown_one, shown_past, span_at}}
 use Rattle.nbd_judge.proofs.due.least_shown.Goals.{in-Some+then-meet-gt0, in-Some+else-meet-gt0, in_default}
+use Rattle.nbd_judge.proofs.due.least_shown.Goals as goal
 
 pub loop-i-preserved : goal.loop-i-preserved
 loop-i-preserved c =

@@ -1,5 +1,4 @@
-use Rattle.nbd_judge.proofs.Common.{IsLeast, with_counts}
-use Rattle.nbd_judge.proofs.orders.ShownLemmas.{ShownBefore}
+use Rattle.nbd_judge.proofs.{Common.{IsLeast, with_counts}, orders.ShownLemmas.ShownBefore}
 use Rattle.nbd_judge.proofs.due.least_shown.Given as goal
 
 abbrev pub invariant-loop-i : goal.invariant-loop-i

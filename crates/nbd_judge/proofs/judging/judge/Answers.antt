@@ -1,5 +1,4 @@
-use Rattle.nbd_judge.proofs.Common.{inr, IsFaultless}
-use Rattle.nbd_judge.proofs.verdicts.AnswerLemmas.{order_unserved}
+use Rattle.nbd_judge.proofs.{Common.{inr, IsFaultless}, verdicts.AnswerLemmas.order_unserved}
 use Rattle.nbd_judge.proofs.judging.judge.Goals as goal
 
 pub returns-clause-judged : goal.returns-clause-judged

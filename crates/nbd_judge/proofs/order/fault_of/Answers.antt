@@ -1,7 +1,5 @@
-use Rattle.nbd_judge.proofs.Common.{not, sym, ◌∙◌, ap, report_of_request, Asked, inside_in}
-use Rattle.nbd_judge.proofs.orders.TableLemmas.{all_due, ended, none_of, shown_due, some_of, started}
+use Rattle.nbd_judge.proofs.{Common.{not, sym, ◌∙◌, ap, report_of_request, Asked, inside_in}, orders.TableLemmas.{all_due, ended, none_of, shown_due, some_of, started}, order.fault_of.Goals.{then-serves_by_chunk+else-is_none, else-serves_by_chunk+else-is_none-2}}
 use Rattle.nbd_judge.proofs.order.fault_of.Goals as goal
-use Rattle.nbd_judge.proofs.order.fault_of.Goals.{then-serves_by_chunk+else-is_none, else-serves_by_chunk+else-is_none-2}
 
 pub returns-then-is_none : goal.returns-then-is_none
 returns-then-is_none c r order k told sp sv =

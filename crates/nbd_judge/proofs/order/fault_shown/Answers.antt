@@ -1,8 +1,6 @@
-use Rattle.nbd_judge.proofs.Common.{◌≡◌, ◌&&◌, ℕ, None, Some, slice_get, slice_index_or, inl, inr, sym, ◌∙◌, ap, length, subst, arith, IsTrue, and_from, and_parts, cases_eq, slice_get-get_or, option_copied, Span, shown_in, with_counts, Piece, is_in, piece_offset, piece_size, first_shown, IsFaultOfService}
-use Rattle.nbd_judge.proofs.contents.CompareLemmas.{from_in}
-use Rattle.nbd_judge.proofs.orders.ShownLemmas.{fault_from, first_has, has_first, in_range, looked_up, place_of, read_shows, shown_none, shown_one, span_at}
+use Rattle.nbd_judge.proofs.{Common.{◌≡◌, ◌&&◌, ℕ, None, Some, slice_get, slice_index_or, inl, inr, sym, ◌∙◌, ap, length, subst, arith, IsTrue, and_from, and_parts, cases_eq, slice_get-get_or, option_copied, Span, shown_in, with_counts, Piece, is_in, piece_offset, piece_size, first_shown, IsFaultOfService}, contents.CompareLemmas.from_in}
+use Rattle.nbd_judge.proofs.{orders.ShownLemmas.{fault_from, first_has, has_first, in_range, looked_up, place_of, read_shows, shown_none, shown_one, span_at}, order.fault_shown.Goals.{in-Some+then-here-gt0+in_default-fault_in, in-Some+else-here-gt0, in_default}}
 use Rattle.nbd_judge.proofs.order.fault_shown.Goals as goal
-use Rattle.nbd_judge.proofs.order.fault_shown.Goals.{in-Some+then-here-gt0+in_default-fault_in, in-Some+else-here-gt0, in_default}
 
 pub returns-in-Some-fault_in : goal.returns-in-Some-fault_in
 returns-in-Some-fault_in c within entries k sp sv =

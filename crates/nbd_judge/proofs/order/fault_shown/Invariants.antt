@@ -1,5 +1,4 @@
-use Rattle.nbd_judge.proofs.Common.{ℕ, List, Bool, IsTrue, ◌<◌, with_counts, Entry, IsServedAt, IsServiceOf, IsSpanOf}
-use Rattle.nbd_judge.proofs.orders.ShownLemmas.{HasAt}
+use Rattle.nbd_judge.proofs.{Common.{ℕ, List, Bool, IsTrue, ◌<◌, with_counts, Entry, IsServedAt, IsServiceOf, IsSpanOf}, orders.ShownLemmas.HasAt}
 use Rattle.nbd_judge.proofs.order.fault_shown.Given as goal
 
 abbrev pub invariant-loop-i : goal.invariant-loop-i

@@ -1,5 +1,4 @@
-use Rattle.nbd_judge.proofs.Common.{◌≡◌, ◌+◌, ◌-◌, ℕ, List, Option, Some, None, slice_get, slice_index_or, sym, ◌∙◌, subst, arith, slice_get-get_or, IsLeast, Entry, due_in}
-use Rattle.nbd_judge.proofs.orders.LateLemmas.{ServedDueFrom, found_first, found_later, found_now, is_late, least_step, not_late}
+use Rattle.nbd_judge.proofs.{Common.{◌≡◌, ◌+◌, ◌-◌, ℕ, List, Option, Some, None, slice_get, slice_index_or, sym, ◌∙◌, subst, arith, slice_get-get_or, IsLeast, Entry, due_in}, orders.LateLemmas.{ServedDueFrom, found_first, found_later, found_now, is_late, least_step, not_late}}
 use Rattle.nbd_judge.proofs.order.late.Goals as goal
 
 pub loop-i-preserved-then-exceeds : goal.loop-i-preserved-then-exceeds

@@ -1,5 +1,4 @@
-use Rattle.nbd_judge.proofs.Common.{◌≤◌, length, IsLeast, due_in}
-use Rattle.nbd_judge.proofs.orders.LateLemmas.{IsFound, ServedDueFrom}
+use Rattle.nbd_judge.proofs.{Common.{◌≤◌, length, IsLeast, due_in}, orders.LateLemmas.{IsFound, ServedDueFrom}}
 use Rattle.nbd_judge.proofs.order.late.Given as goal
 
 abbrev pub invariant-loop-i : goal.invariant-loop-i

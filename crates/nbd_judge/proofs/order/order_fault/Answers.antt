@@ -1,5 +1,4 @@
-use Rattle.nbd_judge.proofs.Common.{length, sym, subst, AreServices}
-use Rattle.nbd_judge.proofs.orders.TableLemmas.{fair, none_bad, told_by_table}
+use Rattle.nbd_judge.proofs.{Common.{length, sym, subst, AreServices}, orders.TableLemmas.{fair, none_bad, told_by_table}}
 use Rattle.nbd_judge.proofs.order.order_fault.Goals as goal
 
 pub late-requires : goal.late-requires

@@ -1,6 +1,4 @@
-use Rattle.nbd_judge.proofs.Common.{◌-◌, ◌<◌, length, Some, Ok, Err, sym, ◌∙◌, ap, subst, arith, slice_index_or, None, slice_get-get_or, Entry, Asked, report_of_request, AreServices, IsServiceAfter}
-use Rattle.nbd_judge.proofs.orders.FirstLemmas.{read_at}
-use Rattle.nbd_judge.proofs.orders.TableLemmas.{first_bad, one_more_served, request_within}
+use Rattle.nbd_judge.proofs.{Common.{◌-◌, ◌<◌, length, Some, Ok, Err, sym, ◌∙◌, ap, subst, arith, slice_index_or, None, slice_get-get_or, Entry, Asked, report_of_request, AreServices, IsServiceAfter}, orders.{FirstLemmas.read_at, TableLemmas.{first_bad, one_more_served, request_within}}}
 use Rattle.nbd_judge.proofs.order.services.Goals as goal
 
 pub index_mut-requires-in-Ok : goal.index_mut-requires-in-Ok

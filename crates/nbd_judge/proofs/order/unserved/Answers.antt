@@ -1,9 +1,6 @@
-use Rattle.nbd_judge.proofs.Common.{◌≡◌, ◌+◌, ◌-◌, ℕ, List, Some, slice_get, inl, inr, sym, ◌∙◌, ap, subst, arith, option_copied, report_of_request, report_of_request_if, Span, Asked, Report, Service, IsAllServed, TellsFaultOf, cases_eq}
+use Rattle.nbd_judge.proofs.{Common.{◌≡◌, ◌+◌, ◌-◌, ℕ, List, Some, slice_get, inl, inr, sym, ◌∙◌, ap, subst, arith, option_copied, report_of_request, report_of_request_if, Span, Asked, Report, Service, IsAllServed, TellsFaultOf, cases_eq}, orders.{FirstLemmas.read_at, TableLemmas.{fault_here, not_asked, not_unserved}}, order.unserved.Goals.{in-Some+in_default-fault_of, in_default}}
 use Rattle.nbd_judge.specs.internal.Services.{IsFaultOf}
-use Rattle.nbd_judge.proofs.orders.FirstLemmas.{read_at}
-use Rattle.nbd_judge.proofs.orders.TableLemmas.{fault_here, not_asked, not_unserved}
 use Rattle.nbd_judge.proofs.order.unserved.Goals as goal
-use Rattle.nbd_judge.proofs.order.unserved.Goals.{in-Some+in_default-fault_of, in_default}
 
 pub returns-in-Some-fault_of : goal.returns-in-Some-fault_of
 returns-in-Some-fault_of c order h =

@@ -1,10 +1,6 @@
 use Rattle.nbd_judge.proofs.Common.{◌≡◌, ◌<◌, ℕ, Option, length, Some, None, slice_get, slice_index_or, refl, sym, ◌∙◌, ap, subst, arith, slice_get-get_or, slice_get_within, Entry, Effect, IsWrong, effect, effect_if, effects, Asked, AreSameBelow, report_of_request, contents_with_effect, IsServable}
-use Rattle.nbd_judge.proofs.contents.EffectLemmas.{behind, next, none_through, served}
-use Rattle.nbd_judge.proofs.contents.PartLemmas.{well_placed}
-use Rattle.nbd_judge.proofs.contents.SortLemmas.{kept_sorted}
-use Rattle.nbd_judge.proofs.verdicts.SoundLemmas.{servable}
+use Rattle.nbd_judge.proofs.{contents.{EffectLemmas.{behind, next, none_through, served}, PartLemmas.well_placed, SortLemmas.kept_sorted}, verdicts.SoundLemmas.servable, replay.first_wrong.Goals.{in-Some+in_ok-found+in_default-found+in_ok-change, in_default}}
 use Rattle.nbd_judge.proofs.replay.first_wrong.Goals as goal
-use Rattle.nbd_judge.proofs.replay.first_wrong.Goals.{in-Some+in_ok-found+in_default-found+in_ok-change, in_default}
 
 pub wrong-requires-clause-sorted : goal.wrong-requires-clause-sorted
 wrong-requires-clause-sorted g c =

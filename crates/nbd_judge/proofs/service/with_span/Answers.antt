@@ -1,7 +1,5 @@
-use Rattle.nbd_judge.proofs.Common.{◌≡◌, ◌-◌, ◌<◌, ◌⊎◌, Some, ap, subst, sym, ◌∙◌, HasMore, IsFree, Meets, Names-push, Parts, sizes_of}
-use Rattle.nbd_judge.proofs.orders.ServiceLemmas.{in_span, may_serve, meets_part, off_span, one_more, out_of_span}
+use Rattle.nbd_judge.proofs.{Common.{◌≡◌, ◌-◌, ◌<◌, ◌⊎◌, Some, ap, subst, sym, ◌∙◌, HasMore, IsFree, Meets, Names-push, Parts, sizes_of}, orders.ServiceLemmas.{in_span, may_serve, meets_part, off_span, one_more, out_of_span}, service.with_span.Goals.{then-not-lies_in-via-then-not-lies_in, then-not-lies_in-via-else-not-lies_in+in_ok-insert+then-not-branch}}
 use Rattle.nbd_judge.proofs.service.with_span.Goals as goal
-use Rattle.nbd_judge.proofs.service.with_span.Goals.{then-not-lies_in-via-then-not-lies_in, then-not-lies_in-via-else-not-lies_in+in_ok-insert+then-not-branch}
 
 pub returns-then-not-lies_in : goal.returns-then-not-lies_in
 returns-then-not-lies_in c = λ within before k is_span h. elim c.then-not-lies_in.branch [

@@ -1,5 +1,4 @@
-use Rattle.nbd_judge.proofs.Common.{◌≡◌, map, rules, subst, Bor, List, filter, nat_lt, filter_same, IsNonDecreasingBy-from_sort_by_key, IsPermutation, IsNonDecreasingBy, Piece, piece_offset, piece_size}
-use Rattle.nbd_judge.proofs.contents.SortLemmas.{sorted_references}
+use Rattle.nbd_judge.proofs.{Common.{◌≡◌, map, rules, subst, Bor, List, filter, nat_lt, filter_same, IsNonDecreasingBy-from_sort_by_key, IsPermutation, IsNonDecreasingBy, Piece, piece_offset, piece_size}, contents.SortLemmas.sorted_references}
 use Rattle.nbd_judge.proofs.sorting.by_offset.Goals as goal
 
 pub returns : goal.returns

@@ -1,5 +1,4 @@
-use Rattle.nbd_judge.proofs.Common.{rules, ◌+◌, ◌-◌, Bor, nat_le, nat_lt, length, take, drop, List, IsNonDecreasingBy-drop, IsNonDecreasingBy-take, IsPartitionPoint-from_clause, IsPartitionedBy-leb, IsPartitionedBy-ltb, Piece, piece_offset, piece_size}
-use Rattle.nbd_judge.proofs.contents.SortLemmas.{begins_rise, ends_rise, those_between}
+use Rattle.nbd_judge.proofs.{Common.{rules, ◌+◌, ◌-◌, Bor, nat_le, nat_lt, length, take, drop, List, IsNonDecreasingBy-drop, IsNonDecreasingBy-take, IsPartitionPoint-from_clause, IsPartitionedBy-leb, IsPartitionedBy-ltb, Piece, piece_offset, piece_size}, contents.SortLemmas.{begins_rise, ends_rise, those_between}}
 use Rattle.nbd_judge.proofs.sorting.meeting.Goals as goal
 
 pub returns : goal.returns

@@ -1,7 +1,5 @@
-use Rattle.nbd_judge.proofs.Common.{◌≡◌, ◌+◌, ◌<◌, Bool, List, length, sym, ◌∙◌, ap, arith, Asked, is_amiss, report_of_request}
-use Rattle.nbd_judge.proofs.verdicts.CountLemmas.{none_there, one_counted, one_passed}
+use Rattle.nbd_judge.proofs.{Common.{◌≡◌, ◌+◌, ◌<◌, Bool, List, length, sym, ◌∙◌, ap, arith, Asked, is_amiss, report_of_request}, verdicts.CountLemmas.{none_there, one_counted, one_passed}, tally.improper_count.Goals.{in-Some+then-is_amiss, in-Some+else-is_amiss, in_default}}
 use Rattle.nbd_judge.proofs.tally.improper_count.Goals as goal
-use Rattle.nbd_judge.proofs.tally.improper_count.Goals.{in-Some+then-is_amiss, in-Some+else-is_amiss, in_default}
 
 pub loop-i-preserved : goal.loop-i-preserved
 loop-i-preserved c =

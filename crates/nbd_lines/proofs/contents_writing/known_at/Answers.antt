@@ -1,9 +1,6 @@
-use Rattle.nbd_lines.proofs.Common.{◌≡◌, ◌+◌, ◌<◌, slice_index, ◌∙◌, ◌-◌, ap, arith, length-take-le}
+use Rattle.nbd_lines.proofs.{Common.{◌≡◌, ◌+◌, ◌<◌, slice_index, ◌∙◌, ◌-◌, ap, arith, length-take-le}, ShowingLemmas.known_there, UnwrittenLemmas.byte_if_known, contents_writing.known_at.Goals.{then-are_zeroes, else-are_zeroes}}
 use Rattle.nbd_export.specs.Extents.{byte_of}
-use Rattle.nbd_lines.proofs.ShowingLemmas.{known_there}
-use Rattle.nbd_lines.proofs.UnwrittenLemmas.{byte_if_known}
 use Rattle.nbd_lines.proofs.contents_writing.known_at.Goals as goal
-use Rattle.nbd_lines.proofs.contents_writing.known_at.Goals.{then-are_zeroes, else-are_zeroes}
 
 pub returns-clause-piece : goal.returns-clause-piece
 returns-clause-piece c = grind (arith, length-take-le, then-are_zeroes, else-are_zeroes, known_there)

@@ -1,5 +1,4 @@
-use Rattle.nbd_lines.proofs.Common.{arith}
-use Rattle.nbd_lines.proofs.ShowingLemmas.{is_cut, of_unknown, of_zeroes, unknown_piece, zeroes_piece}
+use Rattle.nbd_lines.proofs.{Common.arith, ShowingLemmas.{is_cut, of_unknown, of_zeroes, unknown_piece, zeroes_piece}}
 use Rattle.nbd_lines.proofs.contents_writing.piece_at.Goals as goal
 
 pub returns-in-Unknown-clause-piece : goal.returns-in-Unknown-clause-piece

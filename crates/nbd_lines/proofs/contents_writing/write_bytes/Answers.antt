@@ -1,6 +1,5 @@
-use Rattle.nbd_lines.proofs.Common.{◌∷◌, ◌++◌, [], err_from_is_err_and, on_err_weaker, decimal, line_feed, space, AppendsPrefix, codes, encode_lower, subst}
+use Rattle.nbd_lines.proofs.{Common.{◌∷◌, ◌++◌, [], err_from_is_err_and, on_err_weaker, decimal, line_feed, space, AppendsPrefix, codes, encode_lower, subst}, PieceTextLemmas.head_line}
 use Rattle.nbd_capture.proofs.WriterLemmas.{prefix_then, then_prefix}
-use Rattle.nbd_lines.proofs.PieceTextLemmas.{head_line}
 use Rattle.nbd_lines.proofs.contents_writing.write_bytes.Goals as goal
 
 pub returns-in_err-write_head-clause-err : goal.returns-in_err-write_head-clause-err

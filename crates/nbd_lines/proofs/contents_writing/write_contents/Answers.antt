@@ -1,12 +1,9 @@
-use Rattle.nbd_lines.proofs.Common.{held, arith, err_from_is_err_and, on_err_weaker, piece_lines, subst, sym, size_line, Appends, AppendsPrefix}
+use Rattle.nbd_lines.proofs.{Common.{held, arith, err_from_is_err_and, on_err_weaker, piece_lines, subst, sym, size_line, Appends, AppendsPrefix}, PrintedContentsLemmas.printed_read, UnwrittenLemmas.{are_held, from_0}}
 use Rattle.nbd_export.proofs.HeldLemmas.{length-held_from}
-use Rattle.nbd_lines.proofs.PrintedContentsLemmas.{printed_read}
-use Rattle.nbd_lines.proofs.UnwrittenLemmas.{are_held, from_0}
 use Rattle.nbd_capture.proofs.WriterLemmas.{prefix_then, then_prefix}
-use Rattle.nbd_lines.specs.internal.Showing.{AreBytes, left}
+use Rattle.nbd_lines.specs.internal.{AreBytes, left}
 use Rattle.nbd_export.specs.Extents.{byte_of, size_of}
-use Rattle.std.proofs.KnownBytes.{Appends-trans}
-use Rattle.std.proofs.lemmas.Result.{on_ok_weaker}
+use Rattle.std.proofs.{KnownBytes.Appends-trans, lemmas.Result.on_ok_weaker}
 use Rattle.nbd_lines.proofs.contents_writing.write_contents.Goals as goal
 
 pub returns-in_err-write_size-clause-err : goal.returns-in_err-write_size-clause-err

@@ -1,12 +1,8 @@
-use Rattle.nbd_lines.proofs.Common.{◌≡◌, ◌++◌, ◌-◌, ◌≤◌, ◌∙◌, List, ℕ, [], ap, arith, append-nil, err_from_is_err_and, on_err_weaker, length-take-le, subst, sym, take, piece_lines, Appends, AppendsPrefix}
-use Rattle.nbd_lines.proofs.UnwrittenLemmas.{Left, all_written, at_the_end, bytes_follow, more_bytes, none_left, run_broken, run_ended, run_goes_on, unwritten, with_next}
+use Rattle.nbd_lines.proofs.{Common.{◌≡◌, ◌++◌, ◌-◌, ◌≤◌, ◌∙◌, List, ℕ, [], ap, arith, append-nil, err_from_is_err_and, on_err_weaker, length-take-le, subst, sym, take, piece_lines, Appends, AppendsPrefix}, UnwrittenLemmas.{Left, all_written, at_the_end, bytes_follow, more_bytes, none_left, run_broken, run_ended, run_goes_on, unwritten, with_next}}
 use Rattle.nbd_capture.proofs.WriterLemmas.{broken_off, nothing_yet, one_more, plainly}
-use Rattle.nbd_lines.specs.internal.Showing.{left, run_line}
-use Rattle.nbd_export.specs.Extents.{byte_of, size_of}
-use Rattle.nbd_export.specs.declared.kind.Kind.TheVariants.{Bytes}
-use Rattle.nbd_export.specs.contracts.kind.Kind.{the_type}
-use Rattle.std.proofs.Common.{rules}
-use Rattle.std.proofs.lemmas.Result.{on_ok_weaker}
+use Rattle.nbd_lines.specs.internal.{left, run_line}
+use Rattle.nbd_export.specs.{Extents.{byte_of, size_of}, declared.kind.Kind.TheVariants.Bytes, contracts.kind.Kind.the_type}
+use Rattle.std.proofs.{Common.rules, lemmas.Result.on_ok_weaker}
 use denote.Enum.Bare.{same_false, same_true}
 use Rattle.nbd_lines.proofs.contents_writing.write_pieces.Goals as goal
 

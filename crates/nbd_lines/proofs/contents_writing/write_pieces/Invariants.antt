@@ -1,6 +1,5 @@
-use Rattle.nbd_lines.proofs.Common.{◌≤◌, ◌-◌, piece_lines}
-use Rattle.nbd_lines.proofs.UnwrittenLemmas.{Left, unwritten}
-use Rattle.nbd_lines.specs.internal.Showing.{AreBytes, left}
+use Rattle.nbd_lines.proofs.{Common.{◌≤◌, ◌-◌, piece_lines}, UnwrittenLemmas.{Left, unwritten}}
+use Rattle.nbd_lines.specs.internal.{AreBytes, left}
 use Rattle.nbd_export.specs.Extents.{size_of}
 use Rattle.nbd_lines.proofs.contents_writing.write_pieces.Given as goal
 

@@ -1,5 +1,4 @@
-use Rattle.nbd_lines.proofs.Common.{◌∷◌, ◌++◌, ◌-◌, codes, decimal, line_feed, on_err_weaker, space, subst, [], AppendsPrefix}
-use Rattle.nbd_lines.proofs.PieceTextLemmas.{head_line}
+use Rattle.nbd_lines.proofs.{Common.{◌∷◌, ◌++◌, ◌-◌, codes, decimal, line_feed, on_err_weaker, space, subst, [], AppendsPrefix}, PieceTextLemmas.head_line}
 use Rattle.nbd_lines.proofs.contents_writing.write_run.Goals as goal
 
 pub returns-in-Unknown-clause-err : goal.returns-in-Unknown-clause-err

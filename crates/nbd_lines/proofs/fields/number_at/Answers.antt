@@ -1,5 +1,4 @@
-use Rattle.nbd_lines.proofs.Common.{◌≡◌, ◌^◌, ◌<◌, ◌∷◌, ◌++◌, arith, ap, ◌∙◌, sym, List, ℕ, decimal_injective, space, equals, field_name}
-use Rattle.nbd_lines.proofs.NumberLemmas.{number_read, number_word}
+use Rattle.nbd_lines.proofs.{Common.{◌≡◌, ◌^◌, ◌<◌, ◌∷◌, ◌++◌, arith, ap, ◌∙◌, sym, List, ℕ, decimal_injective, space, equals, field_name}, NumberLemmas.{number_read, number_word}}
 use Rattle.nbd_lines.proofs.fields.number_at.Goals as goal
 
 -- the parts that were split off, joined again

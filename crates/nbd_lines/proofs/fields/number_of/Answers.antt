@@ -1,5 +1,4 @@
-use Rattle.nbd_lines.proofs.Common.{arith, ◌≡◌, true, false, IsValidUpTo, valid_up_to}
-use Rattle.nbd_lines.proofs.DecimalLemmas.{not_utf8, plain_digits_parse, plain_as_decimal, utf8_as_decimal, utf8_text}
+use Rattle.nbd_lines.proofs.{Common.{arith, ◌≡◌, true, false, IsValidUpTo, valid_up_to}, DecimalLemmas.{not_utf8, plain_digits_parse, plain_as_decimal, utf8_as_decimal, utf8_text}}
 use Rattle.nbd_lines.proofs.fields.number_of.Goals as goal
 
 pub returns-then-not-begins_plainly : goal.returns-then-not-begins_plainly

@@ -1,5 +1,4 @@
-use Rattle.nbd_lines.proofs.Common.{arith}
-use Rattle.nbd_lines.proofs.NumberLemmas.{all_past, none_ahead, none_past, one_past}
+use Rattle.nbd_lines.proofs.{Common.arith, NumberLemmas.{all_past, none_ahead, none_past, one_past}}
 use Rattle.nbd_lines.proofs.fields.numbers_at.Goals as goal
 
 pub loop-k-init : goal.loop-k-init

@@ -1,5 +1,4 @@
-use Rattle.nbd_lines.proofs.Common.{map, made_chunk}
-use Rattle.nbd_lines.proofs.MadeLineLemmas.{chunks_of_bytes, made_capture}
+use Rattle.nbd_lines.proofs.{Common.{map, made_chunk}, MadeLineLemmas.{chunks_of_bytes, made_capture}}
 use Rattle.nbd_lines.proofs.laws.made_lines_are_a_capture.Goals as goal
 
 pub returns : goal.returns

@@ -1,5 +1,4 @@
-use Rattle.nbd_lines.proofs.Common.{one_reading, IsScriptLine}
-use Rattle.nbd_lines.proofs.ScriptLineLemmas.{one_saying}
+use Rattle.nbd_lines.proofs.{Common.{one_reading, IsScriptLine}, ScriptLineLemmas.one_saying}
 use Rattle.nbd_lines.proofs.laws.one_script_reading.Goals as goal
 
 pub returns : goal.returns

@@ -1,5 +1,4 @@
-use Rattle.nbd_lines.proofs.Common.{codes}
-use Rattle.nbd_lines.proofs.PrintableLemmas.{ok_alone, shown_then}
+use Rattle.nbd_lines.proofs.{Common.codes, PrintableLemmas.{ok_alone, shown_then}}
 use Rattle.nbd_lines.proofs.laws.shown_messages_and_ok_are_a_script.Goals as goal
 
 pub returns : goal.returns

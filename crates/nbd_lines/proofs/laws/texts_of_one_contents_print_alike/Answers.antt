@@ -1,5 +1,4 @@
-use Rattle.nbd_lines.proofs.Common.{ap, printed}
-use Rattle.nbd_lines.proofs.PrintedContentsLemmas.{printed_apart, small_size}
+use Rattle.nbd_lines.proofs.{Common.{ap, printed}, PrintedContentsLemmas.{printed_apart, small_size}}
 use Rattle.nbd_lines.proofs.laws.texts_of_one_contents_print_alike.Goals as goal
 
 pub returns : goal.returns

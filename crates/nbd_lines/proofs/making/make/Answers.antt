@@ -1,5 +1,4 @@
-use Rattle.nbd_lines.proofs.Common.{tests, rules}
-use Rattle.nbd_lines.proofs.MakeLemmas.{all_fit}
+use Rattle.nbd_lines.proofs.{Common.{tests, rules}, MakeLemmas.all_fit}
 use Rattle.nbd_lines.proofs.making.make.Goals as goal
 
 pub write_chunks-requires : goal.write_chunks-requires

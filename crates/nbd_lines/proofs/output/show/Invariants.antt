@@ -1,5 +1,4 @@
-use Rattle.nbd_lines.proofs.Common.{shown_line}
-use Rattle.nbd_lines.proofs.WrittenLineLemmas.{Written}
+use Rattle.nbd_lines.proofs.{Common.shown_line, WrittenLineLemmas.Written}
 use Rattle.nbd_lines.proofs.output.show.Given as goal
 
 abbrev pub invariant-loop-message : goal.invariant-loop-message

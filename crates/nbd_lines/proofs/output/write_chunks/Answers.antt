@@ -1,5 +1,4 @@
-use Rattle.nbd_lines.proofs.Common.{arith, ◌≡◌, ◌∙◌, err_from_is_err_and, enc, AppendsPrefix, made_line}
-use Rattle.nbd_lines.proofs.WrittenLineLemmas.{all_written, broken_line, each_fits, none_written, one_written, stopped_before}
+use Rattle.nbd_lines.proofs.{Common.{arith, ◌≡◌, ◌∙◌, err_from_is_err_and, enc, AppendsPrefix, made_line}, WrittenLineLemmas.{all_written, broken_line, each_fits, none_written, one_written, stopped_before}}
 use Rattle.nbd_lines.proofs.output.write_chunks.Goals as goal
 
 pub loop-message-init : goal.loop-message-init

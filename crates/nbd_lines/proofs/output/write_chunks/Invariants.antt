@@ -1,5 +1,4 @@
-use Rattle.nbd_lines.proofs.Common.{made_line}
-use Rattle.nbd_lines.proofs.WrittenLineLemmas.{Written}
+use Rattle.nbd_lines.proofs.{Common.made_line, WrittenLineLemmas.Written}
 use Rattle.nbd_lines.proofs.output.write_chunks.Given as goal
 
 abbrev pub invariant-loop-message : goal.invariant-loop-message

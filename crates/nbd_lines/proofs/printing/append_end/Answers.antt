@@ -1,5 +1,4 @@
-use Rattle.nbd_lines.proofs.Common.{arith}
-use Rattle.nbd_lines.proofs.PrintedLemmas.{end_printed}
+use Rattle.nbd_lines.proofs.{Common.arith, PrintedLemmas.end_printed}
 use Rattle.nbd_lines.proofs.printing.append_end.Goals as goal
 
 pub returns-clause-ok : goal.returns-clause-ok

@@ -1,5 +1,4 @@
-use Rattle.nbd_lines.proofs.Common.{arith, err_from_is_err_and}
-use Rattle.nbd_lines.proofs.PrintedLemmas.{adds_again, all_printed, none_printed, one_printed}
+use Rattle.nbd_lines.proofs.{Common.{arith, err_from_is_err_and}, PrintedLemmas.{adds_again, all_printed, none_printed, one_printed}}
 use Rattle.nbd_lines.proofs.printing.append_numbers.Goals as goal
 
 pub loop-k-init : goal.loop-k-init

@@ -1,5 +1,4 @@
-use Rattle.nbd_lines.proofs.Common.{◌≡◌, ◌++◌, end_text, numbers_text, payload_of, fields, has_payload, line_form, words}
-use Rattle.nbd_lines.proofs.PrintedLemmas.{line_printed}
+use Rattle.nbd_lines.proofs.{Common.{◌≡◌, ◌++◌, end_text, numbers_text, payload_of, fields, has_payload, line_form, words}, PrintedLemmas.line_printed}
 use Rattle.nbd_lines.proofs.printing.append_parts.Goals as goal
 
 pub returns-clause-ok : goal.returns-clause-ok

@@ -1,5 +1,4 @@
-use Rattle.nbd_lines.proofs.Common.{arith}
-use Rattle.nbd_lines.proofs.EndLemmas.{empty, nothing_at, payload_at, bad_digits_are_no_end}
+use Rattle.nbd_lines.proofs.{Common.arith, EndLemmas.{empty, nothing_at, payload_at, bad_digits_are_no_end}}
 use Rattle.nbd_lines.proofs.reading.end_at.Goals as goal
 
 pub returns-then-not-has_payload : goal.returns-then-not-has_payload

@@ -1,5 +1,4 @@
-use Rattle.nbd_lines.proofs.Common.{◌≡◌, ℕ, List, MatchOption, None, Option, Some, length, subst, sym, take, FitsItsHead, Message, IsEnd, IsMessageLine, ReadsNumbers, fields, has_payload}
-use Rattle.nbd_lines.proofs.MessageLineLemmas.{from_parts, misfit}
+use Rattle.nbd_lines.proofs.{Common.{◌≡◌, ℕ, List, MatchOption, None, Option, Some, length, subst, sym, take, FitsItsHead, Message, IsEnd, IsMessageLine, ReadsNumbers, fields, has_payload}, MessageLineLemmas.{from_parts, misfit}}
 use Rattle.nbd_lines.proofs.reading.parse_message.Goals as goal
 
 -- the message of a line, if it fits

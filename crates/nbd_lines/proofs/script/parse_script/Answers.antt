@@ -1,5 +1,4 @@
-use Rattle.nbd_lines.proofs.Common.{◌≡◌, ◌∷◌, ◌++◌, ◌+◌, err_from_is_err_and, line_feed, IsUnbroken, advance, done, cut_off, one_reading, Line, IsScriptLine, said_by}
-use Rattle.nbd_lines.proofs.ScriptLineLemmas.{one_saying, only_memory, stopped_script}
+use Rattle.nbd_lines.proofs.{Common.{◌≡◌, ◌∷◌, ◌++◌, ◌+◌, err_from_is_err_and, line_feed, IsUnbroken, advance, done, cut_off, one_reading, Line, IsScriptLine, said_by}, ScriptLineLemmas.{one_saying, only_memory, stopped_script}}
 use Rattle.nbd_lines.proofs.script.parse_script.Goals as goal
 
 pub returns-in_err-line-clause-fault : goal.returns-in_err-line-clause-fault

@@ -1,5 +1,4 @@
-use Rattle.nbd_order.proofs.Common.{◌≡◌, ℕ, suc, ◌+◌, ◌≤◌, length, inl, inr, sym, ◌∙◌, ap, Some, if◌then◌else◌, arith, false, slice_get, slice_get_cases, option_copied, Span, is_in, piece_offset, piece_size, first_shown, with_counts, looked_up, read_shows}
-use Rattle.nbd_order.proofs.DueLemmas.{from_end, from_next, shown_from}
+use Rattle.nbd_order.proofs.{Common.{◌≡◌, ℕ, suc, ◌+◌, ◌≤◌, length, inl, inr, sym, ◌∙◌, ap, Some, if◌then◌else◌, arith, false, slice_get, slice_get_cases, option_copied, Span, is_in, piece_offset, piece_size, first_shown, with_counts, looked_up, read_shows}, DueLemmas.{from_end, from_next, shown_from}}
 use Rattle.nbd_order.proofs.due.shown_at.Goals as goal
 
 pub loop-i-preserved : goal.loop-i-preserved

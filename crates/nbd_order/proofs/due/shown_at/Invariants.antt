@@ -1,5 +1,4 @@
-use Rattle.nbd_order.proofs.Common.{◌≡◌, with_counts, first_shown}
-use Rattle.nbd_order.proofs.DueLemmas.{shown_from}
+use Rattle.nbd_order.proofs.{Common.{◌≡◌, with_counts, first_shown}, DueLemmas.shown_from}
 use Rattle.nbd_order.proofs.due.shown_at.Given as goal
 
 abbrev pub invariant-loop-i : goal.invariant-loop-i

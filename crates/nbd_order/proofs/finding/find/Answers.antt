@@ -1,6 +1,5 @@
-use Rattle.nbd_order.proofs.Common.{subst, sym, ◌∙◌, ap, initial_of, one_verdict, Passes, AreWhole, arrival, Order}
+use Rattle.nbd_order.proofs.{Common.{subst, sym, ◌∙◌, ap, initial_of, one_verdict, Passes, AreWhole, arrival, Order}, FoundLemmas.{arrival_whole, does_not_pass, passes, says_of, whole_wanted}}
 use Rattle.nbd_order.specs.declared.finding.Found.TheVariants.{Image}
-use Rattle.nbd_order.proofs.FoundLemmas.{arrival_whole, does_not_pass, passes, says_of, whole_wanted}
 use Rattle.nbd_order.proofs.finding.find.Goals as goal
 
 pub searched-requires : goal.searched-requires

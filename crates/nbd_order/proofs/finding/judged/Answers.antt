@@ -1,7 +1,5 @@
-use Rattle.nbd_order.proofs.Common.{subst, sym, initial_of, Passes, IsFound}
-use Rattle.nbd_order.proofs.FoundLemmas.{passes}
+use Rattle.nbd_order.proofs.{Common.{subst, sym, initial_of, Passes, IsFound}, FoundLemmas.passes, finding.judged.Goals.{then-eq+then-not-are_whole, else-eq}}
 use Rattle.nbd_order.proofs.finding.judged.Goals as goal
-use Rattle.nbd_order.proofs.finding.judged.Goals.{then-eq+then-not-are_whole, else-eq}
 
 pub returns-after-eq-clause-found : goal.returns-after-eq-clause-found
 returns-after-eq-clause-found c =

@@ -1,11 +1,9 @@
-use Rattle.nbd_order.proofs.Common.{ℕ, Option, refl, sym, ◌∙◌, ap, subst}
+use Rattle.nbd_order.proofs.{Common.{ℕ, Option, refl, sym, ◌∙◌, ap, subst}, LeavingLemmas.{at_next, none_missing, step_closed, step_open}, leaving.forget_open.Goals.{in-Some+then-is_open+in_ok-erase, in-Some+else-is_open, in_default}}
 use Rattle.std.specs.Prelude.{◌<◌, ◌≤◌}
 use Rattle.std.proofs.lemmas.List.{drop_all}
 use Rattle.nbd_state.specs.Transcripts.{report_of_request}
 use Rattle.nbd_order.specs.Leaving.{forgotten}
-use Rattle.nbd_order.proofs.LeavingLemmas.{at_next, none_missing, step_closed, step_open}
 use Rattle.nbd_order.proofs.leaving.forget_open.Goals as goal
-use Rattle.nbd_order.proofs.leaving.forget_open.Goals.{in-Some+then-is_open+in_ok-erase, in-Some+else-is_open, in_default}
 
 pub loop-i-init : goal.loop-i-init
 loop-i-init g c = record { size = refl; done = λ x l. refl }

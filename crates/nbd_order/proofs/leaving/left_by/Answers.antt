@@ -1,9 +1,8 @@
-use Rattle.nbd_order.proofs.Common.{ℕ, ◌<◌, Option, sym, ◌∙◌, subst}
+use Rattle.nbd_order.proofs.{Common.{ℕ, ◌<◌, Option, sym, ◌∙◌, subst}, LeavingLemmas.left_of_start}
 use Rattle.nbd_wire.specs.Prelude.{FitsImage, Exporting}
 use Rattle.nbd_export.specs.Extents.{byte_of, size_of}
 use Rattle.nbd_judge.specs.Beginnings.{initial_of}
 use Rattle.nbd_judge.proofs.contents.StartLemmas.{exporting_of}
-use Rattle.nbd_order.proofs.LeavingLemmas.{left_of_start}
 use Rattle.nbd_order.proofs.leaving.left_by.Goals as goal
 
 pub returns-in-Ok : goal.returns-in-Ok

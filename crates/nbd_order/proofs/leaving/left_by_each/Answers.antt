@@ -1,7 +1,6 @@
-use Rattle.nbd_order.proofs.Common.{◌<◌, Option, Report, Exporting, FitsImage, sym, ◌∙◌, initial_of, start_byte, subst}
+use Rattle.nbd_order.proofs.{Common.{◌<◌, Option, Report, Exporting, FitsImage, sym, ◌∙◌, initial_of, start_byte, subst}, SettleLemmas.sure_held}
 use Rattle.nbd_export.specs.Extents.{byte_of, size_of}
 use Rattle.nbd_judge.proofs.contents.StartLemmas.{exporting_of}
-use Rattle.nbd_order.proofs.SettleLemmas.{sure_held}
 use Rattle.nbd_order.proofs.leaving.left_by_each.Goals as goal
 
 pub returns-in_ok-sweep-in-Ok : goal.returns-in_ok-sweep-in-Ok

@@ -1,6 +1,5 @@
 use Rattle.nbd_export.specs.Extents.{byte_of, size_of}
-use Rattle.nbd_judge.specs.Captures.{SaysYes}
-use Rattle.nbd_judge.specs.Left.{byte_behind}
+use Rattle.nbd_judge.specs.{Captures.SaysYes, Folding.byte_behind}
 use Rattle.nbd_order.proofs.LeavingLemmas.{left_held}
 use Rattle.nbd_order.proofs.leaving.left_on.Goals as goal
 

@@ -1,5 +1,4 @@
-use Rattle.nbd_order.proofs.Common.{sym, report_of_request}
-use Rattle.nbd_order.proofs.OffsetLemmas.{ended_before}
+use Rattle.nbd_order.proofs.{Common.{sym, report_of_request}, OffsetLemmas.ended_before}
 use Rattle.nbd_order.proofs.offsets.is_before.Goals as goal
 
 pub returns-then-is_below-2 : goal.returns-then-is_below-2

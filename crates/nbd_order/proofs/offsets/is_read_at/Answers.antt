@@ -1,5 +1,4 @@
-use Rattle.nbd_order.proofs.Common.{sym, ◌∙◌, report_of_request}
-use Rattle.nbd_order.proofs.OffsetLemmas.{read_at}
+use Rattle.nbd_order.proofs.{Common.{sym, ◌∙◌, report_of_request}, OffsetLemmas.read_at}
 use Rattle.nbd_order.proofs.offsets.is_read_at.Goals as goal
 
 pub returns-in-Some : goal.returns-in-Some

@@ -1,5 +1,4 @@
-use Rattle.nbd_order.proofs.Common.{start_byte, initial_of}
-use Rattle.nbd_order.proofs.RefutationLemmas.{refuted}
+use Rattle.nbd_order.proofs.{Common.{start_byte, initial_of}, RefutationLemmas.refuted}
 use Rattle.nbd_order.proofs.refuting.is_refuted.Goals as goal
 
 pub returns-then-are_its_requests : goal.returns-then-are_its_requests

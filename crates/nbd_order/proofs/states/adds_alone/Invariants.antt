@@ -1,5 +1,4 @@
-use Rattle.nbd_order.proofs.Common.{◌≡◌, ◌==◌, ◌||◌, has}
-use Rattle.nbd_order.proofs.NumberLemmas.{EachOf}
+use Rattle.nbd_order.proofs.{Common.{◌≡◌, ◌==◌, ◌||◌, has}, NumberLemmas.EachOf}
 use Rattle.nbd_order.proofs.states.adds_alone.Given as goal
 
 abbrev pub invariant-loop-d : goal.invariant-loop-d

@@ -1,5 +1,4 @@
-use Rattle.nbd_order.proofs.Common.{◌≡◌, false, has}
-use Rattle.nbd_order.proofs.NumberLemmas.{EachOf}
+use Rattle.nbd_order.proofs.{Common.{◌≡◌, false, has}, NumberLemmas.EachOf}
 use Rattle.nbd_order.proofs.states.has_none.Given as goal
 
 abbrev pub invariant-loop-c : goal.invariant-loop-c

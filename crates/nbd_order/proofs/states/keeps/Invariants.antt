@@ -1,5 +1,4 @@
-use Rattle.nbd_order.proofs.Common.{◌≡◌, true, has}
-use Rattle.nbd_order.proofs.NumberLemmas.{EachOf}
+use Rattle.nbd_order.proofs.{Common.{◌≡◌, true, has}, NumberLemmas.EachOf}
 use Rattle.nbd_order.proofs.states.keeps.Given as goal
 
 abbrev pub invariant-loop-k : goal.invariant-loop-k

@@ -1,10 +1,7 @@
-use Rattle.nbd_order.proofs.Common.{◌≡◌, ℕ, ◌<◌, Some, ◌∙◌, ap}
-use Rattle.std.specs.declared.alloc.Global.{Global}
-use Rattle.std.specs.declared.vec.Vec.{Vec}
+use Rattle.nbd_order.proofs.{Common.{◌≡◌, ℕ, ◌<◌, Some, ◌∙◌, ap}, StretchLemmas.halves}
+use Rattle.std.specs.declared.{alloc.Global.Global, vec.Vec.Vec}
 use Rattle.std.proofs.lemmas.Result.{IfOk-weaker}
-use Rattle.nbd_order.specs.declared.stretches.Stretch.{Stretch}
-use Rattle.nbd_order.specs.internal.Stretches.{joined_if, stretch_here, touches_here}
-use Rattle.nbd_order.proofs.StretchLemmas.{halves}
+use Rattle.nbd_order.specs.{declared.stretches.Stretch.Stretch, internal.Here.{joined_if, stretch_here, touches_here}}
 use Rattle.nbd_order.proofs.stretches.+stretches_of.Goals as goal
 
 pub returns-then-touches-gt1 : goal.returns-then-touches-gt1

@@ -1,12 +1,8 @@
-use Rattle.nbd_order.proofs.Common.{◌<◌, inl, inr, sym, ◌∙◌, ap, arith, refl, cases_lt, drop, get_or, length}
+use Rattle.nbd_order.proofs.{Common.{◌<◌, inl, inr, sym, ◌∙◌, ap, arith, refl, cases_lt, drop, get_or, length}, StretchLemmas.{merge_end, merge_step}, stretches.merged.Goals.{else-loop-i-test, then-loop-i-test+else-j-later}}
 use Rattle.std.specs.Option.{option_or}
 use Rattle.std.proofs.lemmas.Option.{slice_get-get_or}
-use Rattle.nbd_order.specs.declared.stretches.Stretch.{Stretch}
-use Rattle.nbd_order.specs.internal.Here.{nothing}
-use Rattle.nbd_order.specs.internal.Stretches.{joined_if, stretch_here}
-use Rattle.nbd_order.proofs.StretchLemmas.{merge_end, merge_step}
+use Rattle.nbd_order.specs.{declared.stretches.Stretch.Stretch, internal.Here.{nothing, joined_if, stretch_here}}
 use Rattle.nbd_order.proofs.stretches.merged.Goals as goal
-use Rattle.nbd_order.proofs.stretches.merged.Goals.{else-loop-i-test, then-loop-i-test+else-j-later}
 
 pub loop-i-preserved : goal.loop-i-preserved
 loop-i-preserved c =

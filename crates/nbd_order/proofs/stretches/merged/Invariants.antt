@@ -1,7 +1,6 @@
 use Rattle.nbd_order.proofs.Common.{◌≡◌, ◌≤◌, ◌+◌, ℕ, drop, length}
-use Rattle.std.specs.Prelude.{◌-◌}
-use Rattle.std.specs.Option.{option_or}
-use Rattle.nbd_order.specs.internal.Stretches.{joined_if, stretch_here}
+use Rattle.std.specs.{Prelude.{◌-◌}, Option.option_or}
+use Rattle.nbd_order.specs.internal.Here.{joined_if, stretch_here}
 use Rattle.nbd_order.proofs.stretches.merged.Given as goal
 
 abbrev pub invariant-loop-i : goal.invariant-loop-i

@@ -1,7 +1,6 @@
-use Rattle.nbd_order.proofs.Common.{◌+◌, ◌∙◌, refl}
+use Rattle.nbd_order.proofs.{Common.{◌+◌, ◌∙◌, refl}, SettleLemmas.{on_ok, sliced}}
 use Rattle.std.specs.Prelude.{◌-◌, slice_range}
 use Rattle.nbd_export.specs.Extents.{byte_of}
-use Rattle.nbd_order.proofs.SettleLemmas.{on_ok, sliced}
 use Rattle.nbd_order.proofs.sweep.put_bytes.Goals as goal
 
 pub returns-clause-done : goal.returns-clause-done

@@ -1,10 +1,7 @@
-use Rattle.nbd_order.proofs.Common.{ℕ, ◌∙◌, Option, Some, sym, Asked, Report, effect, effect_byte, report_of_request}
-use Rattle.nbd_export.specs.Extents.{byte_of}
-use Rattle.nbd_export.specs.Ranges.{unknown}
+use Rattle.nbd_order.proofs.{Common.{ℕ, ◌∙◌, Option, Some, sym, Asked, Report, effect, effect_byte, report_of_request}, SettleLemmas.{change_in, change_lies, change_some, on_ok, overlay_kept, overlay_same, piece_lies, piece_some, piece_sure, read_some, shown_in, sound_asked}}
+use Rattle.nbd_export.specs.{Extents.byte_of, Ranges.unknown}
 use Rattle.nbd_wire.specs.Prelude.{piece_byte}
-use Rattle.nbd_order.specs.Sure.{sure}
-use Rattle.nbd_order.specs.declared.here.Holds.TheVariants.{First, Unknown}
-use Rattle.nbd_order.proofs.SettleLemmas.{change_in, change_lies, change_some, on_ok, overlay_kept, overlay_same, piece_lies, piece_some, piece_sure, read_some, shown_in, sound_asked}
+use Rattle.nbd_order.specs.{Sure.sure, declared.here.Holds.TheVariants.{First, Unknown}}
 use Rattle.nbd_order.proofs.sweep.settle.Goals as goal
 
 pub request-requires : goal.request-requires

@@ -1,13 +1,10 @@
-use Rattle.nbd_order.proofs.Common.{◌≡◌, ℕ, ◌<◌, ◌≤◌, inl, inr, Option, Some, sym, ◌∙◌, ap, subst, arith, cases_lt, get_or, slice_get, Report}
+use Rattle.nbd_order.proofs.{Common.{◌≡◌, ℕ, ◌<◌, ◌≤◌, inl, inr, Option, Some, sym, ◌∙◌, ap, subst, arith, cases_lt, get_or, slice_get, Report}, SettleLemmas.{left_next, none_behind, step_done, step_rest, told_here}, sweep.settle_all.Goals.{else-at-end, then-at-end+in_ok-settle}}
 use Rattle.std.specs.Prelude.{min}
 use Rattle.std.proofs.lemmas.Option.{slice_get-get_or}
 use Rattle.nbd_export.specs.Extents.{byte_of, size_of}
-use Rattle.nbd_order.specs.declared.stretches.Stretch.{Stretch}
-use Rattle.nbd_order.specs.internal.Here.{here_at, nothing}
+use Rattle.nbd_order.specs.{declared.stretches.Stretch.Stretch, internal.Here.{here_at, nothing}}
 use Rattle.nbd_judge.proofs.contents.CompareLemmas.{from_in}
-use Rattle.nbd_order.proofs.SettleLemmas.{left_next, none_behind, step_done, step_rest, told_here}
 use Rattle.nbd_order.proofs.sweep.settle_all.Goals as goal
-use Rattle.nbd_order.proofs.sweep.settle_all.Goals.{else-at-end, then-at-end+in_ok-settle}
 
 pub loop-stretch-preserved : goal.loop-stretch-preserved
 loop-stretch-preserved c =

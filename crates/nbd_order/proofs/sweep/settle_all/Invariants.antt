@@ -1,7 +1,6 @@
 use Rattle.nbd_order.proofs.Common.{◌≡◌, ◌<◌, ◌≤◌, ℕ, drop}
 use Rattle.nbd_export.specs.Extents.{byte_of, size_of}
-use Rattle.nbd_order.specs.Sure.{sure}
-use Rattle.nbd_order.specs.internal.Stretches.{stretch_here}
+use Rattle.nbd_order.specs.{Sure.sure, internal.Here.stretch_here}
 use Rattle.nbd_order.proofs.sweep.settle_all.Given as goal
 
 abbrev pub invariant-loop-stretch : goal.invariant-loop-stretch

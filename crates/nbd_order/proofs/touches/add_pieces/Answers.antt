@@ -1,11 +1,6 @@
-use Rattle.nbd_order.proofs.Common.{◌≡◌, ◌+◌, Some, sym, ◌∙◌, ap, arith, drop, length, slice_get}
-use Rattle.std.proofs.lemmas.Grind.{common_steps}
-use Rattle.std.proofs.lemmas.List.{drop_all}
-use Rattle.std.proofs.lemmas.Option.{gets}
-use Rattle.nbd_order.specs.internal.Here.{joined, pieces_here}
-use Rattle.nbd_order.specs.internal.Stretches.{touches_here}
-use Rattle.nbd_order.proofs.AddingLemmas.{piece_added}
-use Rattle.nbd_order.proofs.HereLemmas.{joined_nothing}
+use Rattle.nbd_order.proofs.{Common.{◌≡◌, ◌+◌, Some, sym, ◌∙◌, ap, arith, drop, length, slice_get}, AddingLemmas.piece_added, HereLemmas.joined_nothing}
+use Rattle.std.proofs.lemmas.{Grind.common_steps, List.drop_all, Option.gets}
+use Rattle.nbd_order.specs.internal.Here.{joined, pieces_here, touches_here}
 use Rattle.nbd_order.proofs.touches.add_pieces.Goals as goal
 
 pub loop-i-preserved : goal.loop-i-preserved

@@ -1,9 +1,5 @@
-use Rattle.nbd_order.proofs.Common.{sym, ◌∙◌, ap, if◌then◌else◌, is_in, report_of_request, Asked, Span}
-use Rattle.nbd_order.specs.Sure.{is_read}
-use Rattle.nbd_order.specs.declared.here.Here.{Here}
-use Rattle.nbd_order.specs.internal.Here.{here_if, joined, of_change, pieces_here}
-use Rattle.nbd_order.specs.internal.Stretches.{touches_here}
-use Rattle.nbd_order.proofs.StretchLemmas.{touches_push}
+use Rattle.nbd_order.proofs.{Common.{sym, ◌∙◌, ap, if◌then◌else◌, is_in, report_of_request, Asked, Span}, StretchLemmas.touches_push}
+use Rattle.nbd_order.specs.{Sure.is_read, declared.here.Here.Here, internal.Here.{here_if, joined, of_change, pieces_here, touches_here}}
 use Rattle.nbd_order.proofs.touches.add_request.Goals as goal
 
 pub returns-in_ok-push : goal.returns-in_ok-push

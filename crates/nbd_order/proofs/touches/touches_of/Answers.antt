@@ -1,12 +1,7 @@
-use Rattle.nbd_order.proofs.Common.{◌≡◌, Some, sym, ◌∙◌, ap, arith, length, slice_get, Asked, report_of_request}
+use Rattle.nbd_order.proofs.{Common.{◌≡◌, Some, sym, ◌∙◌, ap, arith, length, slice_get, Asked, report_of_request}, AddingLemmas.request_added, HereLemmas.{joined_nothing, nothing_joined}, LeavingLemmas.{at_next, none_missing}, touches.touches_of.Goals.{in-Some+in_ok-add_request, in_default}}
 use Rattle.std.proofs.lemmas.List.{drop_all}
-use Rattle.nbd_order.specs.internal.Here.{here_at, joined, requests_here}
-use Rattle.nbd_order.specs.internal.Stretches.{touches_here}
-use Rattle.nbd_order.proofs.AddingLemmas.{request_added}
-use Rattle.nbd_order.proofs.HereLemmas.{joined_nothing, nothing_joined}
-use Rattle.nbd_order.proofs.LeavingLemmas.{at_next, none_missing}
+use Rattle.nbd_order.specs.internal.Here.{here_at, joined, requests_here, touches_here}
 use Rattle.nbd_order.proofs.touches.touches_of.Goals as goal
-use Rattle.nbd_order.proofs.touches.touches_of.Goals.{in-Some+in_ok-add_request, in_default}
 
 pub loop-i-init : goal.loop-i-init
 loop-i-init c = λ x.

@@ -1,6 +1,5 @@
 use Rattle.nbd_order.proofs.Common.{◌≡◌, ℕ, drop}
-use Rattle.nbd_order.specs.internal.Here.{here_at, joined, requests_here}
-use Rattle.nbd_order.specs.internal.Stretches.{touches_here}
+use Rattle.nbd_order.specs.internal.Here.{here_at, joined, requests_here, touches_here}
 use Rattle.nbd_order.proofs.touches.touches_of.Given as goal
 
 abbrev pub invariant-loop-i : goal.invariant-loop-i

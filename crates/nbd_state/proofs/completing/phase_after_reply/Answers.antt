@@ -1,5 +1,4 @@
-use Rattle.nbd_state.proofs.Common.{◌∙◌, sym}
-use Rattle.nbd_state.proofs.PhaseLemmas.{behind_abort, behind_none, behind_option}
+use Rattle.nbd_state.proofs.{Common.{◌∙◌, sym}, PhaseLemmas.{behind_abort, behind_none, behind_option}}
 use Rattle.nbd_state.proofs.completing.phase_after_reply.Goals as goal
 
 pub returns-in-Aborting : goal.returns-in-Aborting

@@ -1,5 +1,4 @@
-use Rattle.nbd_state.proofs.Common.{◌≡◌, ◌+◌, ◌-◌, ◌++◌, ◌∙◌, ap, append-nil, append_assoc, arith, min, sym, extent_of, extents_of, zeroes_in, zero_part}
-use Rattle.nbd_state.proofs.ZeroLemmas.{next_zeroes}
+use Rattle.nbd_state.proofs.{Common.{◌≡◌, ◌+◌, ◌-◌, ◌++◌, ◌∙◌, ap, append-nil, append_assoc, arith, min, sym, extent_of, extents_of, zeroes_in, zero_part}, ZeroLemmas.next_zeroes}
 use Rattle.nbd_state.proofs.statuses.zeroes_in.Goals as goal
 
 pub loop-extent-init : goal.loop-extent-init

@@ -1,5 +1,4 @@
-use Rattle.nbd_tool.proofs.Common.{Ok, ap}
-use Rattle.nbd_tool.proofs.BeginningLemmas.{longer_read}
+use Rattle.nbd_tool.proofs.{Common.{Ok, ap}, BeginningLemmas.longer_read}
 use Rattle.nbd_tool.proofs.beginning.begin_image.Goals as goal
 
 pub returns-in-Longer-clause-read : goal.returns-in-Longer-clause-read

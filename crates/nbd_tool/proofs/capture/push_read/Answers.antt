@@ -1,6 +1,4 @@
-use Rattle.nbd_tool.proofs.Common.{[], Ok, append-nil, ap, refl, sym, arith, length, err_from_is_err_and, IfSome_then, Profile, names_first_bad, reads_to_end, whole_text, reads_same, flat_of}
-use Rattle.nbd_tool.proofs.OverLemmas.{cause_of, next_pushed}
-use Rattle.nbd_tool.proofs.SizeLemmas.{flat-le}
+use Rattle.nbd_tool.proofs.{Common.{[], Ok, append-nil, ap, refl, sym, arith, length, err_from_is_err_and, IfSome_then, Profile, names_first_bad, reads_to_end, whole_text, reads_same, flat_of}, OverLemmas.{cause_of, next_pushed}, SizeLemmas.flat-le}
 use Rattle.nbd_tool.proofs.capture.push_read.Goals as goal
 
 pub loop-bytes-init : goal.loop-bytes-init

@@ -1,5 +1,4 @@
-use Rattle.nbd_tool.proofs.Common.{IsOverText, IsCaptureCause, IsWithinLimit}
-use Rattle.nbd_tool.proofs.OverLemmas.{joined, joined_err, joined_on, on_ok_of, over_empty}
+use Rattle.nbd_tool.proofs.{Common.{IsOverText, IsCaptureCause, IsWithinLimit}, OverLemmas.{joined, joined_err, joined_on, on_ok_of, over_empty}}
 use Rattle.nbd_tool.proofs.capture.session_over.Goals as goal
 
 pub push_all-requires : goal.push_all-requires

@@ -1,5 +1,4 @@
-use Rattle.nbd_tool.proofs.Common.{EndsIn, Follows, IsReported}
-use Rattle.nbd_tool.proofs.OverLemmas.{following_empty, of_err, of_ok}
+use Rattle.nbd_tool.proofs.{Common.{EndsIn, Follows, IsReported}, OverLemmas.{following_empty, of_err, of_ok}}
 use Rattle.nbd_tool.proofs.capture.transcript_over.Goals as goal
 
 pub push_all-requires : goal.push_all-requires

@@ -1,7 +1,4 @@
-use Rattle.nbd_tool.proofs.Common.{err_from_is_err_and}
-use Rattle.nbd_tool.proofs.OverLemmas.{capture_over}
-use Rattle.nbd_tool.proofs.JudgedLemmas.{concluded, each_err, each_ok, leaves, tells}
-use Rattle.nbd_tool.proofs.SayLemmas.{answers_so, says_nothing, says_written}
+use Rattle.nbd_tool.proofs.{Common.err_from_is_err_and, OverLemmas.capture_over, JudgedLemmas.{concluded, each_err, each_ok, leaves, tells}, SayLemmas.{answers_so, says_nothing, says_written}}
 use Rattle.nbd_tool.proofs.check.run_check_of.Goals as goal
 
 pub returns-clause-written : goal.returns-clause-written

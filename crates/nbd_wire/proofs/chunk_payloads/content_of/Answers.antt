@@ -1,5 +1,4 @@
-use Rattle.nbd_wire.proofs.Common.{None, arith, sym, ◌∙◌, ap, piece_of, content_of}
-use Rattle.nbd_wire.proofs.ChunkReadLemmas.{content-none, content-form}
+use Rattle.nbd_wire.proofs.{Common.{None, arith, sym, ◌∙◌, ap, piece_of, content_of}, ChunkReadLemmas.{content-none, content-form}}
 use Rattle.nbd_wire.proofs.chunk_payloads.content_of.Goals as goal
 
 pub returns-in_default-clause-same : goal.returns-in_default-clause-same

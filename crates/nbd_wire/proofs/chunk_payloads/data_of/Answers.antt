@@ -1,5 +1,4 @@
-use Rattle.nbd_wire.proofs.ChunkReadLemmas.{data-short, data-whole}
-use Rattle.nbd_wire.proofs.ListedReadLemmas.{cut_behind}
+use Rattle.nbd_wire.proofs.{ChunkReadLemmas.{data-short, data-whole}, ListedReadLemmas.cut_behind}
 use Rattle.nbd_wire.proofs.chunk_payloads.data_of.Goals as goal
 
 pub returns-then-bytes-le-DATA : goal.returns-then-bytes-le-DATA

@@ -1,5 +1,4 @@
-use Rattle.nbd_wire.proofs.Common.{◌≡◌, ◌+◌, ◌≤◌, ℕ, length, sym, ◌∙◌, ap, arith, number_at}
-use Rattle.nbd_wire.proofs.ChunkReadLemmas.{failure-none, failure-plain, failure-placed, failure-form}
+use Rattle.nbd_wire.proofs.{Common.{◌≡◌, ◌+◌, ◌≤◌, ℕ, length, sym, ◌∙◌, ap, arith, number_at}, ChunkReadLemmas.{failure-none, failure-plain, failure-placed, failure-form}}
 use Rattle.nbd_wire.proofs.chunk_payloads.failure_of.Goals as goal
 
 pub returns-then-bytes-lt-MESSAGE-clause-same : goal.returns-then-bytes-lt-MESSAGE-clause-same

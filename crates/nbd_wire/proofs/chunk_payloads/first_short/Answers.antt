@@ -1,6 +1,4 @@
-use Rattle.nbd_wire.proofs.Common.{false, ◌≡◌, ◌∷◌, ◌∙◌, arith, sym, extents_of, number_at}
-use Rattle.nbd_wire.proofs.ListedReadLemmas.{cut_behind}
-use Rattle.nbd_wire.proofs.StatusLemmas.{extents-first, extents-none}
+use Rattle.nbd_wire.proofs.{Common.{false, ◌≡◌, ◌∷◌, ◌∙◌, arith, sym, extents_of, number_at}, ListedReadLemmas.cut_behind, StatusLemmas.{extents-first, extents-none}}
 use Rattle.nbd_wire.proofs.chunk_payloads.first_short.Goals as goal
 
 pub returns-then-descriptors-lt-DESCRIPTOR_LENGTH : goal.returns-then-descriptors-lt-DESCRIPTOR_LENGTH

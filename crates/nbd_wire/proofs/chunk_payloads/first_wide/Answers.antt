@@ -1,6 +1,4 @@
-use Rattle.nbd_wire.proofs.Common.{true, ◌≡◌, ◌∷◌, ◌∙◌, arith, sym, extents_of, number_at}
-use Rattle.nbd_wire.proofs.ListedReadLemmas.{cut_behind}
-use Rattle.nbd_wire.proofs.StatusLemmas.{wide-first, wide-none}
+use Rattle.nbd_wire.proofs.{Common.{true, ◌≡◌, ◌∷◌, ◌∙◌, arith, sym, extents_of, number_at}, ListedReadLemmas.cut_behind, StatusLemmas.{wide-first, wide-none}}
 use Rattle.nbd_wire.proofs.chunk_payloads.first_wide.Goals as goal
 
 pub returns-then-descriptors-lt-WIDE_DESCRIPTOR_LENGTH : goal.returns-then-descriptors-lt-WIDE_DESCRIPTOR_LENGTH

@@ -1,5 +1,4 @@
-use Rattle.nbd_wire.proofs.Common.{sym, ◌∙◌}
-use Rattle.nbd_wire.proofs.ChunkReadLemmas.{hole-none, hole-whole}
+use Rattle.nbd_wire.proofs.{Common.{sym, ◌∙◌}, ChunkReadLemmas.{hole-none, hole-whole}}
 use Rattle.nbd_wire.proofs.chunk_payloads.hole_of.Goals as goal
 
 pub returns-then-bytes-ne-HOLE_LENGTH : goal.returns-then-bytes-ne-HOLE_LENGTH

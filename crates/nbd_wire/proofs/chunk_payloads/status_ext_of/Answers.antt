@@ -1,9 +1,6 @@
-use Rattle.nbd_wire.proofs.Common.{◌≡◌, ◌*◌, true, false, None, Some, length, sym, ◌∙◌, ap, arith, Status, extents_of, has_empty, number_at}
-use Rattle.nbd_wire.proofs.ListedReadLemmas.{cut_behind}
-use Rattle.nbd_wire.proofs.NumberLemmas.{AreBytes-from_places}
-use Rattle.nbd_wire.proofs.StatusLemmas.{IsWhole, status-none, status-reads, status-some}
-use Rattle.nbd_wire.proofs.chunk_payloads.status_ext_of.Goals as goal
+use Rattle.nbd_wire.proofs.{Common.{◌≡◌, ◌*◌, true, false, None, Some, length, sym, ◌∙◌, ap, arith, Status, extents_of, has_empty, number_at}, ListedReadLemmas.cut_behind, NumberLemmas.AreBytes-from_places, StatusLemmas.{IsWhole, status-none, status-reads, status-some}}
 use Rattle.nbd_wire.proofs.chunk_payloads.status_ext_of.Goals.{then-descriptors-from-via-then-descriptors-from, then-descriptors-from-via-else-descriptors-from+then-is_one_empty}
+use Rattle.nbd_wire.proofs.chunk_payloads.status_ext_of.Goals as goal
 
 pub returns-then-bytes-clause-same : goal.returns-then-bytes-clause-same
 returns-then-bytes-clause-same c =

@@ -1,9 +1,5 @@
-use Rattle.nbd_wire.proofs.Common.{◌≡◌, ◌%◌, true, false, None, Some, sym, ◌∙◌, ap, arith, length-drop, Status, extents_of, has_empty}
-use Rattle.nbd_wire.proofs.ListedReadLemmas.{cut_behind}
-use Rattle.nbd_wire.proofs.NumberLemmas.{AreBytes-from_places}
-use Rattle.nbd_wire.proofs.StatusLemmas.{IsWhole, status-none, status-reads, status-some}
+use Rattle.nbd_wire.proofs.{Common.{◌≡◌, ◌%◌, true, false, None, Some, sym, ◌∙◌, ap, arith, length-drop, Status, extents_of, has_empty}, ListedReadLemmas.cut_behind, NumberLemmas.AreBytes-from_places, StatusLemmas.{IsWhole, status-none, status-reads, status-some}, chunk_payloads.status_of.Goals.{then-bytes-via-then-bytes, then-bytes-via-else-bytes+then-bytes-ne0}}
 use Rattle.nbd_wire.proofs.chunk_payloads.status_of.Goals as goal
-use Rattle.nbd_wire.proofs.chunk_payloads.status_of.Goals.{then-bytes-via-then-bytes, then-bytes-via-else-bytes+then-bytes-ne0}
 
 pub returns-then-bytes-clause-same : goal.returns-then-bytes-clause-same
 returns-then-bytes-clause-same c =

@@ -1,5 +1,4 @@
-use Rattle.nbd_wire.proofs.Common.{length, arith, ap}
-use Rattle.nbd_wire.proofs.EncodingLemmas.{length-tail}
+use Rattle.nbd_wire.proofs.{Common.{length, arith, ap}, EncodingLemmas.length-tail}
 use Rattle.nbd_wire.proofs.encoding.append.Goals as goal
 
 pub overflow_cast-tail : goal.overflow_cast-tail

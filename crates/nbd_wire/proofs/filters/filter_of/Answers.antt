@@ -1,9 +1,5 @@
-use Rattle.nbd_wire.proofs.Common.{◌%◌, None, Some, sym, ◌∙◌, ap, arith, length-drop, Filter, ids_of}
-use Rattle.nbd_wire.proofs.ListedReadLemmas.{cut_behind}
-use Rattle.nbd_wire.proofs.NumberLemmas.{AreBytes-from_places}
-use Rattle.nbd_wire.proofs.FilterLemmas.{IsWhole, filter-none, filter-reads, filter-some}
+use Rattle.nbd_wire.proofs.{Common.{◌%◌, None, Some, sym, ◌∙◌, ap, arith, length-drop, Filter, ids_of}, ListedReadLemmas.cut_behind, NumberLemmas.AreBytes-from_places, FilterLemmas.{IsWhole, filter-none, filter-reads, filter-some}, filters.filter_of.Goals.{then-bytes-lt-IDS-via-then-bytes-lt-IDS, then-bytes-lt-IDS-via-else-bytes-lt-IDS+then-bytes-ne0}}
 use Rattle.nbd_wire.proofs.filters.filter_of.Goals as goal
-use Rattle.nbd_wire.proofs.filters.filter_of.Goals.{then-bytes-lt-IDS-via-then-bytes-lt-IDS, then-bytes-lt-IDS-via-else-bytes-lt-IDS+then-bytes-ne0}
 
 pub returns-then-bytes-lt-IDS-clause-same : goal.returns-then-bytes-lt-IDS-clause-same
 returns-then-bytes-lt-IDS-clause-same c =

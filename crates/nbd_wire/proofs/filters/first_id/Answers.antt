@@ -1,6 +1,4 @@
-use Rattle.nbd_wire.proofs.Common.{◌∷◌, ◌∙◌, arith, sym, ids_of}
-use Rattle.nbd_wire.proofs.ListedReadLemmas.{cut_behind}
-use Rattle.nbd_wire.proofs.FilterLemmas.{ids-first, ids-none}
+use Rattle.nbd_wire.proofs.{Common.{◌∷◌, ◌∙◌, arith, sym, ids_of}, ListedReadLemmas.cut_behind, FilterLemmas.{ids-first, ids-none}}
 use Rattle.nbd_wire.proofs.filters.first_id.Goals as goal
 
 pub returns-then-ids-lt-ID_LENGTH : goal.returns-then-ids-lt-ID_LENGTH

@@ -1,5 +1,4 @@
-use Rattle.nbd_wire.proofs.Common.{arith, refl, sym, ◌∙◌, ap, ◌-◌, are_queries}
-use Rattle.nbd_wire.proofs.QueryLemmas.{behind, no_more, none_less, one_less}
+use Rattle.nbd_wire.proofs.{Common.{arith, refl, sym, ◌∙◌, ap, ◌-◌, are_queries}, QueryLemmas.{behind, no_more, none_less, one_less}}
 use Rattle.nbd_wire.proofs.option_payloads.are_queries.Goals as goal
 
 pub returns-in_default : goal.returns-in_default

@@ -1,7 +1,4 @@
-use Rattle.nbd_wire.proofs.Common.{None, Some, sym, ◌∙◌, arith, Context}
-use Rattle.nbd_wire.proofs.ListedReadLemmas.{cut_behind}
-use Rattle.nbd_wire.proofs.NumberLemmas.{AreBytes-from_places}
-use Rattle.nbd_wire.proofs.QueryLemmas.{context-long, context-reads, context-short}
+use Rattle.nbd_wire.proofs.{Common.{None, Some, sym, ◌∙◌, arith, Context}, ListedReadLemmas.cut_behind, NumberLemmas.AreBytes-from_places, QueryLemmas.{context-long, context-reads, context-short}}
 use Rattle.nbd_wire.proofs.option_payloads.context_of.Goals as goal
 
 pub returns-then-bytes-lt4-clause-same : goal.returns-then-bytes-lt4-clause-same

@@ -1,6 +1,4 @@
-use Rattle.nbd_wire.proofs.Common.{arith, None, Some, refl, sym, ◌∙◌, ap, ◌+◌, ◌*◌, ℕ, List, subst, ReadsAs}
-use Rattle.nbd_wire.proofs.NumberLemmas.{AreBytes-from_places}
-use Rattle.nbd_wire.proofs.ListedReadLemmas.{Go, go-no_name, go-no_rest, go-reads, go-tells}
+use Rattle.nbd_wire.proofs.{Common.{arith, None, Some, refl, sym, ◌∙◌, ap, ◌+◌, ◌*◌, ℕ, List, subst, ReadsAs}, NumberLemmas.AreBytes-from_places, ListedReadLemmas.{Go, go-no_name, go-no_rest, go-reads, go-tells}}
 use Rattle.nbd_wire.proofs.option_payloads.go_of.Goals as goal
 
 pub returns-in_err-name-clause-form : goal.returns-in_err-name-clause-form

@@ -1,5 +1,4 @@
-use Rattle.nbd_wire.proofs.Common.{arith}
-use Rattle.nbd_wire.proofs.InfoReadLemmas.{info-short, info-export, info-no_export, info-sizes, info-no_sizes, info-other, info-form}
+use Rattle.nbd_wire.proofs.{Common.arith, InfoReadLemmas.{info-short, info-export, info-no_export, info-sizes, info-no_sizes, info-other, info-form}}
 use Rattle.nbd_wire.proofs.option_payloads.info_of.Goals as goal
 
 pub returns-then-bytes-lt2-clause-same : goal.returns-then-bytes-lt2-clause-same

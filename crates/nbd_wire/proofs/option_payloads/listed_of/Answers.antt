@@ -1,6 +1,4 @@
-use Rattle.nbd_wire.proofs.Common.{arith}
-use Rattle.nbd_wire.proofs.NumberLemmas.{AreBytes-from_places}
-use Rattle.nbd_wire.proofs.ListedReadLemmas.{cut_behind, listed-none, listed-reads, listed-short, listed-tells}
+use Rattle.nbd_wire.proofs.{Common.arith, NumberLemmas.AreBytes-from_places, ListedReadLemmas.{cut_behind, listed-none, listed-reads, listed-short, listed-tells}}
 use Rattle.nbd_wire.proofs.option_payloads.listed_of.Goals as goal
 
 pub returns-then-bytes-lt4-clause-form : goal.returns-then-bytes-lt4-clause-form

@@ -1,6 +1,4 @@
-use Rattle.nbd_wire.proofs.Common.{refl, sym, arith}
-use Rattle.nbd_wire.proofs.NumberLemmas.{AreBytes-from_places}
-use Rattle.nbd_wire.proofs.QueryLemmas.{name_is, no_name}
+use Rattle.nbd_wire.proofs.{Common.{refl, sym, arith}, NumberLemmas.AreBytes-from_places, QueryLemmas.{name_is, no_name}}
 use Rattle.nbd_wire.proofs.option_payloads.name_in.Goals as goal
 
 pub returns-in-Some : goal.returns-in-Some

@@ -1,7 +1,4 @@
-use Rattle.nbd_wire.proofs.Common.{None, Some, refl, sym, ◌∙◌, ap, ℕ, List, Bor, drop, subst, arith, option_map, are_queries, ReadsAs}
-use Rattle.nbd_wire.proofs.ListedReadLemmas.{cut_behind}
-use Rattle.nbd_wire.proofs.NumberLemmas.{AreBytes-from_places}
-use Rattle.nbd_wire.proofs.QueryLemmas.{Asked, name_is, queries-long, queries-reads, queries-short, queries-unnamed}
+use Rattle.nbd_wire.proofs.{Common.{None, Some, refl, sym, ◌∙◌, ap, ℕ, List, Bor, drop, subst, arith, option_map, are_queries, ReadsAs}, ListedReadLemmas.cut_behind, NumberLemmas.AreBytes-from_places, QueryLemmas.{Asked, name_is, queries-long, queries-reads, queries-short, queries-unnamed}}
 use Rattle.nbd_wire.proofs.option_payloads.queries_of.Goals as goal
 
 pub returns-in_err-name-clause-count : goal.returns-in_err-name-clause-count

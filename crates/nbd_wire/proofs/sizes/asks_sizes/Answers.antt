@@ -1,10 +1,5 @@
-use Rattle.nbd_wire.proofs.Common.{◌≡◌, ◌+◌, ◌*◌, ◌&&◌, true, false, length, drop, refl, sym, ◌∙◌, ap, arith, length-drop, behind_name, is_go, is_listed, number_at, has_number}
+use Rattle.nbd_wire.proofs.{Common.{◌≡◌, ◌+◌, ◌*◌, ◌&&◌, true, false, length, drop, refl, sym, ◌∙◌, ap, arith, length-drop, behind_name, is_go, is_listed, number_at, has_number}, ListedFormLemmas.go-only, ListedReadLemmas.cut_behind, NumberLemmas.AreBytes-from_places, QueryLemmas.is_listed_one, SizeLemmas.behind_go}
 use Rattle.nbd_wire.specs.declared.infos.TheConstants as infos
-use Rattle.nbd_wire.proofs.ListedFormLemmas.{go-only}
-use Rattle.nbd_wire.proofs.ListedReadLemmas.{cut_behind}
-use Rattle.nbd_wire.proofs.NumberLemmas.{AreBytes-from_places}
-use Rattle.nbd_wire.proofs.QueryLemmas.{is_listed_one}
-use Rattle.nbd_wire.proofs.SizeLemmas.{behind_go}
 use Rattle.nbd_wire.proofs.sizes.asks_sizes.Goals as goal
 
 pub returns-in_default-listed_of : goal.returns-in_default-listed_of

@@ -1,6 +1,4 @@
-use Rattle.nbd_wire.proofs.Common.{◌-◌, length, sym, ◌∙◌, ap, arith, length-drop, ◌≡◌, ◌*◌, has_number}
-use Rattle.nbd_wire.proofs.ListedReadLemmas.{cut_behind}
-use Rattle.nbd_wire.proofs.SizeLemmas.{first_is_not}
+use Rattle.nbd_wire.proofs.{Common.{◌-◌, length, sym, ◌∙◌, ap, arith, length-drop, ◌≡◌, ◌*◌, has_number}, ListedReadLemmas.cut_behind, SizeLemmas.first_is_not}
 use Rattle.nbd_wire.proofs.sizes.has_number.Goals as goal
 
 pub loop-left-preserved : goal.loop-left-preserved

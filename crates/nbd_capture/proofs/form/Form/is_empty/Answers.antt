@@ -1,5 +1,4 @@
-use Rattle.nbd_capture.proofs.Common.{true≢false, sym}
-use Rattle.nbd_capture.proofs.SpellLemmas.{filled}
+use Rattle.nbd_capture.proofs.{Common.{true≢false, sym}, SpellLemmas.filled}
 use Rattle.nbd_capture.proofs.form.Form.is_empty.Goals as goal
 
 pub returns-in_default : goal.returns-in_default

@@ -1,5 +1,4 @@
-use Rattle.nbd_capture.proofs.Common.{arith, refl, subst, ◌∙◌, ap, Digits, IsOf}
-use Rattle.nbd_capture.proofs.SpellLemmas.{bad, letter_alone, odd_digits, sent, silent}
+use Rattle.nbd_capture.proofs.{Common.{arith, refl, subst, ◌∙◌, ap, Digits, IsOf}, SpellLemmas.{bad, letter_alone, odd_digits, sent, silent}}
 use Rattle.nbd_capture.proofs.form.Form.sender.Goals as goal
 
 pub returns-in-Empty-clause-said : goal.returns-in-Empty-clause-said

@@ -1,7 +1,4 @@
-use Rattle.nbd_capture.proofs.Common.{◌∷◌, [], refl, arith, Keeps-refl, err_from_is_err_and, kept}
-use Rattle.nbd_capture.proofs.PieceLemmas.{bad_line, countable_end, next_line, no_line, unended_line}
-use Rattle.nbd_capture.proofs.ReadingStepLemmas.{reads_none, takes_none}
-use Rattle.nbd_capture.proofs.SizeLemmas.{chunk_shrinks}
+use Rattle.nbd_capture.proofs.{Common.{◌∷◌, [], refl, arith, Keeps-refl, err_from_is_err_and, kept}, PieceLemmas.{bad_line, countable_end, next_line, no_line, unended_line}, ReadingStepLemmas.{reads_none, takes_none}, SizeLemmas.chunk_shrinks}
 use Rattle.nbd_capture.proofs.source.Source.read_chunk.Goals as goal
 
 pub loop-side-init : goal.loop-side-init

@@ -1,5 +1,4 @@
-use Rattle.nbd_capture.proofs.Common.{arith, err_from_is_err_and}
-use Rattle.nbd_capture.proofs.PieceLemmas.{begins_fault, begins_last, begins_on, begins_whole}
+use Rattle.nbd_capture.proofs.{Common.{arith, err_from_is_err_and}, PieceLemmas.{begins_fault, begins_last, begins_on, begins_whole}}
 use Rattle.nbd_capture.proofs.source.Source.read_line.Goals as goal
 
 pub loop-preserved : goal.loop-preserved

@@ -1,5 +1,4 @@
-use Rattle.nbd_capture.proofs.Common.{Open, kept, reading}
-use Rattle.nbd_capture.proofs.PieceLemmas.{Begins}
+use Rattle.nbd_capture.proofs.{Common.{Open, kept, reading}, PieceLemmas.Begins}
 use Rattle.nbd_capture.proofs.source.Source.read_line.Given as goal
 
 abbrev pub invariant-loop : goal.invariant-loop

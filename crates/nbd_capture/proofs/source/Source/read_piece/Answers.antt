@@ -1,5 +1,4 @@
-use Rattle.nbd_capture.proofs.Common.{sym, ◌∙◌, subst, arith, refl, FillKeeps, kept}
-use Rattle.nbd_capture.proofs.PieceLemmas.{some_left, takes_last, takes_part}
+use Rattle.nbd_capture.proofs.{Common.{sym, ◌∙◌, subst, arith, refl, FillKeeps, kept}, PieceLemmas.{some_left, takes_last, takes_part}}
 use Rattle.nbd_capture.proofs.source.Source.read_piece.Goals as goal
 
 pub returns-then-ends : goal.returns-then-ends

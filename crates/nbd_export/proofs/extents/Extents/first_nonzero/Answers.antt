@@ -1,6 +1,4 @@
-use Rattle.nbd_export.proofs.Common.{Some, ◌∙◌, ap, ⊎_elim, Unknown, Zeroes, Bytes, byte_of, stored_byte, zeroes}
-use Rattle.nbd_export.proofs.ExtentLemmas.{byte_of-kind}
-use Rattle.nbd_export.proofs.LeastLemmas.{least_along, none_same, none_unknown}
+use Rattle.nbd_export.proofs.{Common.{Some, ◌∙◌, ap, ⊎_elim, Unknown, Zeroes, Bytes, byte_of, stored_byte, zeroes}, ExtentLemmas.byte_of-kind, LeastLemmas.{least_along, none_same, none_unknown}}
 use Rattle.nbd_export.proofs.extents.Extents.first_nonzero.Goals as goal
 
 pub returns-in-Unknown : goal.returns-in-Unknown

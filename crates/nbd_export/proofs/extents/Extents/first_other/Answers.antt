@@ -1,6 +1,4 @@
-use Rattle.nbd_export.proofs.Common.{◌+◌, Some, length, get_or, sym, ◌∙◌, ap, arith, Unknown, Zeroes, Bytes, byte_of, stored_byte, bytes_from}
-use Rattle.nbd_export.proofs.ExtentLemmas.{byte_of-kind}
-use Rattle.nbd_export.proofs.LeastLemmas.{bytes_from-here, least_along, least_unequal, none_below, none_unequal, none_unknown}
+use Rattle.nbd_export.proofs.{Common.{◌+◌, Some, length, get_or, sym, ◌∙◌, ap, arith, Unknown, Zeroes, Bytes, byte_of, stored_byte, bytes_from}, ExtentLemmas.byte_of-kind, LeastLemmas.{bytes_from-here, least_along, least_unequal, none_below, none_unequal, none_unknown}}
 use Rattle.nbd_export.proofs.extents.Extents.first_other.Goals as goal
 
 pub returns-in-Unknown : goal.returns-in-Unknown

@@ -1,5 +1,4 @@
-use Rattle.nbd_export.proofs.Common.{◌≡◌, ◌∙◌, ◌+◌, Some, Bytes, arith, ap, sym, kind_of, slice_index}
-use Rattle.nbd_export.proofs.ExtentLemmas.{byte_of-kind}
+use Rattle.nbd_export.proofs.{Common.{◌≡◌, ◌∙◌, ◌+◌, Some, Bytes, arith, ap, sym, kind_of, slice_index}, ExtentLemmas.byte_of-kind}
 use Rattle.nbd_export.proofs.extents.Extents.known_at.Goals as goal
 
 pub returns-in-Bytes-clause-known : goal.returns-in-Bytes-clause-known

@@ -1,5 +1,4 @@
-use Rattle.nbd_export.proofs.Common.{◌+◌, refl, arith, byte_of, zeroes}
-use Rattle.nbd_export.proofs.LeastLemmas.{least_in_part, none_in_part}
+use Rattle.nbd_export.proofs.{Common.{◌+◌, refl, arith, byte_of, zeroes}, LeastLemmas.{least_in_part, none_in_part}}
 use Rattle.nbd_export.proofs.extents.Extents.nonzero.Goals as goal
 
 pub returns-in-Some : goal.returns-in-Some

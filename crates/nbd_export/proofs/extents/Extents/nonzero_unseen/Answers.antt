@@ -1,5 +1,4 @@
-use Rattle.nbd_export.proofs.Common.{Some, ◌∙◌, ap}
-use Rattle.nbd_export.proofs.ExtentLemmas.{seen_same}
+use Rattle.nbd_export.proofs.{Common.{Some, ◌∙◌, ap}, ExtentLemmas.seen_same}
 use Rattle.nbd_export.proofs.extents.Extents.nonzero_unseen.Goals as goal
 
 pub returns-in-Zeroes : goal.returns-in-Zeroes

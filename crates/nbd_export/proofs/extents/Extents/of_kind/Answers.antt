@@ -1,5 +1,4 @@
-use Rattle.nbd_export.proofs.Common.{Some, ◌∙◌, ap, byte_by_kind}
-use Rattle.nbd_export.proofs.ExtentLemmas.{byte_of-kind}
+use Rattle.nbd_export.proofs.{Common.{Some, ◌∙◌, ap, byte_by_kind}, ExtentLemmas.byte_of-kind}
 use Rattle.nbd_export.proofs.extents.Extents.of_kind.Goals as goal
 
 pub returns-clause-bytes : goal.returns-clause-bytes

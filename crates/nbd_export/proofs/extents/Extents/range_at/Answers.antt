@@ -1,5 +1,4 @@
-use Rattle.nbd_export.proofs.Common.{◌∙◌}
-use Rattle.nbd_export.proofs.ExtentLemmas.{is_of_kind, other_kind}
+use Rattle.nbd_export.proofs.{Common.{◌∙◌}, ExtentLemmas.{is_of_kind, other_kind}}
 use Rattle.nbd_export.proofs.extents.Extents.range_at.Goals as goal
 
 pub returns-clause-kind : goal.returns-clause-kind

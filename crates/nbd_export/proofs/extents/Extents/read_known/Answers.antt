@@ -1,5 +1,4 @@
-use Rattle.nbd_export.proofs.Common.{arith, byte_of}
-use Rattle.nbd_export.proofs.ExtentLemmas.{known_more}
+use Rattle.nbd_export.proofs.{Common.{arith, byte_of}, ExtentLemmas.known_more}
 use Rattle.nbd_export.proofs.extents.Extents.read_known.Goals as goal
 
 pub loop-done-preserved : goal.loop-done-preserved

@@ -1,5 +1,4 @@
-use Rattle.nbd_export.proofs.Common.{Some, sym, ◌∙◌, ap, Unknown, Zeroes, Bytes}
-use Rattle.nbd_export.proofs.ExtentLemmas.{byte_of-kind}
+use Rattle.nbd_export.proofs.{Common.{Some, sym, ◌∙◌, ap, Unknown, Zeroes, Bytes}, ExtentLemmas.byte_of-kind}
 use Rattle.nbd_export.proofs.extents.ExtentsContents.byte_at.Goals as goal
 
 pub returns-in-Unknown : goal.returns-in-Unknown

@@ -1,5 +1,4 @@
-use Rattle.nbd_export.proofs.Common.{◌≡◌, ◌+◌, ◌-◌, length, take, drop, arith, length-drop, length-take, byte_of, bytes_from}
-use Rattle.nbd_export.proofs.LeastLemmas.{bytes_from-same, least_in_part, none_in_part}
+use Rattle.nbd_export.proofs.{Common.{◌≡◌, ◌+◌, ◌-◌, length, take, drop, arith, length-drop, length-take, byte_of, bytes_from}, LeastLemmas.{bytes_from-same, least_in_part, none_in_part}}
 use Rattle.nbd_export.proofs.extents.ExtentsContents.differs.Goals as goal
 
 pub returns-in-Some : goal.returns-in-Some

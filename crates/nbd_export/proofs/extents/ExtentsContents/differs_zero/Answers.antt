@@ -1,5 +1,4 @@
-use Rattle.nbd_export.proofs.Common.{refl, ◌∙◌}
-use Rattle.nbd_export.proofs.ExtentLemmas.{byte_of-noted, zeroes_noted}
+use Rattle.nbd_export.proofs.{Common.{refl, ◌∙◌}, ExtentLemmas.{byte_of-noted, zeroes_noted}}
 use Rattle.nbd_export.proofs.extents.ExtentsContents.differs_zero.Goals as goal
 
 pub invariant_of-self-clause-sizes : goal.invariant_of-self-clause-sizes

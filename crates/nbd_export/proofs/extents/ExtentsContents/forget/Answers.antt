@@ -1,5 +1,4 @@
-use Rattle.nbd_export.proofs.Common.{refl, err_from_is_err_and, Unknown, unknown}
-use Rattle.nbd_export.proofs.ExtentLemmas.{byte_of-same, range_made}
+use Rattle.nbd_export.proofs.{Common.{refl, err_from_is_err_and, Unknown, unknown}, ExtentLemmas.{byte_of-same, range_made}}
 use Rattle.nbd_export.proofs.extents.ExtentsContents.forget.Goals as goal
 
 pub returns-in_err-set-clause-refused : goal.returns-in_err-set-clause-refused

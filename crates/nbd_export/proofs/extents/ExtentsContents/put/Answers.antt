@@ -1,5 +1,4 @@
-use Rattle.nbd_export.proofs.Common.{length, refl, ◌∙◌, err_from_is_err_and, Bytes, stored_byte, bytes_from}
-use Rattle.nbd_export.proofs.ExtentLemmas.{byte_of-same, range_made, written_byte}
+use Rattle.nbd_export.proofs.{Common.{length, refl, ◌∙◌, err_from_is_err_and, Bytes, stored_byte, bytes_from}, ExtentLemmas.{byte_of-same, range_made, written_byte}}
 use Rattle.nbd_export.proofs.extents.ExtentsContents.put.Goals as goal
 
 pub returns-in_err-make_room-clause-refused : goal.returns-in_err-make_room-clause-refused

@@ -1,5 +1,4 @@
-use Rattle.nbd_export.proofs.Common.{refl, err_from_is_err_and, Zeroes, zeroes}
-use Rattle.nbd_export.proofs.ExtentLemmas.{byte_of-same, range_made}
+use Rattle.nbd_export.proofs.{Common.{refl, err_from_is_err_and, Zeroes, zeroes}, ExtentLemmas.{byte_of-same, range_made}}
 use Rattle.nbd_export.proofs.extents.ExtentsContents.zero.Goals as goal
 
 pub returns-in_err-set-clause-refused : goal.returns-in_err-set-clause-refused

@@ -1,5 +1,4 @@
-use Rattle.nbd_export.proofs.Common.{◌≡◌, ℕ, ◌-◌, ◌+◌, ◌<◌, ◌≤◌, ◌⊎◌, inl, inr, IsSome, ◌∙◌, ap, sym, subst, refl, arith, ⊎_elim, cases_lt, kind_from, ranges_met}
-use Rattle.nbd_export.proofs.KindLemmas.{met_one}
+use Rattle.nbd_export.proofs.{Common.{◌≡◌, ℕ, ◌-◌, ◌+◌, ◌<◌, ◌≤◌, ◌⊎◌, inl, inr, IsSome, ◌∙◌, ap, sym, subst, refl, arith, ⊎_elim, cases_lt, kind_from, ranges_met}, KindLemmas.met_one}
 use Rattle.nbd_export.proofs.kinds.Kinds.count_in.Goals as goal
 
 pub loop-at-init : goal.loop-at-init

@@ -1,5 +1,4 @@
-use Rattle.nbd_export.proofs.Common.{arith, kind_from}
-use Rattle.nbd_export.proofs.KindLemmas.{kind_at-along}
+use Rattle.nbd_export.proofs.{Common.{arith, kind_from}, KindLemmas.kind_at-along}
 use Rattle.nbd_export.proofs.kinds.Kinds.end_of.Goals as goal
 
 pub returns-clause-one : goal.returns-clause-one

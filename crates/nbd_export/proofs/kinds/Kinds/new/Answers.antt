@@ -1,8 +1,6 @@
-use Rattle.nbd_export.proofs.Common.{◌≡◌, ℕ, ◌<◌, None, IsSome, sym, ◌∙◌, subst, ap, refl, arith, is_at, lookup, kind_from}
+use Rattle.nbd_export.proofs.{Common.{◌≡◌, ℕ, ◌<◌, None, IsSome, sym, ◌∙◌, subst, ap, refl, arith, is_at, lookup, kind_from}, KindLemmas.{none_apart, one_apart, one_kind, other_key}, kinds.Kinds.new.Goals.{then-size-gt0+in_ok-insert, else-size-gt0}}
 use Rattle.std.specs.Ordering.{nat_cmp}
-use Rattle.nbd_export.proofs.KindLemmas.{none_apart, one_apart, one_kind, other_key}
 use Rattle.nbd_export.proofs.kinds.Kinds.new.Goals as goal
-use Rattle.nbd_export.proofs.kinds.Kinds.new.Goals.{then-size-gt0+in_ok-insert, else-size-gt0}
 
 pub invariant_of-result : goal.invariant_of-result
 invariant_of-result c =

@@ -1,5 +1,4 @@
-use Rattle.nbd_export.proofs.Common.{◌≡◌, ℕ, ◌<◌, IsSome, sym, ◌∙◌, subst, arith, kind_from}
-use Rattle.nbd_export.proofs.KindLemmas.{apart_same, kind_before-same, set_apart, set_before, set_behind, set_inside, set_whole, set_within}
+use Rattle.nbd_export.proofs.{Common.{◌≡◌, ℕ, ◌<◌, IsSome, sym, ◌∙◌, subst, arith, kind_from}, KindLemmas.{apart_same, kind_before-same, set_apart, set_before, set_behind, set_inside, set_whole, set_within}}
 use Rattle.nbd_export.proofs.kinds.Kinds.set.Goals as goal
 
 pub invariant_of-self : goal.invariant_of-self

@@ -1,5 +1,4 @@
-use Rattle.nbd_export.proofs.Common.{◌≡◌, ◌+◌, ◌<◌, ℕ, Option, Some, length, get_or, take, refl, sym, ◌∙◌, ap, arith, get_or-take, length-take, stored_byte, zeroes}
-use Rattle.nbd_export.proofs.LeastLemmas.{least_unequal, none_unequal}
+use Rattle.nbd_export.proofs.{Common.{◌≡◌, ◌+◌, ◌<◌, ℕ, Option, Some, length, get_or, take, refl, sym, ◌∙◌, ap, arith, get_or-take, length-take, stored_byte, zeroes}, LeastLemmas.{least_unequal, none_unequal}}
 use Rattle.nbd_export.proofs.pages.Pages.first_nonzero.Goals as goal
 
 pub returns-in-Some : goal.returns-in-Some

@@ -1,5 +1,4 @@
-use Rattle.nbd_export.proofs.Common.{◌≡◌, ◌+◌, ◌-◌, ◌<◌, ℕ, Option, Some, length, get_or, take, drop, sym, ◌∙◌, ap, arith, get_or-take, length-take, stored_byte, bytes_from}
-use Rattle.nbd_export.proofs.LeastLemmas.{bytes_from-part, least_unequal, none_unequal}
+use Rattle.nbd_export.proofs.{Common.{◌≡◌, ◌+◌, ◌-◌, ◌<◌, ℕ, Option, Some, length, get_or, take, drop, sym, ◌∙◌, ap, arith, get_or-take, length-take, stored_byte, bytes_from}, LeastLemmas.{bytes_from-part, least_unequal, none_unequal}}
 use Rattle.nbd_export.proofs.pages.Pages.first_other.Goals as goal
 
 pub returns-in-Some : goal.returns-in-Some

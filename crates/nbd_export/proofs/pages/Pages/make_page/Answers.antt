@@ -1,6 +1,4 @@
-use Rattle.nbd_export.proofs.Common.{◌≡◌, ◌+◌, ◌/◌, ◌<◌, ◌≤◌, Some, length, slice_index, refl, sym, ◌∙◌, ap, arith, nat_cmp, ⊎_elim, cases_lt, get_or-replicate, is_at, lookup, option_map, PAGE}
-use Rattle.nbd_export.proofs.KindLemmas.{other_key}
-use Rattle.nbd_export.proofs.PageLemmas.{stored_made, stored_same}
+use Rattle.nbd_export.proofs.{Common.{◌≡◌, ◌+◌, ◌/◌, ◌<◌, ◌≤◌, Some, length, slice_index, refl, sym, ◌∙◌, ap, arith, nat_cmp, ⊎_elim, cases_lt, get_or-replicate, is_at, lookup, option_map, PAGE}, KindLemmas.other_key, PageLemmas.{stored_made, stored_same}}
 use Rattle.nbd_export.proofs.pages.Pages.make_page.Goals as goal
 
 pub returns-in_err-insert-clause-bytes : goal.returns-in_err-insert-clause-bytes

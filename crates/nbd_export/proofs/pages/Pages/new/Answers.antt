@@ -1,5 +1,4 @@
-use Rattle.nbd_export.proofs.Common.{ap, ◌/◌, nat_cmp, is_at, lookup, option_map, PAGE}
-use Rattle.nbd_export.proofs.PageLemmas.{stored_off}
+use Rattle.nbd_export.proofs.{Common.{ap, ◌/◌, nat_cmp, is_at, lookup, option_map, PAGE}, PageLemmas.stored_off}
 use Rattle.nbd_export.proofs.pages.Pages.new.Goals as goal
 
 pub returns : goal.returns

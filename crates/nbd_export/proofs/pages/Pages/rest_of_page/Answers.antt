@@ -1,5 +1,4 @@
-use Rattle.nbd_export.proofs.Common.{◌≡◌, ◌+◌, ◌/◌, ◌%◌, None, Some, length, slice_index, sym, ◌∙◌, ap, arith, rules, get_or_past, PAGE, page_from}
-use Rattle.nbd_export.proofs.PageLemmas.{stored_along, stored_along_image}
+use Rattle.nbd_export.proofs.{Common.{◌≡◌, ◌+◌, ◌/◌, ◌%◌, None, Some, length, slice_index, sym, ◌∙◌, ap, arith, rules, get_or_past, PAGE, page_from}, PageLemmas.{stored_along, stored_along_image}}
 use Rattle.nbd_export.proofs.pages.Pages.rest_of_page.Goals as goal
 
 pub returns-in-Some-clause-bytes : goal.returns-in-Some-clause-bytes

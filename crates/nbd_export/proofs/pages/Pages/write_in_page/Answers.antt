@@ -1,6 +1,4 @@
-use Rattle.nbd_export.proofs.Common.{◌≡◌, ◌/◌, ◌%◌, Some, slice_index, refl, sym, ◌∙◌, ap, arith, nat_cmp, IsSome, subst, get, option_copied_mut, option_map, with_value, Pages, PAGE}
-use Rattle.nbd_export.proofs.KindLemmas.{other_key}
-use Rattle.nbd_export.proofs.PageLemmas.{write_inside, write_outside}
+use Rattle.nbd_export.proofs.{Common.{◌≡◌, ◌/◌, ◌%◌, Some, slice_index, refl, sym, ◌∙◌, ap, arith, nat_cmp, IsSome, subst, get, option_copied_mut, option_map, with_value, Pages, PAGE}, KindLemmas.other_key, PageLemmas.{write_inside, write_outside}}
 use Rattle.nbd_export.proofs.pages.Pages.write_in_page.Goals as goal
 
 pub returns-clause-inside : goal.returns-clause-inside

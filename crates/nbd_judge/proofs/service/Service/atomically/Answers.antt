@@ -1,6 +1,5 @@
-use Rattle.nbd_judge.proofs.Common.{NamesWhole-push, whole_names}
+use Rattle.nbd_judge.proofs.{Common.{NamesWhole-push, whole_names}, service.Service.atomically.Goals.{in-Unnamed, in-Whole, in-InParts}}
 use Rattle.nbd_judge.proofs.service.Service.atomically.Goals as goal
-use Rattle.nbd_judge.proofs.service.Service.atomically.Goals.{in-Unnamed, in-Whole, in-InParts}
 
 pub returns : goal.returns
 returns c = elim c.match-self.branch [

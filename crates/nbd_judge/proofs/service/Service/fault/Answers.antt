@@ -1,5 +1,4 @@
-use Rattle.nbd_judge.proofs.Common.{◌∙◌, ap, sym, served_atomically, Parts, sizes_of}
-use Rattle.nbd_judge.proofs.orders.ServiceLemmas.{full, not_full}
+use Rattle.nbd_judge.proofs.{Common.{◌∙◌, ap, sym, served_atomically, Parts, sizes_of}, orders.ServiceLemmas.{full, not_full}}
 use Rattle.nbd_judge.proofs.service.Service.fault.Goals as goal
 
 pub returns-in-Whole : goal.returns-in-Whole

@@ -1,5 +1,4 @@
-use Rattle.nbd_judge.proofs.Common.{subst, served_atomically, IsBare, IsHeld, Parts, sizes_of}
-use Rattle.nbd_judge.proofs.orders.ServiceLemmas.{bare_here, covered_here}
+use Rattle.nbd_judge.proofs.{Common.{subst, served_atomically, IsBare, IsHeld, Parts, sizes_of}, orders.ServiceLemmas.{bare_here, covered_here}}
 use Rattle.nbd_judge.proofs.service.Service.fault_in.Goals as goal
 
 pub returns-in-Whole : goal.returns-in-Whole

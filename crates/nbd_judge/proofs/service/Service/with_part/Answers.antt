@@ -1,5 +1,4 @@
-use Rattle.nbd_judge.proofs.Common.{IfOk-weaker, subst, sym, AreParts, sizes_of}
-use Rattle.nbd_judge.proofs.orders.ServiceLemmas.{no_parts}
+use Rattle.nbd_judge.proofs.{Common.{IfOk-weaker, subst, sym, AreParts, sizes_of}, orders.ServiceLemmas.no_parts}
 use Rattle.nbd_judge.proofs.service.Service.with_part.Goals as goal
 
 pub returns-in_ok-none-in-Unnamed : goal.returns-in_ok-none-in-Unnamed

@@ -1,5 +1,4 @@
-use Rattle.nbd_order.proofs.Common.{IsChangeAt}
-use Rattle.nbd_order.proofs.NumberLemmas.{EachOf}
+use Rattle.nbd_order.proofs.{Common.IsChangeAt, NumberLemmas.EachOf}
 use Rattle.nbd_order.proofs.refutation.Refutation.are_changes.Given as goal
 
 abbrev pub invariant-loop-c : goal.invariant-loop-c

@@ -1,6 +1,5 @@
-use Rattle.nbd_order.proofs.Common.{◌≡◌, sym, ◌∙◌, true, false}
+use Rattle.nbd_order.proofs.{Common.{◌≡◌, sym, ◌∙◌, true, false}, refutation.Refutation.are_its_states.Goals.{then-begins, else-begins}}
 use Rattle.nbd_order.proofs.refutation.Refutation.are_its_states.Goals as goal
-use Rattle.nbd_order.proofs.refutation.Refutation.are_its_states.Goals.{then-begins, else-begins}
 
 pub returns-then-steps-clause-stepping : goal.returns-then-steps-clause-stepping
 returns-then-steps-clause-stepping c = λ t. elim c.if-begins.branch [

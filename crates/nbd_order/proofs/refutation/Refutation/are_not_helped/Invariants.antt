@@ -1,5 +1,4 @@
-use Rattle.nbd_order.proofs.Common.{IsNoHelp}
-use Rattle.nbd_order.proofs.NumberLemmas.{EachOf}
+use Rattle.nbd_order.proofs.{Common.IsNoHelp, NumberLemmas.EachOf}
 use Rattle.nbd_order.proofs.refutation.Refutation.are_not_helped.Given as goal
 
 abbrev pub invariant-loop-k : goal.invariant-loop-k

@@ -1,5 +1,4 @@
-use Rattle.nbd_order.proofs.Common.{IsReadAt}
-use Rattle.nbd_order.proofs.NumberLemmas.{EachOf}
+use Rattle.nbd_order.proofs.{Common.IsReadAt, NumberLemmas.EachOf}
 use Rattle.nbd_order.proofs.refutation.Refutation.are_reads.Given as goal
 
 abbrev pub invariant-loop-k : goal.invariant-loop-k

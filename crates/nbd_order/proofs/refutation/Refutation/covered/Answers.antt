@@ -1,5 +1,4 @@
-use Rattle.nbd_order.proofs.Common.{◌≡◌, ◌+◌, ◌≤◌, inl, inr, length, sym, subst, arith, cases_eq, HelpsNone}
-use Rattle.nbd_order.proofs.ServiceLemmas.{numbered}
+use Rattle.nbd_order.proofs.{Common.{◌≡◌, ◌+◌, ◌≤◌, inl, inr, length, sym, subst, arith, cases_eq, HelpsNone}, ServiceLemmas.numbered}
 use Rattle.nbd_order.proofs.refutation.Refutation.covered.Goals as goal
 
 pub loop-i-preserved : goal.loop-i-preserved

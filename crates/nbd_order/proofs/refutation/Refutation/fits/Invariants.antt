@@ -1,5 +1,4 @@
-use Rattle.nbd_order.proofs.Common.{IsFitting}
-use Rattle.nbd_order.proofs.NumberLemmas.{EachOf}
+use Rattle.nbd_order.proofs.{Common.IsFitting, NumberLemmas.EachOf}
 use Rattle.nbd_order.proofs.refutation.Refutation.fits.Given as goal
 
 abbrev pub invariant-loop-k : goal.invariant-loop-k

@@ -1,5 +1,4 @@
-use Rattle.nbd_order.proofs.Common.{sym, subst, report_of_request, IsNoHelp}
-use Rattle.nbd_order.proofs.StateLemmas.{byte_is}
+use Rattle.nbd_order.proofs.{Common.{sym, subst, report_of_request, IsNoHelp}, StateLemmas.byte_is}
 use Rattle.nbd_order.proofs.refutation.Refutation.helps_none.Goals as goal
 
 pub returns-else-has : goal.returns-else-has

@@ -1,7 +1,5 @@
-use Rattle.nbd_order.proofs.Common.{◌≡◌, refl, sym, ◌∙◌, ap, true, false, report_of_request, has}
-use Rattle.nbd_order.proofs.StateLemmas.{byte_is, fits_of}
+use Rattle.nbd_order.proofs.{Common.{◌≡◌, refl, sym, ◌∙◌, ap, true, false, report_of_request, has}, StateLemmas.{byte_is, fits_of}, refutation.Refutation.leads.Goals.{then-adds_alone, else-adds_alone}}
 use Rattle.nbd_order.proofs.refutation.Refutation.leads.Goals as goal
-use Rattle.nbd_order.proofs.refutation.Refutation.leads.Goals.{then-adds_alone, else-adds_alone}
 
 pub returns-then-keeps : goal.returns-then-keeps
 returns-then-keeps c = λ t. elim c.if-adds_alone.branch [

@@ -1,5 +1,4 @@
-use Rattle.nbd_state.proofs.Common.{◌+◌, ◌∙◌, ◌||◌, nat_le, rules, YieldsList-from_slice, all_from_yields_List, tests, piece_offset, piece_size}
-use Rattle.nbd_state.proofs.IndexLemmas.{all-apart}
+use Rattle.nbd_state.proofs.{Common.{◌+◌, ◌∙◌, ◌||◌, nat_le, rules, YieldsList-from_slice, all_from_yields_List, tests, piece_offset, piece_size}, IndexLemmas.all-apart}
 use Rattle.nbd_state.proofs.asked.Exchange.is_apart_from.Goals as goal
 
 pub returns-in_default : goal.returns-in_default

@@ -1,6 +1,4 @@
-use Rattle.nbd_state.proofs.Common.{◌≡◌, ◌++◌, ◌∙◌, ap, length, refl, subst, sym, noted, HasTaken}
-use Rattle.nbd_state.proofs.NotingLemmas.{counted_more, noted_piece, open_still}
-use Rattle.nbd_state.proofs.RecordingLemmas.{exchange_shows_reply, pieces_kept, told_kept}
+use Rattle.nbd_state.proofs.{Common.{◌≡◌, ◌++◌, ◌∙◌, ap, length, refl, subst, sym, noted, HasTaken}, NotingLemmas.{counted_more, noted_piece, open_still}, RecordingLemmas.{exchange_shows_reply, pieces_kept, told_kept}}
 use Rattle.nbd_state.proofs.asked.Exchange.take.Goals as goal
 
 pub returns-clause-taken : goal.returns-clause-taken

@@ -1,6 +1,4 @@
-use Rattle.nbd_state.proofs.Common.{arith, ◌≡◌, ◌∙◌, ◌∷◌, [], ap, Bool, false, is_some, refl, sym, true, Status, extents_of, chunk_piece, is_error_chunk, status_in, status_kind, status_content, is_allocation_told, chunk_of}
-use Rattle.nbd_state.proofs.HeadLemmas.{chunk_ends, chunk_fails, chunk_gives}
-use Rattle.nbd_state.proofs.RecordingLemmas.{weaken}
+use Rattle.nbd_state.proofs.{Common.{arith, ◌≡◌, ◌∙◌, ◌∷◌, [], ap, Bool, false, is_some, refl, sym, true, Status, extents_of, chunk_piece, is_error_chunk, status_in, status_kind, status_content, is_allocation_told, chunk_of}, HeadLemmas.{chunk_ends, chunk_fails, chunk_gives}, RecordingLemmas.weaken}
 use Rattle.nbd_state.proofs.asked.Exchange.take_chunk.Goals as goal
 
 -- a status is no error

@@ -1,9 +1,5 @@
-use Rattle.nbd_state.proofs.Common.{◌≡◌, ◌==◌, ◌++◌, ◌∙◌, [], ap, false, if◌then◌else◌, length, refl, subst, sym, HasTaken, noted, pieces, with_reply, zeroes, Status, extents_of, with_counts}
+use Rattle.nbd_state.proofs.{Common.{◌≡◌, ◌==◌, ◌++◌, ◌∙◌, [], ap, false, if◌then◌else◌, length, refl, subst, sym, HasTaken, noted, pieces, with_reply, zeroes, Status, extents_of, with_counts}, NotingLemmas.{counted_none, none_noted, noted_first, open_still}, RecordingLemmas.{exchange_shows_reply, no_reply_yet, none_before, pieces_first, told_more}, ReplyLemmas.or-false, ZeroLemmas.if_proper}
 use Rattle.nbd_wire.specs.declared.commands.TheConstants as commands
-use Rattle.nbd_state.proofs.NotingLemmas.{counted_none, none_noted, noted_first, open_still}
-use Rattle.nbd_state.proofs.RecordingLemmas.{exchange_shows_reply, no_reply_yet, none_before, pieces_first, told_more}
-use Rattle.nbd_state.proofs.ReplyLemmas.{or-false}
-use Rattle.nbd_state.proofs.ZeroLemmas.{if_proper}
 use Rattle.nbd_state.proofs.asked.Exchange.take_first_status.Goals as goal
 
 pub returns-clause-taken : goal.returns-clause-taken

@@ -1,5 +1,4 @@
-use Rattle.nbd_state.proofs.Common.{◌∙◌, ap, refl, sym, Simple, ends_reply, is_failing, piece_of, simple_piece}
-use Rattle.nbd_state.proofs.RecordingLemmas.{weaken}
+use Rattle.nbd_state.proofs.{Common.{◌∙◌, ap, refl, sym, Simple, ends_reply, is_failing, piece_of, simple_piece}, RecordingLemmas.weaken}
 use Rattle.nbd_state.proofs.asked.Exchange.take_simple.Goals as goal
 
 pub returns-clause-taken : goal.returns-clause-taken

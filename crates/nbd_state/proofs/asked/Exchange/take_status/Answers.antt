@@ -1,8 +1,5 @@
-use Rattle.nbd_state.proofs.Common.{◌≡◌, ◌++◌, ◌∙◌, [], ap, length, append-nil, false, if◌then◌else◌, ◌==◌, refl, rules, subst, sym, true, is_settled_by, noted, shown_in, with_counts, HasTaken}
+use Rattle.nbd_state.proofs.{Common.{◌≡◌, ◌++◌, ◌∙◌, [], ap, length, append-nil, false, if◌then◌else◌, ◌==◌, refl, rules, subst, sym, true, is_settled_by, noted, shown_in, with_counts, HasTaken}, RecordingLemmas.{exchange_shows_reply, pieces_kept, some_reply_yet, told_more}, ReplyLemmas.or-false, NotingLemmas.{open_still, shows_none}}
 use Rattle.nbd_wire.specs.declared.commands.TheConstants as commands
-use Rattle.nbd_state.proofs.RecordingLemmas.{exchange_shows_reply, pieces_kept, some_reply_yet, told_more}
-use Rattle.nbd_state.proofs.ReplyLemmas.{or-false}
-use Rattle.nbd_state.proofs.NotingLemmas.{open_still, shows_none}
 use Rattle.nbd_state.proofs.asked.Exchange.take_status.Goals as goal
 
 pub returns-clause-taken : goal.returns-clause-taken

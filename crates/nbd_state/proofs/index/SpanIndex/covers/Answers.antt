@@ -1,5 +1,4 @@
-use Rattle.nbd_state.proofs.Common.{size_from}
-use Rattle.nbd_state.proofs.IndexLemmas.{bare-next}
+use Rattle.nbd_state.proofs.{Common.size_from, IndexLemmas.bare-next}
 use Rattle.nbd_state.proofs.index.SpanIndex.covers.Goals as goal
 
 pub returns-then-held-eq0 : goal.returns-then-held-eq0

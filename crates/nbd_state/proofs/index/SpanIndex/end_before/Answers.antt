@@ -1,6 +1,5 @@
-use Rattle.nbd_state.proofs.Common.{◌≡◌, arith, is_lt, false, nat_tests, common_steps, size_from}
+use Rattle.nbd_state.proofs.{Common.{◌≡◌, arith, is_lt, false, nat_tests, common_steps, size_from}, IndexLemmas.last-before}
 use Rattle.std.proofs.Common.{nat_cmp}
-use Rattle.nbd_state.proofs.IndexLemmas.{last-before}
 use Rattle.nbd_state.proofs.index.SpanIndex.end_before.Goals as goal
 
 pub returns-in-Some : goal.returns-in-Some

@@ -1,7 +1,5 @@
-use Rattle.nbd_state.proofs.Common.{◌≡◌, ◌∷◌, [], arith, subst, rules, piece_offset, piece_size, Span, HasMore, IsIndex, size_from}
-use Rattle.nbd_state.proofs.IndexLemmas.{index-first, index-more, only-piece}
+use Rattle.nbd_state.proofs.{Common.{◌≡◌, ◌∷◌, [], arith, subst, rules, piece_offset, piece_size, Span, HasMore, IsIndex, size_from}, IndexLemmas.{index-first, index-more, only-piece}, index.SpanIndex.with.Goals.{then-is_empty+in-len1+in_ok-insert+else-not-branch, else-is_empty}}
 use Rattle.nbd_state.proofs.index.SpanIndex.with.Goals as goal
-use Rattle.nbd_state.proofs.index.SpanIndex.with.Goals.{then-is_empty+in-len1+in_ok-insert+else-not-branch, else-is_empty}
 
 pub returns-then-branch : goal.returns-then-branch
 returns-then-branch c = λ some.

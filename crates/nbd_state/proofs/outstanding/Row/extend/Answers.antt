@@ -1,5 +1,4 @@
-use Rattle.nbd_state.proofs.Common.{arith}
-use Rattle.nbd_state.proofs.PlaceLemmas.{row_more}
+use Rattle.nbd_state.proofs.{Common.arith, PlaceLemmas.row_more}
 use Rattle.nbd_state.proofs.outstanding.Row.extend.Goals as goal
 
 pub returns : goal.returns

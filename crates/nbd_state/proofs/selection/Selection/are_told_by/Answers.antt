@@ -1,5 +1,4 @@
-use Rattle.nbd_state.proofs.Common.{◌∙◌, ◌||◌, not, rules, subst, YieldsList-from_rest, all_from_yields_List, contains, nat_cmp, tests, is_this, TellsThese}
-use Rattle.nbd_state.proofs.SelectionLemmas.{all_told, none_left}
+use Rattle.nbd_state.proofs.{Common.{◌∙◌, ◌||◌, not, rules, subst, YieldsList-from_rest, all_from_yields_List, contains, nat_cmp, tests, is_this, TellsThese}, SelectionLemmas.{all_told, none_left}}
 use Rattle.nbd_state.proofs.selection.Selection.are_told_by.Goals as goal
 
 pub returns-then-told : goal.returns-then-told

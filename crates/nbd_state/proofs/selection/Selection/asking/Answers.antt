@@ -1,9 +1,6 @@
-use Rattle.nbd_state.proofs.Common.{not-true, ℕ, ◌≡◌, ◌==◌, ◌∙◌, [], Some, ap, false, if◌then◌else◌, length, not, sym, true, ids_of, Asks, filter_of_head, HasSelection}
+use Rattle.nbd_state.proofs.{Common.{not-true, ℕ, ◌≡◌, ◌==◌, ◌∙◌, [], Some, ap, false, if◌then◌else◌, length, not, sym, true, ids_of, Asks, filter_of_head, HasSelection}, FilterLemmas.{asks_same, needs_contexts}, RecordingLemmas.weaken, selection.Selection.asking.Goals.{then-in_force, else-in_force}}
 use Rattle.nbd_wire.specs.protocol.Contexts as contexts
-use Rattle.nbd_state.proofs.FilterLemmas.{asks_same, needs_contexts}
-use Rattle.nbd_state.proofs.RecordingLemmas.{weaken}
 use Rattle.nbd_state.proofs.selection.Selection.asking.Goals as goal
-use Rattle.nbd_state.proofs.selection.Selection.asking.Goals.{then-in_force, else-in_force}
 
 pub returns-in-Some : goal.returns-in-Some
 returns-in-Some c = weaken c.asking_with.result (λ asking (f : (selection : contexts.Selection) (len : ℕ) → HasSelection c.args.self.now selection → (length selection.contexts == 0) ≡ false → Asks c.args.flags selection.contexts (Some (record { length = c.in-Some.range; ids = ids_of c.in-Some.ids.now })) len asking) selection s.

@@ -1,6 +1,5 @@
-use Rattle.nbd_state.proofs.Common.{ℕ, ◌≡◌, ◌&&◌, ◌∙◌, ap, false, not, refl, rules, sym, contains, nat_cmp, is_among, ids_of}
+use Rattle.nbd_state.proofs.{Common.{ℕ, ◌≡◌, ◌&&◌, ◌∙◌, ap, false, not, refl, rules, sym, contains, nat_cmp, is_among, ids_of}, selection.Selection.asking_with.Goals.{then-has, else-has}}
 use Rattle.nbd_state.proofs.selection.Selection.asking_with.Goals as goal
-use Rattle.nbd_state.proofs.selection.Selection.asking_with.Goals.{then-has, else-has}
 
 pub returns : goal.returns
 returns c = λ selection len s some.

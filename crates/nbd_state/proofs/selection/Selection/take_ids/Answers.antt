@@ -1,5 +1,4 @@
-use Rattle.nbd_state.proofs.Common.{◌≡◌, ◌∷◌, ◌==◌, ◌&&◌, ◌||◌, ◌∙◌, ap, arith, length, not, sym, contains, nat_cmp, are_once, has_id, is_among, ids_of}
-use Rattle.nbd_state.proofs.FilterLemmas.{and_all, and_twice, neither, now_among, once_same, once_step, or_none}
+use Rattle.nbd_state.proofs.{Common.{◌≡◌, ◌∷◌, ◌==◌, ◌&&◌, ◌||◌, ◌∙◌, ap, arith, length, not, sym, contains, nat_cmp, are_once, has_id, is_among, ids_of}, FilterLemmas.{and_all, and_twice, neither, now_among, once_same, once_step, or_none}}
 use Rattle.nbd_state.proofs.selection.Selection.take_ids.Goals as goal
 
 pub loop-id-init : goal.loop-id-init

@@ -1,6 +1,4 @@
-use Rattle.nbd_state.proofs.Common.{◌∙◌, ap, refl, subst, Answer, next_phase, selection_after, sizing_after, HasSelection, phase_shown}
-use Rattle.nbd_state.proofs.CompletionLemmas.{on}
-use Rattle.nbd_state.proofs.PhaseLemmas.{shows_answered}
+use Rattle.nbd_state.proofs.{Common.{◌∙◌, ap, refl, subst, Answer, next_phase, selection_after, sizing_after, HasSelection, phase_shown}, CompletionLemmas.on, PhaseLemmas.shows_answered}
 use Rattle.nbd_state.proofs.state.State.answer.Goals as goal
 
 pub returns-clause-shown : goal.returns-clause-shown

@@ -1,6 +1,4 @@
-use Rattle.nbd_state.proofs.Common.{◌∙◌, ◌&&◌, ap, refl, subst, agrees, choice_phase, selection_at, sizing_at, HasSelection, phase_shown}
-use Rattle.nbd_state.proofs.CompletionLemmas.{on}
-use Rattle.nbd_state.proofs.PhaseLemmas.{shows_chosen}
+use Rattle.nbd_state.proofs.{Common.{◌∙◌, ◌&&◌, ap, refl, subst, agrees, choice_phase, selection_at, sizing_at, HasSelection, phase_shown}, CompletionLemmas.on, PhaseLemmas.shows_chosen}
 use Rattle.nbd_state.proofs.state.State.choice.Goals as goal
 
 pub returns-clause-shown : goal.returns-clause-shown

@@ -1,7 +1,4 @@
-use Rattle.nbd_state.proofs.Common.{◌<◌, ◌∙◌, ◌&&◌, ◌==◌, ap, length, refl, sym, subst, None, slice_set, place_at, chunk_of, State, in_force, status_in, is_allocation_told, Counts, if◌then◌else◌, is_some, Some}
-use Rattle.nbd_state.proofs.HeadLemmas.{chunk_cookie, chunk_ends}
-use Rattle.nbd_state.proofs.CompletionLemmas.{counted_now, indexed, on_one, replied_shows, size_fits}
-use Rattle.nbd_state.proofs.TellingLemmas.{tells_at}
+use Rattle.nbd_state.proofs.{Common.{◌<◌, ◌∙◌, ◌&&◌, ◌==◌, ap, length, refl, sym, subst, None, slice_set, place_at, chunk_of, State, in_force, status_in, is_allocation_told, Counts, if◌then◌else◌, is_some, Some}, HeadLemmas.{chunk_cookie, chunk_ends}, CompletionLemmas.{counted_now, indexed, on_one, replied_shows, size_fits}, TellingLemmas.tells_at}
 use Rattle.nbd_state.proofs.state.State.chunk.Goals as goal
 
 pub returns-clause-shown : goal.returns-clause-shown

@@ -1,6 +1,4 @@
-use Rattle.nbd_state.proofs.Common.{arith, ap, refl, subst, MayAsk, ExtendedRequest, MayComplete, complete, cookie_of, MayTake}
-use Rattle.nbd_state.proofs.CompletionLemmas.{on}
-use Rattle.nbd_state.proofs.PhaseLemmas.{answered_chunk, answered_extended, answered_simple, asked_in, chunk_in, extended_asked_in, extended_chunk_in, extended_transmits, shows_exported, shows_flags, shows_greeted, shows_same, simple_in, transmits}
+use Rattle.nbd_state.proofs.{Common.{arith, ap, refl, subst, MayAsk, ExtendedRequest, MayComplete, complete, cookie_of, MayTake}, CompletionLemmas.on, PhaseLemmas.{answered_chunk, answered_extended, answered_simple, asked_in, chunk_in, extended_asked_in, extended_chunk_in, extended_transmits, shows_exported, shows_flags, shows_greeted, shows_same, simple_in, transmits}}
 use Rattle.nbd_state.proofs.TellingLemmas.{known_asked, known_told}
 use Rattle.nbd_state.proofs.state.State.complete.Goals as goal
 

@@ -1,6 +1,5 @@
-use Rattle.nbd_state.proofs.Common.{arith, ◌≡◌, [], ◌==◌, refl, sym, subst, false, if◌then◌else◌, length, ne_eqb, not, ◌∙◌, ap, core_with_request, sizes_for, sizes_kept, has_contexts, in_force, Asks, filter_of_head, carried, operation_of_head, IsShown, exporting, Shows}
+use Rattle.nbd_state.proofs.{Common.{arith, ◌≡◌, [], ◌==◌, refl, sym, subst, false, if◌then◌else◌, length, ne_eqb, not, ◌∙◌, ap, core_with_request, sizes_for, sizes_kept, has_contexts, in_force, Asks, filter_of_head, carried, operation_of_head, IsShown, exporting, Shows}, CompletionLemmas.{added_unanswered, exporting_is, on_all, requested_shows}}
 use Rattle.nbd_wire.specs.declared.commands.TheConstants as commands
-use Rattle.nbd_state.proofs.CompletionLemmas.{added_unanswered, exporting_is, on_all, requested_shows}
 use Rattle.nbd_state.proofs.state.State.request.Goals as goal
 
 pub returns-clause-shown : goal.returns-clause-shown

@@ -1,6 +1,4 @@
-use Rattle.nbd_state.proofs.Common.{◌<◌, ◌∙◌, ap, length, refl, sym, subst, slice_set, place_at, Simple, ends_reply, State, Counts, if◌then◌else◌, is_some, Some}
-use Rattle.nbd_state.proofs.CompletionLemmas.{counted_now, indexed, on_one, replied_shows}
-use Rattle.nbd_state.proofs.TellingLemmas.{tells_at}
+use Rattle.nbd_state.proofs.{Common.{◌<◌, ◌∙◌, ap, length, refl, sym, subst, slice_set, place_at, Simple, ends_reply, State, Counts, if◌then◌else◌, is_some, Some}, CompletionLemmas.{counted_now, indexed, on_one, replied_shows}, TellingLemmas.tells_at}
 use Rattle.nbd_state.proofs.state.State.simple.Goals as goal
 
 pub returns-clause-shown : goal.returns-clause-shown

@@ -1,5 +1,4 @@
-use Rattle.nbd_state.proofs.Common.{arith, nat_lt}
-use Rattle.nbd_state.proofs.TranscriptLemmas.{counted_from_one, told_at}
+use Rattle.nbd_state.proofs.{Common.{arith, nat_lt}, TranscriptLemmas.{counted_from_one, told_at}}
 use Rattle.nbd_state.proofs.transcript.Transcript.asked.Goals as goal
 
 -- src/transcript.rt:66:5

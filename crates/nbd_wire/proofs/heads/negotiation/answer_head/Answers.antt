@@ -1,8 +1,5 @@
-use Rattle.nbd_wire.proofs.Common.{arith, sym, ◌∙◌}
-use Rattle.nbd_wire.proofs.NumberLemmas.{AreBytes-from_places}
-use Rattle.nbd_wire.proofs.HeadReadLemmas.{answer-reads, answer-none}
+use Rattle.nbd_wire.proofs.{Common.{arith, sym, ◌∙◌}, NumberLemmas.AreBytes-from_places, HeadReadLemmas.{answer-reads, answer-none}, heads.negotiation.answer_head.Goals.{then-bytes-ne-ANSWER-via-then-bytes-ne-ANSWER, then-bytes-ne-ANSWER-via-else-bytes-ne-ANSWER+then-u64_at-ne-ANSWER_MAGIC}}
 use Rattle.nbd_wire.proofs.heads.negotiation.answer_head.Goals as goal
-use Rattle.nbd_wire.proofs.heads.negotiation.answer_head.Goals.{then-bytes-ne-ANSWER-via-then-bytes-ne-ANSWER, then-bytes-ne-ANSWER-via-else-bytes-ne-ANSWER+then-u64_at-ne-ANSWER_MAGIC}
 
 pub returns-then-bytes-ne-ANSWER : goal.returns-then-bytes-ne-ANSWER
 returns-then-bytes-ne-ANSWER c =

@@ -1,8 +1,5 @@
-use Rattle.nbd_wire.proofs.Common.{arith, sym, ◌∙◌}
-use Rattle.nbd_wire.proofs.NumberLemmas.{AreBytes-from_places}
-use Rattle.nbd_wire.proofs.HeadReadLemmas.{choice-reads, choice-none}
+use Rattle.nbd_wire.proofs.{Common.{arith, sym, ◌∙◌}, NumberLemmas.AreBytes-from_places, HeadReadLemmas.{choice-reads, choice-none}, heads.negotiation.choice_head.Goals.{then-bytes-ne-CHOICE-via-then-bytes-ne-CHOICE, then-bytes-ne-CHOICE-via-else-bytes-ne-CHOICE+then-u64_at-ne-OPTION_MAGIC}}
 use Rattle.nbd_wire.proofs.heads.negotiation.choice_head.Goals as goal
-use Rattle.nbd_wire.proofs.heads.negotiation.choice_head.Goals.{then-bytes-ne-CHOICE-via-then-bytes-ne-CHOICE, then-bytes-ne-CHOICE-via-else-bytes-ne-CHOICE+then-u64_at-ne-OPTION_MAGIC}
 
 pub returns-then-bytes-ne-CHOICE : goal.returns-then-bytes-ne-CHOICE
 returns-then-bytes-ne-CHOICE c =

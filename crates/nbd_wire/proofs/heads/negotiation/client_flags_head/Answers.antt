@@ -1,6 +1,4 @@
-use Rattle.nbd_wire.proofs.Common.{arith}
-use Rattle.nbd_wire.proofs.NumberLemmas.{AreBytes-from_places}
-use Rattle.nbd_wire.proofs.HeadReadLemmas.{client_flags-reads, client_flags-none}
+use Rattle.nbd_wire.proofs.{Common.arith, NumberLemmas.AreBytes-from_places, HeadReadLemmas.{client_flags-reads, client_flags-none}}
 use Rattle.nbd_wire.proofs.heads.negotiation.client_flags_head.Goals as goal
 
 pub returns-then-bytes-ne-CLIENT_FLAGS : goal.returns-then-bytes-ne-CLIENT_FLAGS

@@ -1,6 +1,4 @@
-use Rattle.nbd_wire.proofs.Common.{arith}
-use Rattle.nbd_wire.proofs.NumberLemmas.{AreBytes-from_places}
-use Rattle.nbd_wire.proofs.HeadReadLemmas.{export-reads, export-none}
+use Rattle.nbd_wire.proofs.{Common.arith, NumberLemmas.AreBytes-from_places, HeadReadLemmas.{export-reads, export-none}}
 use Rattle.nbd_wire.proofs.heads.negotiation.export_head.Goals as goal
 
 pub returns-then-bytes-ne-EXPORT : goal.returns-then-bytes-ne-EXPORT

@@ -1,8 +1,6 @@
-use Rattle.nbd_wire.proofs.Common.{arith, sym, ◌∙◌}
-use Rattle.nbd_wire.proofs.NumberLemmas.{AreBytes-from_places}
-use Rattle.nbd_wire.proofs.HeadReadLemmas.{greeting-reads, greeting-none}
-use Rattle.nbd_wire.proofs.heads.negotiation.greeting_head.Goals as goal
+use Rattle.nbd_wire.proofs.{Common.{arith, sym, ◌∙◌}, NumberLemmas.AreBytes-from_places, HeadReadLemmas.{greeting-reads, greeting-none}}
 use Rattle.nbd_wire.proofs.heads.negotiation.greeting_head.Goals.{then-bytes-ne-GREETING-via-then-bytes-ne-GREETING, then-bytes-ne-GREETING-via-else-bytes-ne-GREETING+then-u64_at-ne-GREETING_MAGIC, then-bytes-ne-GREETING-via-else-bytes-ne-GREETING+else-u64_at-ne-GREETING_MAGIC+then-u64_at-ne-OPTION_MAGIC}
+use Rattle.nbd_wire.proofs.heads.negotiation.greeting_head.Goals as goal
 
 pub returns-then-bytes-ne-GREETING : goal.returns-then-bytes-ne-GREETING
 returns-then-bytes-ne-GREETING c =

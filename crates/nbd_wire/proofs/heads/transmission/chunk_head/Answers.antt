@@ -1,8 +1,5 @@
-use Rattle.nbd_wire.proofs.Common.{arith, sym, ◌∙◌}
-use Rattle.nbd_wire.proofs.NumberLemmas.{AreBytes-from_places}
-use Rattle.nbd_wire.proofs.HeadReadLemmas.{chunk-reads, chunk-none}
+use Rattle.nbd_wire.proofs.{Common.{arith, sym, ◌∙◌}, NumberLemmas.AreBytes-from_places, HeadReadLemmas.{chunk-reads, chunk-none}, heads.transmission.chunk_head.Goals.{then-bytes-ne-CHUNK-via-then-bytes-ne-CHUNK, then-bytes-ne-CHUNK-via-else-bytes-ne-CHUNK+then-u32_at-ne-CHUNK_MAGIC}}
 use Rattle.nbd_wire.proofs.heads.transmission.chunk_head.Goals as goal
-use Rattle.nbd_wire.proofs.heads.transmission.chunk_head.Goals.{then-bytes-ne-CHUNK-via-then-bytes-ne-CHUNK, then-bytes-ne-CHUNK-via-else-bytes-ne-CHUNK+then-u32_at-ne-CHUNK_MAGIC}
 
 pub returns-then-bytes-ne-CHUNK : goal.returns-then-bytes-ne-CHUNK
 returns-then-bytes-ne-CHUNK c =

@@ -1,8 +1,5 @@
-use Rattle.nbd_wire.proofs.Common.{arith, sym, ◌∙◌}
-use Rattle.nbd_wire.proofs.NumberLemmas.{AreBytes-from_places}
-use Rattle.nbd_wire.proofs.HeadReadLemmas.{extended_chunk-reads, extended_chunk-none}
+use Rattle.nbd_wire.proofs.{Common.{arith, sym, ◌∙◌}, NumberLemmas.AreBytes-from_places, HeadReadLemmas.{extended_chunk-reads, extended_chunk-none}, heads.transmission.extended_chunk_head.Goals.{then-bytes-ne-EXTENDED_CHUNK-via-then-bytes-ne-EXTENDED_CHUNK, then-bytes-ne-EXTENDED_CHUNK-via-else-bytes-ne-EXTENDED_CHUNK+then-u32_at-ne-EXTENDED_CHUNK_MAGIC}}
 use Rattle.nbd_wire.proofs.heads.transmission.extended_chunk_head.Goals as goal
-use Rattle.nbd_wire.proofs.heads.transmission.extended_chunk_head.Goals.{then-bytes-ne-EXTENDED_CHUNK-via-then-bytes-ne-EXTENDED_CHUNK, then-bytes-ne-EXTENDED_CHUNK-via-else-bytes-ne-EXTENDED_CHUNK+then-u32_at-ne-EXTENDED_CHUNK_MAGIC}
 
 pub returns-then-bytes-ne-EXTENDED_CHUNK : goal.returns-then-bytes-ne-EXTENDED_CHUNK
 returns-then-bytes-ne-EXTENDED_CHUNK c =

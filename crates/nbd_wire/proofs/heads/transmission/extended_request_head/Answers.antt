@@ -1,8 +1,5 @@
-use Rattle.nbd_wire.proofs.Common.{arith, sym, ◌∙◌}
-use Rattle.nbd_wire.proofs.NumberLemmas.{AreBytes-from_places}
-use Rattle.nbd_wire.proofs.HeadReadLemmas.{extended_request-reads, extended_request-none}
+use Rattle.nbd_wire.proofs.{Common.{arith, sym, ◌∙◌}, NumberLemmas.AreBytes-from_places, HeadReadLemmas.{extended_request-reads, extended_request-none}, heads.transmission.extended_request_head.Goals.{then-bytes-ne-EXTENDED_REQUEST-via-then-bytes-ne-EXTENDED_REQUEST, then-bytes-ne-EXTENDED_REQUEST-via-else-bytes-ne-EXTENDED_REQUEST+then-u32_at-ne-EXTENDED_REQUEST_MAGIC}}
 use Rattle.nbd_wire.proofs.heads.transmission.extended_request_head.Goals as goal
-use Rattle.nbd_wire.proofs.heads.transmission.extended_request_head.Goals.{then-bytes-ne-EXTENDED_REQUEST-via-then-bytes-ne-EXTENDED_REQUEST, then-bytes-ne-EXTENDED_REQUEST-via-else-bytes-ne-EXTENDED_REQUEST+then-u32_at-ne-EXTENDED_REQUEST_MAGIC}
 
 pub returns-then-bytes-ne-EXTENDED_REQUEST : goal.returns-then-bytes-ne-EXTENDED_REQUEST
 returns-then-bytes-ne-EXTENDED_REQUEST c =

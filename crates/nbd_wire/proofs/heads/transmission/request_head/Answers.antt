@@ -1,8 +1,5 @@
-use Rattle.nbd_wire.proofs.Common.{arith, sym, ◌∙◌}
-use Rattle.nbd_wire.proofs.NumberLemmas.{AreBytes-from_places}
-use Rattle.nbd_wire.proofs.HeadReadLemmas.{request-reads, request-none}
+use Rattle.nbd_wire.proofs.{Common.{arith, sym, ◌∙◌}, NumberLemmas.AreBytes-from_places, HeadReadLemmas.{request-reads, request-none}, heads.transmission.request_head.Goals.{then-bytes-ne-REQUEST-via-then-bytes-ne-REQUEST, then-bytes-ne-REQUEST-via-else-bytes-ne-REQUEST+then-u32_at-ne-REQUEST_MAGIC}}
 use Rattle.nbd_wire.proofs.heads.transmission.request_head.Goals as goal
-use Rattle.nbd_wire.proofs.heads.transmission.request_head.Goals.{then-bytes-ne-REQUEST-via-then-bytes-ne-REQUEST, then-bytes-ne-REQUEST-via-else-bytes-ne-REQUEST+then-u32_at-ne-REQUEST_MAGIC}
 
 pub returns-then-bytes-ne-REQUEST : goal.returns-then-bytes-ne-REQUEST
 returns-then-bytes-ne-REQUEST c =

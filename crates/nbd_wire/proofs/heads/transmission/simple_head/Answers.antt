@@ -1,8 +1,5 @@
-use Rattle.nbd_wire.proofs.Common.{arith, sym, ◌∙◌}
-use Rattle.nbd_wire.proofs.NumberLemmas.{AreBytes-from_places}
-use Rattle.nbd_wire.proofs.HeadReadLemmas.{simple-reads, simple-none}
+use Rattle.nbd_wire.proofs.{Common.{arith, sym, ◌∙◌}, NumberLemmas.AreBytes-from_places, HeadReadLemmas.{simple-reads, simple-none}, heads.transmission.simple_head.Goals.{then-bytes-ne-SIMPLE-via-then-bytes-ne-SIMPLE, then-bytes-ne-SIMPLE-via-else-bytes-ne-SIMPLE+then-u32_at-ne-SIMPLE_MAGIC}}
 use Rattle.nbd_wire.proofs.heads.transmission.simple_head.Goals as goal
-use Rattle.nbd_wire.proofs.heads.transmission.simple_head.Goals.{then-bytes-ne-SIMPLE-via-then-bytes-ne-SIMPLE, then-bytes-ne-SIMPLE-via-else-bytes-ne-SIMPLE+then-u32_at-ne-SIMPLE_MAGIC}
 
 pub returns-then-bytes-ne-SIMPLE : goal.returns-then-bytes-ne-SIMPLE
 returns-then-bytes-ne-SIMPLE c =

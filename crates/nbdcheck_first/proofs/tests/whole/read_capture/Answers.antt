@@ -1,11 +1,6 @@
-use Rattle.std.proofs.Common.{◌≡◌, ◌∷◌, ◌++◌, [], append-nil, Ok, ap, refl, subst, sym, ◌∙◌}
-use Rattle.std.proofs.lemmas.Result.{err_from_is_err_and}
-use Rattle.std.proofs.lemmas.List.{map-append}
-use Rattle.std.proofs.lemmas.Option.{IfSome_then}
-use Rattle.nbd_capture.specs.Capture.{chunk_of, chunks_of}
-use Rattle.nbd_capture.specs.Reading.{Reads, at_start}
-use Rattle.nbd_capture.proofs.ReadToEndLemmas.{names_first_bad, reads_to_end, whole_text}
-use Rattle.nbd_capture.proofs.ReadingStepLemmas.{reads-append, reads_same}
+use Rattle.std.proofs.{Common.{◌≡◌, ◌∷◌, ◌++◌, [], append-nil, Ok, ap, refl, subst, sym, ◌∙◌}, lemmas.{Result.err_from_is_err_and, List.map-append, Option.IfSome_then}}
+use Rattle.nbd_capture.specs.{Capture.{chunk_of, chunks_of}, Reading.{Reads, at_start}}
+use Rattle.nbd_capture.proofs.{ReadToEndLemmas.{names_first_bad, reads_to_end, whole_text}, ReadingStepLemmas.{reads-append, reads_same}}
 use Rattle.nbdcheck_first.proofs.tests.whole.read_capture.Goals as goal
 
 pub loop-chunks-init : goal.loop-chunks-init

@@ -1,7 +1,5 @@
 use Rattle.std.proofs.Common.{◌≡◌}
-use Rattle.nbd_capture.specs.Capture.{chunks_of}
-use Rattle.nbd_capture.specs.Reading.{Reads, at_start}
-use Rattle.nbd_capture.specs.declared.reader.State.TheVariants.{Open}
+use Rattle.nbd_capture.specs.{Capture.chunks_of, Reading.{Reads, at_start}, declared.reader.State.TheVariants.Open}
 use Rattle.nbdcheck_first.proofs.tests.whole.read_capture.Given as goal
 
 abbrev pub invariant-loop-chunks : goal.invariant-loop-chunks
