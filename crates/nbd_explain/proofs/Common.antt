@@ -1,4 +1,6 @@
 -- The names that the proofs of this crate cite from elsewhere, passed on from one place. Declares nothing.
+pub use Rattle.std.specs.Prelude.{option_and_then}
+pub use Rattle.std.specs.List.{list_any}
 pub use Rattle.nbd_capture.proofs.WriterLemmas.{prefix_then, then_prefix}
 pub use Rattle.nbd_capture.specs.Order.{IsOrderText}
 pub use Rattle.nbd_capture.specs.Writing.{AppendsPrefix}
@@ -30,7 +32,8 @@ pub use Rattle.nbd_files.specs.declared.start.StartFrom.{StartFrom}
 pub use Rattle.nbd_judge.proofs.contents.StartLemmas.{no_export}
 pub use Rattle.nbd_judge.proofs.verdicts.ChunkLemmas.{checked}
 pub use Rattle.nbd_judge.proofs.verdicts.UniqueLemmas.{one_wire_fault}
-pub use Rattle.nbd_judge.specs.Captures.{IsChecked, IsFaultOf}
+pub use Rattle.nbd_judge.specs.Captures.{IsChecked}
+pub use Rattle.nbd_judge.specs.internal.Captures.{IsFaultOf}
 pub use Rattle.nbd_judge.specs.Images.{IsOtherSize}
 pub use Rattle.nbd_judge.specs.Servable.{size_of}
 pub use Rattle.nbd_judge.specs.Verdicts.{wrong_verdict}
@@ -80,10 +83,10 @@ pub use Rattle.nbd_wire.specs.protocol.Captures.{Pair}
 pub use Rattle.nbd_wire.specs.protocol.Contexts.{Context}
 pub use Rattle.nbd_wire.specs.protocol.Explains.{FitsImage, IsExplainedOf, Start, start_byte}
 pub use Rattle.nbd_wire.specs.protocol.Marks.{Byte, Completes, Item, Serves, Starts, completed_messages, pairs, without_service}
-pub use Rattle.nbd_wire.specs.protocol.Operations.{Exporting, Operation, any, ends_reply, is_failing, is_finished, outcome}
+pub use Rattle.nbd_wire.specs.protocol.Operations.{Exporting, Operation, ends_reply, is_failing, is_finished, outcome}
 pub use Rattle.nbd_wire.specs.protocol.Reports.{Asked, Report, asked_list, known_count, operations_of}
 unfoldable pub use Rattle.nbd_wire.specs.protocol.Reports.{report}
-pub use Rattle.nbd_wire.specs.protocol.Rules.{IsRunBut, IsRunOf, Obeys, after, cookie_of, core_with_request, ends_at, reply_to, request_of_reply, target_of}
+pub use Rattle.nbd_wire.specs.protocol.Rules.{IsRunBut, IsRunOf, Obeys, after, cookie_of, core_with_request, ends_at, reply_to, request_of_reply}
 unfoldable pub use Rattle.nbd_wire.specs.protocol.Rules.{MayComplete, complete}
 pub use Rattle.nbd_wire.specs.protocol.States.{Core, Phase, State, Transmission, has_contexts, in_force, is_awaiting, start, start_of, target_from, with_reply, with_reply_at}
 unfoldable pub use Rattle.nbd_wire.specs.protocol.States.{target}

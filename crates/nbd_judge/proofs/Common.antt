@@ -2,7 +2,8 @@
 pub use Rattle.nbd_export.specs.Extents.{byte_of}
 pub use Rattle.nbd_export.specs.Ranges.{AreSameBelow, DiffersIn, IsLeast, bytes_from, overlay, zeroes}
 pub use Rattle.nbd_judge.specs.Beginnings.{initial_of}
-pub use Rattle.nbd_judge.specs.Captures.{HasVerdict, IsChecked, IsFaultOf, SaysYes, records_of}
+pub use Rattle.nbd_judge.specs.Captures.{HasVerdict, IsChecked, SaysYes, records_of}
+pub use Rattle.nbd_judge.specs.internal.Captures.{IsFaultOf}
 pub use Rattle.nbd_judge.specs.Conclusions.{Answers, IsConclusion, IsReportOf, VerdictsAnswerRuns}
 pub use Rattle.nbd_judge.specs.Folding.{Folding, contents_after, contents_with_effect}
 pub use Rattle.nbd_judge.specs.Images.{IsOtherSize}
@@ -10,7 +11,7 @@ pub use Rattle.nbd_judge.specs.Orders.{IsOrderFault}
 pub use Rattle.nbd_judge.specs.Profiles.{AnswersAtOnceIn, NothingPartsIn, VerdictsAgree, with_improper}
 pub use Rattle.nbd_judge.specs.Servable.{size_of}
 pub use Rattle.nbd_judge.specs.Uniqueness.{OneAnswer, OneJudgement, OneVerdict, OneWireFault}
-pub use Rattle.nbd_judge.specs.Verdicts.{FirstWrongFrom, FirstWrongOf, HasNoneWrongFrom, HasWrongFrom, IsJudged, IsVerdict}
+pub use Rattle.nbd_judge.specs.Verdicts.{FirstWrongFrom, FirstWrongOf, HasWrongFrom, IsJudged, IsVerdict}
 pub use Rattle.nbd_judge.specs.declared.service.Parts.{Parts}
 pub use Rattle.nbd_judge.specs.declared.service.Service.{Service}
 pub use Rattle.nbd_judge.specs.declared.service.Service.TheVariants.{InParts, Unnamed, Whole}
@@ -44,7 +45,7 @@ pub use Rattle.nbd_laws.specs.Soundness.{IsSoundAsked, IsSoundReport}
 pub use Rattle.nbd_session.proofs.judge.PieceLemmas.{length-sent}
 pub use Rattle.nbd_session.proofs.judge.RefusalLemmas.{completes_exactly, no_run_of}
 pub use Rattle.nbd_session.proofs.pushed.PushLemmas.{sent-append}
-pub use Rattle.nbd_session.specs.Refusals.{EndsIn, IsOpenEndOf, IsRefusalOf, IsRefusedAtOf, IsWireFaultOf, LeavesOpen, Refuses}
+pub use Rattle.nbd_session.specs.Refusals.{EndsIn, IsOpenEndOf, IsRefusalOf, IsWireFaultOf, Refuses}
 pub use Rattle.nbd_session.specs.Sessions.{AddsPrefix, IsAtEnd, IsReported, SessionView, pairs_of}
 pub use Rattle.nbd_session.specs.declared.fault.SessionFault.{SessionFault}
 pub use Rattle.nbd_session.specs.declared.fault.SessionFault.TheVariants.{Memory}
@@ -68,16 +69,16 @@ pub use Rattle.nbd_wire.specs.declared.profile.Profile.{Profile}
 pub use Rattle.nbd_wire.specs.protocol.Captures.{ArePairs, Pair, flat, side_pairs}
 pub use Rattle.nbd_wire.specs.protocol.Encoding.{AreBytes}
 unfoldable pub use Rattle.nbd_wire.specs.protocol.Encoding.{enc, head, tail}
-pub use Rattle.nbd_wire.specs.protocol.Entries.{HasBadPart, IsAgain, IsMisplaced, IsServedAt, IsTwice, MayServe, Names, NamesWhole, in_part, inside, inside_of, is_served}
+pub use Rattle.nbd_wire.specs.protocol.Entries.{IsAgain, IsMisplaced, IsServedAt, MayServe, Names, NamesWhole, in_part, inside, inside_of, is_served}
 pub use Rattle.nbd_wire.specs.protocol.Explains.{FitsImage, IsExplainedOf, Start, start_byte}
-pub use Rattle.nbd_wire.specs.protocol.ExportBytes.{Effect, GivesByte, IsWrong, IsWrongIn, IsWrongOf, byte_before, byte_or_start, effect, effect_byte, effect_if, effects, is_success, last_touch, later, new_byte, serves, touch_of, touches}
+pub use Rattle.nbd_wire.specs.protocol.ExportBytes.{Effect, GivesByte, IsWrong, IsWrongIn, IsWrongOf, byte_before, byte_or_start, effect, effect_byte, effects, is_success, last_touch, later, serves, touch_of, touches}
 pub use Rattle.nbd_wire.specs.protocol.Marks.{Item, pairs, without_service}
 pub use Rattle.nbd_wire.specs.protocol.Operations.{Exporting, Failure, Outcome, Pending, Success, has_range, is_change, is_chunked}
-pub use Rattle.nbd_wire.specs.protocol.Orders.{FirstLate, HasNoOrderFault, IsBad, IsBadPart, IsDue, IsFirst, IsLate, IsUnserved, LeastMissing, LeastNotCovered, NamesAgain, NamesNone}
+pub use Rattle.nbd_wire.specs.protocol.Orders.{IsFaultAt, HasNoOrderFault, IsBad, IsBadPart, IsDue, IsFirst, IsLate, IsUnserved, NamesAgain, NamesNone}
 pub use Rattle.nbd_wire.specs.protocol.Pieces.{SharesNone, byte_at, holds, is_in, piece_byte, piece_offset, piece_size}
 pub use Rattle.nbd_wire.specs.protocol.Places.{IsPlaceOf, IsUnderWayOf}
-pub use Rattle.nbd_wire.specs.protocol.Reading.{Both, fresh_of, reads}
-pub use Rattle.nbd_wire.specs.protocol.Decisions.{judge}
+pub use Rattle.nbd_wire.specs.protocol.Reading.{Both, Reader, fresh_of, reads}
+pub use Rattle.nbd_laws.specs.Awaited.{judge}
 pub use Rattle.nbd_wire.specs.protocol.Reports.{Asked, Report, asked_at, due_by_chunk, due_in, due_of, first_shown, inside_asked, inside_in, lesser_of, report}
 pub use Rattle.nbd_wire.specs.protocol.Rules.{IsRunOf, Obeys}
 unfoldable pub use Rattle.nbd_wire.specs.protocol.Sendable.{IsSendable}

@@ -9,10 +9,6 @@ use Rattle.nbd_judge.specs.Orders.{IsOrderFault}
 use Rattle.nbd_wire.specs.declared.verdict.Verdict.{Verdict}
 use Rattle.nbd_wire.specs.declared.verdict.Verdict.TheVariants.{Yes, Wire, Image, Order, Content, Status}
 
--- no entry of the order serves a wrong byte, where the export's bytes were these at first
-abbrev pub HasNoneWrongFrom : Report → List Entry → (ℕ → Option ℕ) → Type 0
-HasNoneWrongFrom r order initial = (i x : ℕ) → IsWrong (effects r) order initial i x → ⊥
-
 -- entry i of the order, counted from 0, serves a wrong byte
 abbrev pub HasWrongFrom : Report → List Entry → (ℕ → Option ℕ) → ℕ → Type 0
 HasWrongFrom r order initial i = (x : ℕ) × IsWrong (effects r) order initial i x
@@ -42,7 +38,7 @@ wrong_verdict r request offset = wrong_verdict_if (asked_at request r.asked) req
 -- the verdict where the export's bytes were these at first: Order, Content, Status or Yes
 abbrev pub IsJudged : Profile → Report → List Entry → (ℕ → Option ℕ) → Verdict → Type 0
 IsJudged profile r order initial (Yes of_requests of_answered of_improper) =
-    IsFaultless profile r order × HasNoneWrongFrom r order initial
+    IsFaultless profile r order × ((i x : ℕ) → IsWrong (effects r) order initial i x → ⊥)
     × (of_requests ≡ request_count r) × (of_answered ≡ answered_count r) × (of_improper ≡ improper_count profile r)
 IsJudged profile r order initial (Order entry fault) = IsOrderFault profile r order entry fault
 IsJudged profile r order initial (Content request offset) =

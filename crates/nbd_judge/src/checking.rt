@@ -4,7 +4,8 @@ ghost use Rattle.std.specs.Prelude.{◌<◌, ◌^◌, IfErr, IfOk, length};
 ghost use Rattle.nbd_wire.specs.declared.profile.Profile.TheVariants.{Base};
 ghost use Rattle.nbd_wire.specs.Prelude.{flat};
 ghost use Rattle.nbd_judge.specs.Beginnings.{initial_of};
-ghost use Rattle.nbd_judge.specs.Captures.{AnswersExactly, IsChecked, IsFaultOf, records_of};
+ghost use Rattle.nbd_judge.specs.Captures.{AnswersExactly, IsChecked, records_of};
+ghost use Rattle.nbd_judge.specs.internal.Captures.{IsFaultOf};
 ghost use Rattle.nbd_judge.specs.internal.Captures.{HasReport};
 
 use crate::{Verdict, conclude};

@@ -1,8 +1,9 @@
 -- The names that the proofs of this crate cite from elsewhere, passed on from one place. Declares nothing.
+pub use Rattle.std.specs.Prelude.{option_and_then, option_to_list}
 pub use Rattle.byteorder.specs.Endian.{big_bytes}
 pub use Rattle.byteorder.specs.Numbers.{big_number-reads_back}
 pub use Rattle.nbd_laws.specs.Announcing.{SizesAreAnnounced, announced, last_announced}
-pub use Rattle.nbd_laws.specs.Awaited.{awaited_length, awaited_length_by}
+pub use Rattle.nbd_laws.specs.Awaited.{MayStart, awaited_length, awaited_length_by, decision, judge, reply_with}
 pub use Rattle.nbd_laws.specs.Bytes.{OpenBytesEndRuns, RunsHoldEachSide, bytes_from, bytes_of, first_bytes}
 pub use Rattle.nbd_laws.specs.Cuts.{CutsDoNotCount}
 pub use Rattle.nbd_laws.specs.Explaining.{ExplainedPasses, HasCountsOf, IsNoOf, IsYesOf, PassingIsExplained}
@@ -45,7 +46,7 @@ pub use Rattle.nbd_wire.specs.declared.sizes.Sizes.{Sizes}
 pub use Rattle.nbd_wire.specs.declared.sizes.Sizing.{Sizing}
 pub use Rattle.nbd_wire.specs.protocol.Captures.{ArePairs, Pair, flat, side_pairs}
 pub use Rattle.nbd_wire.specs.protocol.Contexts.{Context, Extent, Selection, Status, length_by}
-pub use Rattle.nbd_wire.specs.protocol.Decisions.{magic_fault, unless, operation_if, Decision, abort_answer, answer, answer_of, begins, choice, chunk_last_fault, chunk_of, chunk_to, client_flags, export_answer, extended_chunk_of, extended_chunk_to, extended_last_fault, greeting, no_reply, operation_of, reply_in, reply_with, request, request_by, simple_of, simple_to, Bad, More, Reading, Whole, judge, decision, judge_in, read_by, reading_by_decision}
+pub use Rattle.nbd_wire.specs.protocol.Decisions.{request_of, magic_fault, unless, Decision, abort_answer, answer, answer_of, begins, choice, chunk_last_fault, chunk_of, chunk_to, client_flags, export_answer, greeting, operation_of, reply_in, request_by, simple_of, simple_to, Bad, More, Reading, Whole, decide, judge_in, read_by, reading_by_decision}
 pub use Rattle.nbd_wire.specs.protocol.Encoding.{AreBytes}
 unfoldable pub use Rattle.nbd_wire.specs.protocol.Encoding.{enc, head, tail}
 pub use Rattle.nbd_wire.specs.protocol.Entries.{IsServedAt, MayServe, Names, NamesWhole, in_part, inside, inside_of, is_served, part, whole}
@@ -54,22 +55,22 @@ pub use Rattle.nbd_wire.specs.protocol.ExportBytes.{Differs, Effect, GivesByte, 
 unfoldable pub use Rattle.nbd_wire.specs.protocol.Flags.{has, has_only}
 pub use Rattle.nbd_wire.specs.protocol.Forms.{HasGoForm}
 unfoldable pub use Rattle.nbd_wire.specs.protocol.Forms.{HasContextForm}
-pub use Rattle.nbd_wire.specs.protocol.Marks.{Byte, Completes, IsByteOf, IsMarkedBut, IsSided, IsTight, Item, MayFollow, Serves, Starts, block, completed_messages, of_side, pairs, service_order, without_service}
+pub use Rattle.nbd_wire.specs.protocol.Marks.{Byte, Completes, IsMarkedBut, IsSided, IsTight, Item, MayFollow, Serves, Starts, block, completed_messages, of_side, pairs, service_order, without_service}
 pub use Rattle.nbd_wire.specs.protocol.Negotiation.{abort_fault, answer_fault, answer_head_fault, answer_last_fault, answers_option, are_zeroes, client_flags_fault, earlier_to, export_fault, greeting_fault, info_fault, is_bad_payload, is_followed, is_good_context, is_good_info, is_wide, padding_fault, payload_fault, success_fault}
-pub use Rattle.nbd_wire.specs.protocol.Operations.{Covers, Exporting, Operation, Success, allowed_flags, any, has_failed, has_range, is_error_chunk, is_finished, is_outside, may_carry, outcome, pieces, pieces_of, proper_on}
+pub use Rattle.nbd_wire.specs.protocol.Operations.{Covers, Exporting, Operation, Success, allowed_flags, has_failed, has_range, is_error_chunk, is_finished, is_outside, may_carry, outcome, pieces, proper_on}
 unfoldable pub use Rattle.nbd_wire.specs.protocol.Operations.{ends_reply, is_failing, is_proper}
-pub use Rattle.nbd_wire.specs.protocol.Options.{ack_phase, agrees, choice_phase, is_error, last_info, reply_phase, selection_after, selection_at, selection_told, takes_contexts, turn, with_context}
+pub use Rattle.nbd_wire.specs.protocol.Options.{ack_phase, agrees, choice_phase, is_error, last_info, reply_phase, selection_after, selection_at, selection_told, takes_contexts, turn}
 unfoldable pub use Rattle.nbd_wire.specs.protocol.Options.{is_proper_option, next_phase}
 pub use Rattle.nbd_wire.specs.protocol.Orders.{HasNoOrderFault, IsBad, IsLate}
 pub use Rattle.nbd_wire.specs.protocol.Payloads.{name_in, number_at}
 unfoldable pub use Rattle.nbd_wire.specs.protocol.Payloads.{content_of, context_of, failure_of, info_of, is_go, is_listed, queries_of, status_of}
-pub use Rattle.nbd_wire.specs.protocol.Pieces.{SharesNone, byte_at, chunk_piece, holds, is_in, piece_byte, piece_offset, piece_size, simple_piece}
+pub use Rattle.nbd_wire.specs.protocol.Pieces.{SharesNone, byte_at, holds, is_in, piece_byte, piece_offset, piece_size, simple_piece}
 unfoldable pub use Rattle.nbd_wire.specs.protocol.Pieces.{piece_of}
 pub use Rattle.nbd_wire.specs.protocol.Places.{IsPlace, IsPlaceOf, IsUnderWayOf}
-pub use Rattle.nbd_wire.specs.protocol.Reading.{Both, IsFilled, Reader, Rest, fresh_of, get, old_by, old_of, on_ok, put, reads, rest_with, settle, step, with_message}
+pub use Rattle.nbd_wire.specs.protocol.Reading.{Both, IsFilled, Reader, Rest, fresh_of, get, old_of, on_ok, put, reads, rest_with, settle, step, with_message}
 pub use Rattle.nbd_wire.specs.protocol.Reports.{Asked, Report, asked_at, asked_list, asked_of, due_by_chunk, due_in, due_of, export_of, first_shown, inside_in, known_count, known_from, lesser_of, operations_of}
 unfoldable pub use Rattle.nbd_wire.specs.protocol.Reports.{report}
-pub use Rattle.nbd_wire.specs.protocol.Rules.{shown_with, Allows, IsRunBut, IsRunOf, IsServedFor, MayStart, Obeys, after, cookie_of, core_with_request, ends_at, filter_in, gives, grants_structured, inside_at, inside_operation, is_by_chunk, is_extended, is_reply_to, is_this, makes_due, operation_asked, noted, reply_to, request_of_reply, target_of, written}
+pub use Rattle.nbd_wire.specs.protocol.Rules.{shown_with, Allows, IsRunBut, IsRunOf, IsServedFor, Obeys, after, cookie_of, core_with_request, ends_at, filter_in, gives, grants_structured, inside_at, inside_operation, is_by_chunk, is_extended, is_reply_to, is_this, makes_due, operation_asked, noted, reply_to, request_of_reply, written}
 unfoldable pub use Rattle.nbd_wire.specs.protocol.Rules.{MayComplete, MayStartIn, complete}
 pub use Rattle.nbd_wire.specs.protocol.Sendable.{carries_payload}
 unfoldable pub use Rattle.nbd_wire.specs.protocol.Sendable.{IsSendable}
@@ -79,7 +80,7 @@ pub use Rattle.nbd_wire.specs.protocol.States.{Aborting, Answering, Choosing, Co
 unfoldable pub use Rattle.nbd_wire.specs.protocol.States.{target}
 pub use Rattle.nbd_wire.specs.protocol.Statuses.{are_settled, is_settled, zeroes, zeroes_in}
 pub use Rattle.nbd_wire.specs.protocol.Tests.{fault_if}
-pub use Rattle.nbd_wire.specs.protocol.Transmission.{chunk_fault, chunk_head_fault, content_fault, cookie_fault, done_fault, extended_head_fault, extended_payload_length, extended_request_fault, fits_failure, fits_read, is_apart, is_apart_from, is_too_large, offset_fault, read_as, request_fault, request_payload_length, simple_fault, simple_last_fault, simple_length, status_if, status_kind, total}
+pub use Rattle.nbd_wire.specs.protocol.Transmission.{chunk_fault, chunk_head_fault, content_fault, cookie_fault, done_fault, fits_failure, fits_read, is_apart, is_apart_from, is_too_large, offset_fault, read_as, request_fault, request_payload_length, simple_fault, simple_last_fault, simple_payload_length, status_if, status_kind, total}
 pub use Rattle.nbd_wire.specs.protocol.Verdicts.{IsFaultless, Passes, answered_count, improper_count, request_count}
 pub use Rattle.nbd_wire.specs.protocol.Within.{within}
 pub use Rattle.std.proofs.Common.{All, Bool, Err, IsTrue, List, None, Ok, Option, Result, Some, [], add-one, ap, append-nil, append_assoc, arith, drop, eq-eqb, eq-or-lt_of_le, eqb-true, false, flat_map, if◌then◌else◌, inl, inr, is_some, le_refl, length, length-append, length-drop, lit<, lit≤, map, max, min, nat_le, nat_lt, not, refl, replicate, slice_get, subst, suc, sym, take, true, zero, ℕ, ◌&&◌, ◌++◌, ◌+◌, ◌-◌, ◌<◌, ◌==◌, ◌^◌, ◌||◌, ◌∙◌, ◌∷◌, ◌≡◌, ◌≢◌, ◌≤◌, ◌⊎◌}

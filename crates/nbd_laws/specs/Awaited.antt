@@ -1,7 +1,27 @@
--- The next length at which something is decided of a side's bytes.
+-- What reading decides and says of a side's bytes where the session stands, and the next length at which something is
+-- decided of them.
 use Rattle.std.specs.Prelude.{ℕ, List, ◌+◌, nat_lt, if◌then◌else◌, Option, Some, None, length}
 use Rattle.nbd_wire.specs.declared.message.Side.{Side}
-use Rattle.nbd_wire.specs.Prelude.{Decision, decision, Core}
+use Rattle.nbd_wire.specs.declared.message.Message.{Message}
+use Rattle.nbd_wire.specs.protocol.Rules.{MayStartIn}
+use Rattle.nbd_wire.specs.protocol.Decisions.{Reading, decision_with, operation_of, reply_in}
+use Rattle.nbd_wire.specs.Prelude.{Core, Decision, Exporting, Operation, Phase, judge_in, number_at}
+
+-- what is decided of a side's bytes in a phase, by what had completed before the first of them
+abbrev pub decision : Phase → (old now : Core) → Side → List ℕ → Option Decision
+decision phase old now s bytes = decision_with phase (operation_of old now) now s bytes
+
+-- what a message's first byte needs there
+abbrev pub MayStart : Core → Side → Message → Type 0
+MayStart core s m = MayStartIn core.phase core s m
+
+-- what reading says of a side's bytes
+abbrev pub judge : (old now : Core) → Side → List ℕ → Reading
+judge old now s bytes = judge_in now.phase old now s bytes
+
+-- what is decided of a reply; `to` finds the request that a cookie names
+abbrev pub reply_with : Exporting → (to : ℕ → Option Operation) → (now : Core) → List ℕ → Decision
+reply_with export to now bytes = reply_in now.extended export now (to (number_at 8 8 bytes)) bytes
 
 -- the end of the head, and behind it that of the message; a side that may not send is refused at its first byte
 abbrev pub awaited_length_by : Option Decision → List ℕ → ℕ

@@ -1,4 +1,5 @@
 -- The names that the proofs of this crate cite from elsewhere, passed on from one place. Declares nothing.
+pub use Rattle.std.specs.Prelude.{option_map}
 pub use Rattle.nbd_judge.proofs.orders.ShownLemmas.{looked_up, read_shows}
 pub use Rattle.nbd_judge.proofs.verdicts.SingleLemmas.{one_verdict}
 pub use Rattle.nbd_judge.specs.Beginnings.{initial_of}
@@ -29,7 +30,7 @@ pub use Rattle.nbd_wire.specs.declared.profile.Profile.{Profile}
 pub use Rattle.nbd_wire.specs.declared.profile.Profile.TheVariants.{Base, Wide}
 pub use Rattle.nbd_wire.specs.protocol.Entries.{IsAgain, IsMisplaced, Names, in_part, is_served, whole}
 pub use Rattle.nbd_wire.specs.protocol.Explains.{FitsImage, Held, Start, Unknown, Zeroes, start_byte}
-pub use Rattle.nbd_wire.specs.protocol.ExportBytes.{Differs, Effect, GivesByte, IsWrong, IsWrongIn, byte_before, byte_or_start, effect, effect_byte, effect_if, effects, is_success, last_touch, later, serves, touch_of, touches}
+pub use Rattle.nbd_wire.specs.protocol.ExportBytes.{Differs, Effect, GivesByte, IsWrong, IsWrongIn, byte_before, byte_or_start, effect, effect_byte, effects, is_success, last_touch, later, serves, touch_of, touches}
 pub use Rattle.nbd_wire.specs.protocol.Marks.{Item}
 pub use Rattle.nbd_wire.specs.protocol.Operations.{Exporting, has_range, is_change}
 pub use Rattle.nbd_wire.specs.protocol.Pieces.{byte_at, is_in, piece_offset, piece_size}

@@ -17,7 +17,7 @@ pub use Rattle.nbd_laws.proofs.runs.BlockLemmas.{marked_is_walk, walk_is_marked}
 pub use Rattle.nbd_laws.proofs.runs.PlaceLemmas.{read_no_place}
 pub use Rattle.nbd_laws.proofs.runs.RunByteLemmas.{AreBytesOf, byte_from, bytes_from-cons, run_bytes}
 pub use Rattle.nbd_laws.proofs.runs.RunLemmas.{fresh_held, marks_law, run_but_law}
-pub use Rattle.nbd_laws.specs.Awaited.{awaited_length, awaited_length_by}
+pub use Rattle.nbd_laws.specs.Awaited.{awaited_length, awaited_length_by, decision, judge, reply_with}
 pub use Rattle.nbd_laws.specs.Bytes.{bytes_from, bytes_of, of_two}
 pub use Rattle.nbd_laws.specs.Reached.{IsReached}
 pub use Rattle.nbd_laws.specs.Selecting.{AreAskedWith}
@@ -25,7 +25,7 @@ pub use Rattle.nbd_laws.specs.Soundness.{IsSoundReport}
 pub use Rattle.nbd_session.specs.Following.{Follows, IsPushed, past_of}
 pub use Rattle.nbd_session.specs.Incoming.{IncomingView, bytes_come, incoming_with, incoming_with_by, nothing_come}
 pub use Rattle.nbd_session.specs.Pushed.{PushedHoldsEachSide, Stretch, bytes_after_stretch, mixture, stretch_bytes}
-pub use Rattle.nbd_session.specs.Refusals.{EndsIn, IsAcceptedOf, IsComplete, IsCompleteBy, IsOpenEndOf, IsRefusalOf, IsWireFaultOf, LeavesOpen, Refuses}
+pub use Rattle.nbd_session.specs.Refusals.{EndsIn, IsAcceptedOf, IsComplete, IsCompleteBy, IsOpenEndOf, IsRefusalOf, IsWireFaultOf, Refuses}
 pub use Rattle.nbd_session.specs.Sessions.{Adds, AddsPrefix, HasRunOf, IsAtEnd, IsOfRun, IsReported, SessionView, bytes_taken, empty_session_of, end_by, fault_at_end, fault_of, open_end_fault, pairs_of}
 pub use Rattle.nbd_session.specs.Views.{session_view, stretches_of}
 pub use Rattle.nbd_session.specs.declared.expected.Expected.{Expected}
@@ -37,7 +37,7 @@ pub use Rattle.nbd_session.specs.declared.monitor.Monitor.{Monitor}
 pub use Rattle.nbd_session.specs.internal.Alternating.{AreStretchesOf, is_of, stretches_with}
 pub use Rattle.nbd_session.specs.internal.Asking.{done_by, elsewhere_fault, finish_by, is_bad_disconnect, is_beyond, is_simple_forbidden, is_status, lacks_by}
 pub use Rattle.nbd_session.specs.internal.Counted.{decision_by_count, operation_counted, within}
-pub use Rattle.nbd_session.specs.internal.Expecting.{HasHeadLength, HasReplyLength, IsChunkOf, IsExpectedOf, IsNoReply, IsPlaceOf, IsPlaced, IsRefusedHead, IsReplyHead, IsSimpleOf, IsWholeHead, StandsIn, chunk_fault_by, chunk_fault_to, expected_decision, head_fault_by, is_too_long, last_fault_by, message_of, payload_length_of, place_answered, request_length, request_with, success_fault_if, whole_head_by}
+pub use Rattle.nbd_session.specs.internal.Expecting.{sets_more, HasHeadLength, HasReplyLength, IsChunkOf, IsExpectedOf, IsNoReply, IsPlaceOf, IsPlaced, IsRefusedHead, IsReplyHead, IsSimpleOf, IsWholeHead, StandsIn, chunk_fault_by, chunk_fault_to, expected_decision, head_fault_by, is_too_long, last_fault_by, message_of, payload_length_of, place_answered, request_with, success_fault_if, whole_head_by}
 pub use Rattle.nbd_session.specs.internal.Holdings.{holding_of, incoming_of, with_expected, with_incoming}
 pub use Rattle.nbd_session.specs.internal.Known.{IsCome, IsExpected, IsKnown, IsShort, awaited, decided, is_come_by, is_known_by}
 pub use Rattle.nbd_session.specs.internal.Leading.{chunk_fields, chunk_head_length, chunk_magic, request_fields, request_head_length, request_head_of, request_magic, some_if}
@@ -84,16 +84,16 @@ pub use Rattle.nbd_wire.specs.declared.profile.Profile.{Profile}
 pub use Rattle.nbd_wire.specs.protocol.Captures.{ArePairs, Pair, side_pairs}
 pub use Rattle.nbd_wire.specs.protocol.Contexts.{Extent, Status, reach}
 pub use Rattle.nbd_laws.proofs.judge.DecideLemmas.{reply, reply_by, request_unless}
-pub use Rattle.nbd_wire.specs.protocol.Decisions.{Decision, abort_answer, answer, begins, choice, client_flags, export_answer, greeting, magic_fault, operation_if, operation_of, reply_in, reply_with, request, request_by, simple_to, Bad, More, Reading, Whole, judge, decision, decision_with, read_by, reading_by_decision}
+pub use Rattle.nbd_wire.specs.protocol.Decisions.{Decision, abort_answer, answer, begins, choice, client_flags, export_answer, greeting, magic_fault, operation_of, reply_in, request_by, simple_to, Bad, More, Reading, Whole, decision_with, read_by, reading_by_decision}
 pub use Rattle.nbd_wire.specs.protocol.Encoding.{AreBytes, enc}
 pub use Rattle.nbd_wire.specs.protocol.Flags.{has}
 pub use Rattle.nbd_wire.specs.protocol.Marks.{Byte, Completes, Item, completed_messages, pairs}
-pub use Rattle.nbd_wire.specs.protocol.Negotiation.{abort_fault, answer_fault, answer_head_fault, answer_last_fault, are_zeroes, client_flags_fault, earlier_to, export_fault, padding_fault, payload_fault, sets_more}
+pub use Rattle.nbd_wire.specs.protocol.Negotiation.{abort_fault, answer_fault, answer_head_fault, answer_last_fault, are_zeroes, client_flags_fault, earlier_to, export_fault, padding_fault, payload_fault}
 pub use Rattle.nbd_wire.specs.protocol.Operations.{Exporting, Operation, has_failed, is_error_chunk, is_failing, is_finished, is_proper, pieces}
 pub use Rattle.nbd_wire.specs.protocol.Options.{is_error, is_proper_option, takes_contexts}
 pub use Rattle.nbd_wire.specs.protocol.Payloads.{extents_of, failure_of, number_at, status_of}
 unfoldable pub use Rattle.nbd_wire.specs.protocol.Payloads.{content_of}
-pub use Rattle.nbd_wire.specs.protocol.Pieces.{chunk_piece, piece_size}
+pub use Rattle.nbd_wire.specs.protocol.Pieces.{piece_size}
 pub use Rattle.nbd_wire.specs.protocol.Places.{IsUnderWayOf}
 pub use Rattle.nbd_wire.specs.protocol.Reading.{Both, IsFilled, Reader, Rest, fresh_of, get, old_of, on_ok, put, reads, rest_with, settle, step}
 pub use Rattle.nbd_wire.specs.protocol.Reports.{asked_list, asked_of}
@@ -105,7 +105,7 @@ pub use Rattle.nbd_wire.specs.protocol.States.{Aborting, Answering, Choosing, Co
 unfoldable pub use Rattle.nbd_wire.specs.protocol.States.{target}
 pub use Rattle.nbd_wire.specs.protocol.Statuses.{but_last, is_settled, status_in}
 pub use Rattle.nbd_wire.specs.protocol.Tests.{fault_if}
-pub use Rattle.nbd_wire.specs.protocol.Transmission.{chunk_fault, content_fault, cookie_fault, done_fault, finish_fault, fits_failure, fits_read, fits_status, read_as, simple_fault, simple_last_fault, simple_payload_length, status_if, status_kind, total}
+pub use Rattle.nbd_wire.specs.protocol.Transmission.{request_payload_length, chunk_fault, content_fault, cookie_fault, done_fault, finish_fault, fits_failure, fits_read, fits_status, read_as, simple_fault, simple_last_fault, simple_payload_length, status_if, status_kind, total}
 pub use Rattle.nbd_wire.specs.protocol.Within.{CompletesExactlyOf, IsOfNoRunOf}
 pub use Rattle.std.proofs.Common.{Bool, Bor, Err, Fits, IfErr, IfOk, IsErrAnd, List, None, Ok, OnErr, OnOk, Option, Result, Some, [], add-one, add_assoc, ap, append-nil, append_assoc, arith, drop, eq-eqb, eqb-true, false, fold, get_or, if◌then◌else◌, inl, inr, is_some, leb-true, length, length-append, length-drop, ltb-false, ltb-true, map, min, nat_le, nat_lt, not, refl, rules, slice_get, slice_index_or, slice_set, subst, suc, sym, take, true, w8, zero, zero-add, ℕ, ◌&&◌, ◌++◌, ◌+◌, ◌-◌, ◌<◌, ◌==◌, ◌||◌, ◌∙◌, ◌∷◌, ◌≡◌, ◌≤◌, ◌⊎◌}
 pub use Rattle.std.proofs.Math.Seq.{drop-append_seam, take-add, take-length}
@@ -119,7 +119,7 @@ pub use Rattle.std.proofs.lemmas.Slice.{take-put_mid}
 pub use Rattle.std.specs.Bool.{then_some}
 pub use Rattle.std.specs.List.{list_all}
 pub use Rattle.std.specs.Option.{option_copied}
-pub use Rattle.std.specs.Prelude.{option_to_list}
+pub use Rattle.std.specs.Prelude.{option_to_list, option_and_then}
 pub use Rattle.std.specs.Result.{is_err}
 pub use Rattle.std.specs.Slice.{IsItemAt}
 pub use borrow.Author.Tests.{tests}

@@ -2,7 +2,8 @@
 
 ghost use Rattle.std.specs.Prelude.{◌≡◌, ◌==◌, ◌&&◌, ◌||◌, ◌++◌, ℕ, List, IfErr, IfOk, None, Some, true, not, if◌then◌else◌, length};
 ghost use Rattle.nbd_wire.specs.declared.commands.TheConstants as commands;
-ghost use Rattle.nbd_wire.specs.Prelude.{Exporting, Core, begins, reply_with, simple_fault};
+ghost use Rattle.nbd_wire.specs.Prelude.{Exporting, Core, begins, simple_fault};
+ghost use Rattle.nbd_laws.specs.Awaited.{reply_with};
 ghost use Rattle.nbd_wire.specs.protocol.States as definitions;
 ghost use Rattle.nbd_session.specs.internal.Counted.{operation_counted};
 ghost use Rattle.nbd_session.specs.internal.Leading.{chunk_fields, chunk_head_length, chunk_magic};

@@ -1,4 +1,5 @@
 -- The names that the proofs of this crate cite from elsewhere, passed on from one place. Declares nothing.
+pub use Rattle.std.specs.Prelude.{flat_map, option_to_list, option_and_then}
 pub use Rattle.nbd_laws.proofs.judge.WholeLemmas.{AnswersOne, allowed}
 unfoldable pub use Rattle.nbd_laws.proofs.judge.WholeLemmas.{IsAllowed}
 pub use Rattle.nbd_laws.proofs.judge.AllowLemmas.{MayAsk, ask_allow, extended_ask_allow}
@@ -46,22 +47,22 @@ pub use Rattle.nbd_wire.specs.declared.payloads.Piece.TheVariants.{Bytes}
 pub use Rattle.nbd_wire.specs.declared.sizes.Sizing.{Sizing}
 pub use Rattle.nbd_wire.specs.protocol.Contexts.{Context, Extent, Filter, Status, are_once, has_id, is_among}
 pub use Rattle.nbd_wire.specs.protocol.Flags.{has}
-pub use Rattle.nbd_wire.specs.protocol.Operations.{Exporting, Operation, any, is_error_chunk, is_finished, is_known, pieces, pieces_of}
+pub use Rattle.nbd_wire.specs.protocol.Operations.{Exporting, Operation, is_error_chunk, is_finished, is_known, pieces}
 unfoldable pub use Rattle.nbd_wire.specs.protocol.Operations.{ends_reply, is_failing, is_proper}
 pub use Rattle.nbd_wire.specs.protocol.Options.{agrees, choice_phase, is_proper_option, reply_phase, selection_after, selection_at, takes_contexts}
 unfoldable pub use Rattle.nbd_wire.specs.protocol.Options.{next_phase}
 pub use Rattle.nbd_wire.specs.protocol.Payloads.{extents_of, ids_of}
 unfoldable pub use Rattle.nbd_wire.specs.protocol.Payloads.{content_of}
-pub use Rattle.nbd_wire.specs.protocol.Pieces.{byte_at, chunk_piece, is_in, piece_offset, piece_size, simple_piece}
+pub use Rattle.nbd_wire.specs.protocol.Pieces.{byte_at, is_in, piece_offset, piece_size, simple_piece}
 unfoldable pub use Rattle.nbd_wire.specs.protocol.Pieces.{piece_of}
 pub use Rattle.nbd_wire.specs.protocol.Reports.{asked_at}
-pub use Rattle.nbd_wire.specs.protocol.Rules.{cookie_of, core_with_reply, core_with_request, grants_extended, grants_structured, is_reply_to, is_this, noted, reply_to, shown_with, target_of}
+pub use Rattle.nbd_wire.specs.protocol.Rules.{cookie_of, core_with_reply, core_with_request, grants_structured, is_reply_to, is_this, noted, reply_to, shown_with}
 unfoldable pub use Rattle.nbd_wire.specs.protocol.Rules.{MayComplete, complete}
 pub use Rattle.nbd_wire.specs.protocol.Sizes.{sizes_for, sizes_kept, sizing_after, sizing_at}
 pub use Rattle.nbd_wire.specs.protocol.States.{Answering, Core, Phase, Shown, Transmission, export_in, has_contexts, in_force, is_awaiting, operation, target_from, with_reply, with_reply_at}
 unfoldable pub use Rattle.nbd_wire.specs.protocol.States.{target}
-pub use Rattle.nbd_wire.specs.protocol.Statuses.{are_settled, is_allocation, is_settled, status_in, statuses_of, tells, zeroes, zeroes_in, zeroes_told}
-pub use Rattle.nbd_wire.specs.protocol.Transmission.{is_apart, is_apart_from, is_none_yet, status_kind}
+pub use Rattle.nbd_wire.specs.protocol.Statuses.{are_settled, is_allocation, is_settled, status_in, tells, zeroes, zeroes_in, zeroes_told}
+pub use Rattle.nbd_wire.specs.protocol.Transmission.{is_apart, is_apart_from, status_kind}
 pub use Rattle.std.proofs.Common.{Bool, IfOk, IsSome, IsTrue, List, MatchBool, None, OnOk, Option, Result, Some, SomeIff, [], ap, append-nil, append_assoc, arith, drop, eq-eqb, eqb-true, false, get_or, if◌then◌else◌, inl, inr, is_lt, is_some, length, length-append, map, min, nat_le, nat_lt, ne_eqb, not, refl, rules, slice_get, slice_index_or, slice_set, subst, suc, sym, take, true, zero, ℕ, ◌&&◌, ◌++◌, ◌+◌, ◌-◌, ◌<◌, ◌==◌, ◌^◌, ◌||◌, ◌∙◌, ◌∷◌, ◌≡◌, ◌≤◌}
 pub use Rattle.std.proofs.Math.Bool.{and-false, and-true}
 pub use Rattle.std.proofs.lemmas.Bool.{and_parts, cases_order, eqb-false, le-leb, leb-true, lt-ltb, ltb-false, ltb-true, not-true}

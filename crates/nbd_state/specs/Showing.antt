@@ -1,8 +1,7 @@
 -- How the program's values show what the definitions speak of.
-use Rattle.std.specs.Prelude.{◌≡◌, ℕ, false, true, not, Option, Some, None, ◌++◌, is_some, length}
+use Rattle.std.specs.Prelude.{◌≡◌, ℕ, false, true, not, Option, Some, None, ◌++◌, is_some, length, ◌==◌, Bool}
 use Rattle.nbd_wire.specs.declared.commands.TheConstants as commands
 use Rattle.nbd_wire.specs.Prelude.{has_id, Operation, Exporting, is_finished, is_proper, has_failed, outcome, pieces, is_settled, zeroes}
-use Rattle.nbd_wire.specs.protocol.Transmission.{is_none_yet}
 use Rattle.nbd_wire.specs.protocol.Operations.{is_outside}
 use Rattle.nbd_wire.specs.protocol.Operations as definitions
 use Rattle.nbd_state.specs.declared.asked.Asked.{Asked}
@@ -30,6 +29,10 @@ outcome_of Pending = definitions.Pending
 abbrev pub AreCounted : Asked → Type 0
 AreCounted a = length a.pieces.counts ≡ length a.pieces.items
 
+-- a message of its reply has completed
+abbrev pub has_reply : Operation → Bool
+has_reply e = not (length e.replies == 0)
+
 -- an exchange shows a numbered request of a session on this export
 pub record IsShown (export : Exporting) (e : Operation) (x : Exchange) : Type 0 where
   pub flags : x.asked.flags ≡ e.flags
@@ -40,7 +43,7 @@ pub record IsShown (export : Exporting) (e : Operation) (x : Exchange) : Type 0 
   pub payload : x.asked.payload ≡ e.payload
   pub proper : x.asked.proper ≡ is_proper export e
   pub outside : x.asked.outside ≡ is_outside e
-  pub replied : is_some x.asked.known_at ≡ not (is_none_yet e.replies)
+  pub replied : is_some x.asked.known_at ≡ has_reply e
   pub outcome_is : outcome_of x.asked.outcome ≡ outcome e
   pub failed : x.asked.failed ≡ has_failed e
   pub pieces_are : x.asked.pieces.items ≡ zeroes export e ++ pieces e

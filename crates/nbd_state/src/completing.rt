@@ -2,12 +2,14 @@
 
 ghost use Rattle.std.specs.Prelude.{◌≡◌, ◌<◌, ◌==◌, ◌&&◌, ◌++◌, ◌∷◌, ℕ, List, [], Option, Some, None, false, if◌then◌else◌, length, OnOk};
 ghost use Rattle.nbd_state.specs.Places.{place_at};
+ghost use Rattle.nbd_wire.specs.declared.answers.TheConstants.{ACK};
 ghost use Rattle.nbd_wire.specs.declared.commands.TheConstants as commands;
+ghost use Rattle.nbd_wire.specs.declared.options.TheConstants.{EXTENDED_HEADERS};
 ghost use Rattle.nbd_wire.specs.declared.message.Message.TheVariants.{Answer, Choice, Simple};
 ghost use Rattle.nbd_wire.specs.protocol.Options as options;
 ghost use Rattle.nbd_wire.specs.protocol.Options.{ack_phase, next_phase};
 ghost use Rattle.nbd_wire.specs.Prelude.{agrees, reply_phase, is_proper_option, takes_contexts, Exporting, MayComplete, complete, grants_structured, core_with_request, is_reply_to, noted, IsSendable, Core, has_contexts, in_force, target, sizes_kept, status_in};
-ghost use Rattle.nbd_wire.specs.protocol.Rules.{grants_extended, core_with_reply};
+ghost use Rattle.nbd_wire.specs.protocol.Rules.{core_with_reply};
 ghost use Rattle.nbd_wire.specs.protocol.States as definitions;
 ghost use Rattle.nbd_state.specs.Filters.{filter_of_head};
 ghost use Rattle.nbd_state.specs.Heads.{chunk_of};
@@ -365,7 +367,7 @@ fn grants_structured(option: u32, kind: u32) -> bool
 
 /// Whether an answer puts extended headers in force.
 fn grants_extended(option: u32, kind: u32) -> bool
-    ensures { result ≡ grants_extended option kind }
+    ensures { result ≡ ((option == EXTENDED_HEADERS) && (kind == ACK)) }
 {
     option == options::EXTENDED_HEADERS && kind == answers::ACK
 }

@@ -1,10 +1,9 @@
 //! The pieces of a reply of several messages.
 
-ghost use Rattle.std.specs.Prelude.{◌≡◌, ◌==◌, ◌&&◌, ◌++◌, ◌∷◌, ℕ, [], false, not, true, IfOk, OnOk, if◌then◌else◌, is_some};
+ghost use Rattle.std.specs.Prelude.{◌≡◌, ◌==◌, ◌&&◌, ◌++◌, ◌∷◌, ℕ, [], false, not, true, IfOk, OnOk, if◌then◌else◌, is_some, option_to_list};
 ghost use Rattle.std.specs.Option.{option_copied};
 ghost use Rattle.nbd_state.specs.Filters.{is_settled_by};
 ghost use Rattle.nbd_state.specs.Indexes.{Indexes};
-ghost use Rattle.nbd_wire.specs.Prelude.{chunk_piece};
 
 use crate::asking::Telling;
 use crate::index::SpanIndex;
@@ -56,7 +55,7 @@ impl Many {
         count: u64,
         ends: bool,
     ) -> Result<(), AllocError>
-        ensures pieces { IfOk result (λ _. self.new.pieces.items ≡ self.old.pieces.items ++ chunk_piece piece) }
+        ensures pieces { IfOk result (λ _. self.new.pieces.items ≡ self.old.pieces.items ++ option_to_list piece) }
         ensures counts { IfOk result (λ _. self.new.counts.items ≡ self.old.counts.items
             ++ (if is_some piece && not ends then count ∷ [] else [])) }
         ensures told { IfOk result (λ _. ends ≡ false → self.new.told ≡ self.old.told) }
@@ -100,7 +99,7 @@ fn index_after(
     ends: bool,
 ) -> Result<SpanIndex, AllocError>
     requires { Indexes index.sizes pieces.now }
-    ensures { IfOk result (λ after. Indexes after.sizes (pieces.now ++ chunk_piece (option_copied piece.entry))) }
+    ensures { IfOk result (λ after. Indexes after.sizes (pieces.now ++ option_to_list (option_copied piece.entry))) }
 {
     if ends {
         return Ok(SpanIndex::new(alloc));
@@ -113,7 +112,7 @@ fn index_after(
 
 // The piece, if any, after the others.
 fn push_if(pieces: &mut Vec<Piece>, piece: Option<Piece>) -> Result<(), AllocError>
-    ensures { IfOk result (λ _. pieces.new.items ≡ pieces.old.items ++ chunk_piece piece) }
+    ensures { IfOk result (λ _. pieces.new.items ≡ pieces.old.items ++ option_to_list piece) }
 {
     if let Some(piece) = piece {
         pieces.push(piece)?;

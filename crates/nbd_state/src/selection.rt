@@ -1,12 +1,13 @@
 //! What SET_META_CONTEXT selects (proto.md, "Option types", "Metadata querying").
 
 ghost use Rattle.std.specs.Prelude.{ℕ, ◌≡◌, ◌==◌, [], List, Bool, MatchOption, false, OnOk, length};
+ghost use Rattle.nbd_wire.specs.declared.answers.TheConstants as answers;
 ghost use Rattle.std.specs.BTreeSet.{contains};
 ghost use Rattle.std.specs.Ordering.{nat_cmp};
 ghost use Rattle.nbd_wire.specs.protocol.Contexts as contexts;
 ghost use Rattle.nbd_wire.specs.protocol.Contexts.{no_selection};
 ghost use Rattle.nbd_wire.specs.Prelude.{has_id, agrees, selection_after, selection_at, context_of, are_settled, is_allocation};
-ghost use Rattle.nbd_wire.specs.protocol.Options.{selection_told, with_context};
+ghost use Rattle.nbd_wire.specs.protocol.Options.{selection_told};
 ghost use Rattle.nbd_wire.specs.protocol.States as definitions;
 ghost use Rattle.nbd_state.specs.Filters.{is_settled_by};
 ghost use Rattle.nbd_state.specs.declared.asking.Telling.{Telling};
@@ -166,7 +167,7 @@ impl Selection {
     // One more context, where the answer has the form of one.
     fn add(&mut self, answer: &[u8]) -> Result<(), AllocError>
         ensures { OnOk result ((selection : contexts.Selection) → HasSelection self.old selection →
-            HasSelection self.new (with_context (context_of answer.now) selection)) }
+            HasSelection self.new (selection_told answers.META_CONTEXT answer.now selection)) }
     {
         if let Some((id, name)) = context_of(answer) {
             self.ids.insert(id)?;

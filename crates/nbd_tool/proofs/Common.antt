@@ -21,7 +21,8 @@ pub use Rattle.nbd_files.specs.declared.input.TheConstants.{READ_LIMIT}
 pub use Rattle.nbd_judge.proofs.verdicts.ChunkLemmas.{checked, told_of}
 pub use Rattle.nbd_judge.proofs.verdicts.RefusalLemmas.{answers_exactly}
 pub use Rattle.nbd_judge.proofs.verdicts.UniqueLemmas.{one_answer}
-pub use Rattle.nbd_judge.specs.Captures.{IsChecked, IsFaultOf}
+pub use Rattle.nbd_judge.specs.Captures.{IsChecked}
+pub use Rattle.nbd_judge.specs.internal.Captures.{IsFaultOf}
 pub use Rattle.nbd_judge.specs.Conclusions.{Answers, IsConclusion, IsReportOf}
 pub use Rattle.nbd_wire.specs.declared.verdict.Verdict.{Verdict}
 pub use Rattle.nbd_wire.specs.declared.verdict.Verdict.TheVariants.{Content, Order, Status, Yes}

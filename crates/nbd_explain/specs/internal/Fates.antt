@@ -1,4 +1,5 @@
 -- What replies say of the requests before them.
+use Rattle.std.specs.List.{list_any}
 use Rattle.std.specs.Prelude.{◌≡◌, ◌++◌, ◌∷◌, ◌==◌, ℕ, List, [], Bool, false, Option, Some, None, codes, if◌then◌else◌}
 use Rattle.std.specs.Io.KnownBytes.{Appends}
 use Rattle.std.specs.BTreeMap.{BTreeMap, get}
@@ -6,7 +7,7 @@ use Rattle.std.specs.Ordering.{nat_cmp}
 use Rattle.nbd_wire.specs.declared.commands.TheConstants as commands
 use Rattle.nbd_wire.specs.declared.message.Message.{Message}
 use Rattle.nbd_wire.specs.declared.message.Message.TheVariants.{Request, ExtendedRequest}
-use Rattle.nbd_wire.specs.Prelude.{any, ends_reply, is_failing, cookie_of}
+use Rattle.nbd_wire.specs.Prelude.{ends_reply, is_failing, cookie_of}
 use Rattle.nbd_state.specs.Showing.{outcome_of}
 use Rattle.nbd_state.specs.declared.asked.Outcome.{Outcome}
 use Rattle.nbd_state.specs.declared.asked.Outcome.TheVariants.{Failure, Pending, Success}
@@ -28,7 +29,8 @@ reply_in cookie (m ∷ later) =
 
 -- what became of a request with this reply
 abbrev pub outcome_by : List Message → Outcome
-outcome_by reply = if any ends_reply reply then (if any is_failing reply then Failure else Success) else Pending
+outcome_by reply =
+    if list_any ends_reply reply then (if list_any is_failing reply then Failure else Success) else Pending
 
 -- what became of a request, by the messages behind it, if it has a number
 abbrev pub fate_by : (command cookie : ℕ) → (later : List Message) → Option Outcome
@@ -48,7 +50,7 @@ fates_behind (m ∷ later) = fates_behind later ++ (fate m later ∷ [])
 
 -- what the messages of a reply say
 abbrev pub told_by : List Message → Reply
-told_by reply = record { ends = any ends_reply reply; fails = any is_failing reply }
+told_by reply = record { ends = list_any ends_reply reply; fails = list_any is_failing reply }
 
 abbrev pub outcome_told : Reply → Outcome
 outcome_told reply = if reply.ends then (if reply.fails then Failure else Success) else Pending

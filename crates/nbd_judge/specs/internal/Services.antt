@@ -5,7 +5,7 @@ use Rattle.nbd_wire.specs.declared.entry.Entry.{Entry}
 use Rattle.nbd_wire.specs.declared.entry.Part.{Part}
 use Rattle.nbd_wire.specs.declared.payloads.Piece.{Piece}
 use Rattle.nbd_wire.specs.declared.payloads.Piece.TheVariants.{Hole}
-use Rattle.nbd_wire.specs.protocol.Entries.{HasBadPart, IsTwice}
+use Rattle.nbd_wire.specs.protocol.Entries.{IsMisplaced, IsAgain}
 use Rattle.nbd_wire.specs.Prelude.{IsServedAt, MayServe, Names, NamesWhole, Exporting, has_range, IsBad, IsBadPart, SharesNone, is_in, piece_offset, piece_size, Asked, Report, asked_at, due_in, first_shown, inside_in, Shown, total}
 use Rattle.nbd_wire.specs.declared.commands.TheConstants as commands
 use Rattle.nbd_wire.specs.protocol.Orders.{IsDue, IsMissing, IsNotCovered, IsUnserved, NamesAgain, NamesNone}
@@ -57,8 +57,9 @@ IsSpanOf span within = (x : ℕ) → within x ≡ is_in span.offset span.size x
 
 -- the fault of an entry after those before it: Twice, or else BadPart
 abbrev pub IsFaultAfter : (within : ℕ → Bool) → List Entry → Entry → OrderFault → Type 0
-IsFaultAfter within before e Twice = IsTwice before e
-IsFaultAfter within before e BadPart = HasBadPart within before e × (IsTwice before e → ⊥)
+IsFaultAfter within before e Twice = IsAgain before e.request e.part
+IsFaultAfter within before e BadPart =
+    IsMisplaced within before e.request e.part × (IsAgain before e.request e.part → ⊥)
 IsFaultAfter within before e _ = ⊥
 
 -- the service of a request after one more entry, which may be served, or the entry's fault

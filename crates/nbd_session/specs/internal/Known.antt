@@ -1,8 +1,8 @@
 -- What is known of the bytes that have come of a side, by what its head says.
 use Rattle.std.specs.Prelude.{◌≡◌, ◌<◌, ◌≤◌, ◌++◌, ℕ, List, [], Option, Some, None, length}
 use Rattle.nbd_wire.specs.declared.message.Side.{Side}
-use Rattle.nbd_wire.specs.Prelude.{Core, Decision, decision, IsFilled, Reader, get, old_of}
-use Rattle.nbd_laws.specs.Awaited.{awaited_length}
+use Rattle.nbd_wire.specs.Prelude.{Core, Decision, IsFilled, Reader, get, old_of}
+use Rattle.nbd_laws.specs.Awaited.{decision, awaited_length}
 use Rattle.nbd_session.specs.declared.expected.Expected.{Expected}
 use Rattle.nbd_session.specs.Incoming.{IncomingView}
 use Rattle.nbd_session.specs.internal.Expecting.{IsPlaced, expected_decision, payload_length_of}

@@ -5,7 +5,7 @@ use Rattle.nbd_wire.specs.declared.heads.negotiation.AnswerHead.{AnswerHead}
 use Rattle.nbd_wire.specs.declared.heads.transmission.RequestHead.{RequestHead}
 use Rattle.nbd_wire.specs.declared.heads.transmission.SimpleHead.{SimpleHead}
 use Rattle.nbd_wire.specs.declared.heads.transmission.ChunkHead.{ChunkHead}
-use Rattle.nbd_wire.specs.protocol.Layouts.{greeting_bytes, client_flags_bytes, choice_bytes, answer_bytes, export_bytes, request_bytes, simple_bytes, chunk_bytes, extended_request_bytes, extended_chunk_bytes}
+use Rattle.nbd_wire.specs.codec.Layouts.{greeting_bytes, client_flags_bytes, choice_bytes, answer_bytes, export_bytes, request_bytes, simple_bytes, chunk_bytes, extended_request_bytes, extended_chunk_bytes}
 
 -- a greeting (proto.md, "Newstyle negotiation")
 unfoldable pub IsGreetingHead : ℕ → List ℕ → Type 0

@@ -27,19 +27,14 @@ greeting_fault flags =
     NotFixedNewstyle when not (has flags handshake.FIXED_NEWSTYLE) else
     None
 
--- a flag that is unknown, or that the server did not offer ("Client flags")
-abbrev pub sets_more : (offered flags : ℕ) → Bool
-sets_more offered flags =
-    not (has_only flags (handshake.C_FIXED_NEWSTYLE + handshake.C_NO_ZEROES))
-    || (has flags handshake.C_NO_ZEROES && not (has offered handshake.NO_ZEROES))
-
 -- the client's flags
 abbrev pub client_flags_fault : (offered flags : ℕ) → Option WireFault
 client_flags_fault offered flags =
     -- no fixed newstyle ("Client flags")
     NotFixedNewstyle when not (has flags handshake.C_FIXED_NEWSTYLE) else
-    -- more than was offered ("Client flags")
-    BadClientFlags when sets_more offered flags else
+    -- a flag that is unknown, or that the server did not offer ("Client flags")
+    BadClientFlags when not (has_only flags (handshake.C_FIXED_NEWSTYLE + handshake.C_NO_ZEROES))
+    || (has flags handshake.C_NO_ZEROES && not (has offered handshake.NO_ZEROES)) else
     None
 
 -- the answer to EXPORT_NAME, at its head
@@ -119,8 +114,7 @@ info_fault option proper (Some export) =
     None
 
 -- an answer that is no error, at its head, by its kind
-abbrev pub success_fault : Profile → (option : ℕ) (proper takes : Bool) (info : Option Exporting) (kind len : ℕ)
-    → Option WireFault
+abbrev pub success_fault : Profile → ℕ → (proper takes : Bool) → Option Exporting → (kind len : ℕ) → Option WireFault
 success_fault profile option proper takes info kind len =
     -- the option is not followed (this project's choice)
     OutOfProfile when not (is_followed profile option) else
@@ -169,7 +163,6 @@ answer_head_fault profile asked proper takes info option kind len =
     answer_fault asked option (if is_error kind then None else success_fault profile asked proper takes info kind len)
 
 -- and at its last byte: what is selected
-abbrev pub answer_last_fault : Profile → (asked : ℕ) (proper : Bool) → Selection → (kind : ℕ) → List ℕ
-    → Option WireFault
+abbrev pub answer_last_fault : Profile → ℕ → (proper : Bool) → Selection → (kind : ℕ) → List ℕ → Option WireFault
 answer_last_fault profile asked proper selection kind payload =
     if is_error kind then None else payload_fault profile (earlier_to asked selection) proper kind payload

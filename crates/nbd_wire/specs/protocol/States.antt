@@ -6,8 +6,8 @@ use Rattle.nbd_wire.specs.declared.profile.Profile.{Profile}
 use Rattle.nbd_wire.specs.declared.profile.Profile.TheVariants.{Base}
 use Rattle.nbd_wire.specs.protocol.Contexts.{Context, Selection, no_selection}
 use Rattle.nbd_wire.specs.declared.sizes.Sizing.{Sizing}
-use Rattle.nbd_wire.specs.protocol.Operations.{Exporting, Operation, is_finished}
 use Rattle.nbd_wire.specs.protocol.Sizes.{no_sizing}
+use Rattle.nbd_wire.specs.protocol.Operations.{Exporting, Operation, is_finished}
 
 -- a range of a READ that a message of its reply showed, and how many numbered requests had completed when that had come
 pub record Shown : Type 0 where
