@@ -13,7 +13,7 @@ LINE = re.compile(r"(?:    |\w+ .*= )(\w+) when ")
 
 # The lists whose first lines are tested behind the last line of a list, where a message has passed that.
 BEHIND = {
-    "magic_fault": ["greeting_fault", "answer_fault", "request_fault", "extended_request_fault"],
+    "magic_fault": ["greeting_fault", "answer_fault", "request_fault"],
     "greeting_fault": [],
     "client_flags_fault": [],
     "export_fault": ["padding_fault"],
@@ -25,12 +25,10 @@ BEHIND = {
     "success_fault": ["ack_fault"],
     "payload_fault": [],
     "request_fault": ["cookie_fault"],
-    "extended_request_fault": ["request_fault"],
     "cookie_fault": [],
     "simple_fault": ["simple_last_fault"],
     "simple_last_fault": [],
     "chunk_head_fault": ["none_fault", "content_fault"],
-    "extended_head_fault": ["chunk_head_fault"],
     "offset_fault": [],
     "piece_fault": ["finish_fault"],
     "failure_fault": ["offset_fault"],

@@ -1,8 +1,7 @@
 -- What is left, compared with an image that is read portion by portion.
 use Rattle.nbd_explain.proofs.{Common.{◌≡◌, ℕ, ◌+◌, ◌-◌, ◌<◌, ◌≤◌, zero, suc, refl, sym, ◌∙◌, ap, subst, arith, Option, Some, None, IfSome, Bool, List, ◌++◌, length, length-append, slice_get, Appends}, CountLemmas.both_counts}
-use Rattle.std.specs.{Prelude.{[], ◌∷◌, count_by, is_none, is_some}, Io.KnownBytes.Consumes}
+use Rattle.std.specs.{Prelude.{[], ◌∷◌, count_by, is_none, is_some, unwrap_or}, Io.KnownBytes.Consumes}
 use Rattle.std.proofs.{KnownBytes.{Consumes-nil, Consumes-trans}, lemmas.Bool.cases_lt, Common.{⊎_elim}}
-use Rattle.nbd_wire.specs.Prelude.{known}
 use Rattle.nbd_export.specs.{declared.extents.Extents.Extents, Extents.{byte_of, size_of}, Held.{Held, held, held_from}, Ranges.{DiffersIn, IsLeast, bytes_from}}
 use Rattle.nbd_export.proofs.{HeldLemmas.{length-held_from, slice_get-held_from, slice_get-held_from-none}, LeastLemmas.{least_in_part, none_in_part}}
 use Rattle.nbd_explain.specs.{Compared.{DiffersAt, WritesCompared, agreeing_line, differing_line, sizes_line, Compares.{agree, differ, sizes}}, declared.comparing.Compared.{Compared, TheVariants.{Agree, Differ, Sizes}}, internal.Comparing.{IsComparison, IsLeastOther, compared_line, is_agreement}}
@@ -95,10 +94,10 @@ compared_more old mid new contents count n first next more h given len step = re
 }
 
 -- a known byte of a list, by its offset
-known_at : (f : ℕ → Option ℕ) (n x b : ℕ) → known (slice_get (held_from f 0 n) x) ≡ Some b → (x < n) × (f x ≡ Some b)
+known_at : (f : ℕ → Option ℕ) (n x b : ℕ) → unwrap_or (slice_get (held_from f 0 n) x) None ≡ Some b → (x < n) × (f x ≡ Some b)
 known_at f n x b h = ⊎_elim
-    (λ (lt : x < n). (lt, ap f (let e : x ≡ 0 + x = omega arith in e) ∙ sym (ap known (slice_get-held_from f 0 n x lt)) ∙ h))
-    (λ (le : n ≤ x). absurd (let no : None ≡ Some b = sym (ap known (slice_get-held_from-none f 0 n x le)) ∙ h in cc))
+    (λ (lt : x < n). (lt, ap f (let e : x ≡ 0 + x = omega arith in e) ∙ sym (ap (λ o. unwrap_or o None) (slice_get-held_from f 0 n x lt)) ∙ h))
+    (λ (le : n ≤ x). absurd (let no : None ≡ Some b = sym (ap (λ o. unwrap_or o None) (slice_get-held_from-none f 0 n x le)) ∙ h in cc))
     (cases_lt x n)
 
 -- an image of the same size differs where its bytes do
@@ -112,7 +111,7 @@ differs_by_list : (f : ℕ → Option ℕ) (n : ℕ) (image : List ℕ) (x : ℕ
 differs_by_list f n image x len d =
     let lt : x < 0 + length image = d.1 in (
       d.2.0,
-      ap known (slice_get-held_from f 0 n x (omega arith)) ∙ ap f (let e : 0 + x ≡ x = omega arith in e) ∙ d.2.1,
+      ap (λ o. unwrap_or o None) (slice_get-held_from f 0 n x (omega arith)) ∙ ap f (let e : 0 + x ≡ x = omega arith in e) ∙ d.2.1,
       λ e. d.2.2 (ap (slice_get image) (let same : x - 0 ≡ x = omega arith in same) ∙ e),
     )
 

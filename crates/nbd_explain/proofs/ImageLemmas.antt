@@ -1,22 +1,22 @@
 -- An image as the bytes of a READ of the whole export.
 use Rattle.nbd_explain.proofs.Common.{◌≡◌, ℕ, ◌<◌, ◌≤◌, refl, sym, ◌∙◌, ap, arith, Option, Some, None, true}
-use Rattle.std.specs.Prelude.{◌+◌, length, nat_le, nat_lt, slice_get}
+use Rattle.std.specs.Prelude.{◌+◌, length, nat_le, nat_lt, slice_get, unwrap_or}
 use Rattle.std.proofs.{lemmas.{Bool.{and_from, and_parts, le-leb, lt-ltb, ltb-true}, Option.slice_get_within}, Common.inl}
-use Rattle.nbd_wire.specs.Prelude.{known, is_in}
+use Rattle.nbd_wire.specs.Prelude.{is_in}
 use Rattle.nbd_export.specs.Held.{Held, held_from}
 use Rattle.nbd_export.proofs.HeldLemmas.{length-held_from, slice_get-held_from}
 use Rattle.nbd_explain.specs.Compared.{ImagesCompareAsReads}
 
 -- a byte that is known stands in the list
-known_within : (bytes : Held) (x b : ℕ) → known (slice_get bytes x) ≡ Some b → x < length bytes
+known_within : (bytes : Held) (x b : ℕ) → unwrap_or (slice_get bytes x) None ≡ Some b → x < length bytes
 known_within bytes x b h = go (slice_get bytes x) refl h
   where
-    go : (o : Option (Option ℕ)) → slice_get bytes x ≡ o → known o ≡ Some b → x < length bytes
+    go : (o : Option (Option ℕ)) → slice_get bytes x ≡ o → unwrap_or o None ≡ Some b → x < length bytes
     go (Some byte) at h = slice_get_within bytes x byte at
     go None at h = absurd (let q : None ≡ Some b = h in (cc))
 
-held_byte : (bytes : ℕ → Option ℕ) (size x : ℕ) → x < size → known (slice_get (held_from bytes 0 size) x) ≡ bytes x
-held_byte bytes size x l = ap known (slice_get-held_from bytes 0 size x l) ∙ ap bytes (let q : 0 + x ≡ x = omega arith in q)
+held_byte : (bytes : ℕ → Option ℕ) (size x : ℕ) → x < size → unwrap_or (slice_get (held_from bytes 0 size) x) None ≡ bytes x
+held_byte bytes size x l = ap (λ o. unwrap_or o None) (slice_get-held_from bytes 0 size x l) ∙ ap bytes (let q : 0 + x ≡ x = omega arith in q)
 
 pub images_compare_as_reads : ImagesCompareAsReads
 images_compare_as_reads bytes size image is = (

@@ -35,7 +35,7 @@ shown {profile} capture r over run complete = go r.closed refl over.at complete
     go : (c : Option SessionFault) → r.closed ≡ c → IfSome c (IsWireAt (bytes_taken r)) → IsCompleteBy c r → EndsAs profile capture r (end_by c (open_end_fault r.client r.server (bytes_taken r)))
     go None unclosed at all = open_end capture r r.client r.server over run unclosed (subst (λ q. HasRunOf q (pairs_of r) r.messages r.client r.server) over.profile_is run) (subst (λ q. IsAcceptedOf q (pairs_of r) r.messages) over.profile_is all)
     go (Some (session.Wire at fault)) closed is refusal =
-        refused_at capture r at fault over run is (inl (record { prefix = pairs_of r; rest = over.left; parts = over.parts; at_is = is; refusal = subst (λ q. IsRefusalOf q (pairs_of r) r.messages fault) over.profile_is refusal.1 }))
+        refused_at capture r at fault over run is (inl (pairs_of r, over.left, over.parts, is, subst (λ q. IsRefusalOf q (pairs_of r) r.messages fault) over.profile_is refusal.1))
     go (Some session.Memory) closed is refusal = absurd is
 
 then_kept : (old mid new : Option (List ℕ)) (bytes : List ℕ) → Appends old mid bytes → Keeps mid new → Appends old new bytes

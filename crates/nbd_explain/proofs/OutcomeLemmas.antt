@@ -1,5 +1,5 @@
 -- The report of a run states of each request what the messages behind it tell.
-use Rattle.nbd_explain.proofs.Common.{IsAllowed, allowed, and_parts, not-true, ◌≡◌, ◌∙◌, ◌++◌, ◌∷◌, ◌+◌, ◌==◌, ◌&&◌, ◌||◌, not, ℕ, suc, List, [], Bool, true, false, Option, Some, None, is_some, codes, if◌then◌else◌, append_assoc, append-nil, length, map, refl, sym, ap, subst, arith, eqb-true, map-append, or-false, Message, Greeting, ClientFlags, Choice, Exported, Request, Simple, Chunk, ExtendedRequest, ExtendedChunk, Profile, Item, Byte, Starts, Completes, Serves, completed_messages, Exporting, Operation, any, ends_reply, is_failing, is_finished, outcome, Asked, asked_list, known_count, operations_of, report, IsRunBut, MayComplete, Obeys, after, complete, cookie_of, core_with_request, ends_at, reply_to, request_of_reply, target_of, Context, Core, Phase, State, Transmission, has_contexts, in_force, is_awaiting, start, start_of, target, target_from, with_reply, with_reply_at, outcome_of, Outcome, Failure, Pending, Success, AreDistinct, Free, distinct_complete, in_force_stays, transmission_stays, at_base, AreNamed, IsEnding, is_numbered, message_of, plain, other, request, AreLines, EndsWith, fate, fate_by, has_cookie, outcome_by, reply_in, named, none}
+use Rattle.nbd_explain.proofs.Common.{IsAllowed, allowed, and_parts, not-true, ◌≡◌, ◌∙◌, ◌++◌, ◌∷◌, ◌+◌, ◌==◌, ◌&&◌, ◌||◌, not, ℕ, suc, List, [], Bool, true, false, Option, Some, None, is_some, codes, if◌then◌else◌, append_assoc, append-nil, length, map, refl, sym, ap, subst, arith, eqb-true, map-append, or-false, Message, Greeting, ClientFlags, Choice, Exported, Request, Simple, Chunk, ExtendedRequest, ExtendedChunk, Profile, Item, Byte, Starts, Completes, Serves, completed_messages, Exporting, Operation, list_any, ends_reply, is_failing, is_finished, outcome, Asked, asked_list, known_count, operations_of, report, IsRunBut, MayComplete, Obeys, after, complete, cookie_of, core_with_request, ends_at, reply_to, request_of_reply, option_and_then, Context, Core, Phase, State, Transmission, has_contexts, in_force, is_awaiting, start, start_of, target, target_from, with_reply, with_reply_at, outcome_of, Outcome, Failure, Pending, Success, AreDistinct, Free, distinct_complete, in_force_stays, transmission_stays, at_base, AreNamed, IsEnding, is_numbered, message_of, plain, other, request, AreLines, EndsWith, fate, fate_by, has_cookie, outcome_by, reply_in, named, none}
 use Rattle.nbd_wire.specs.declared.commands.TheConstants as commands
 use Rattle.nbd_wire.specs.declared.message.Message.TheVariants.{Answer}
 use Rattle.nbd_wire.specs.protocol.Operations as definitions
@@ -11,7 +11,7 @@ whole_reply messages e = e.replies ++ (if is_finished e then [] else reply_in e.
 
 -- what becomes of a request that has this reply
 abbrev outcome_with : List Message → definitions.Outcome
-outcome_with reply = if any ends_reply reply then (if any is_failing reply then definitions.Failure else definitions.Success) else definitions.Pending
+outcome_with reply = if list_any ends_reply reply then (if list_any is_failing reply then definitions.Failure else definitions.Success) else definitions.Pending
 
 -- the message of a request, and what becomes of it with these messages
 abbrev request_of : Operation → Message
@@ -30,7 +30,7 @@ all_told has_contexts [] = []
 all_told has_contexts (m ∷ later) = told_if has_contexts m (fate m later) ++ all_told has_contexts later
 
 same_outcome : (reply : List Message) → outcome_of (outcome_by reply) ≡ outcome_with reply
-same_outcome reply = go (any ends_reply reply) (any is_failing reply)
+same_outcome reply = go (list_any ends_reply reply) (list_any is_failing reply)
   where
     go : (ends fails : Bool) → outcome_of (if ends then (if fails then Failure else Success) else Pending) ≡ (if ends then (if fails then definitions.Failure else definitions.Success) else definitions.Pending)
     go true true = refl
@@ -75,11 +75,11 @@ module _ (m : Message) (later : List Message) where
         ap (λ b. e.replies ++ (if b then [] else reply_in e.cookie (m ∷ later))) still ∙ ap (λ b. e.replies ++ (if b then (m ∷ rest) else reply_in e.cookie later)) hears in
         behind ∙ sym before
       where
-        last_ends : (ms : List Message) → any ends_reply ms ≡ false → any ends_reply (ms ++ m ∷ []) ≡ ends_reply m
+        last_ends : (ms : List Message) → list_any ends_reply ms ≡ false → list_any ends_reply (ms ++ m ∷ []) ≡ ends_reply m
         last_ends [] q = or-false (ends_reply m)
         last_ends (n ∷ ms) q = go (ends_reply n) q (last_ends ms)
           where
-            go : (b : Bool) → (b || any ends_reply ms) ≡ false → (any ends_reply ms ≡ false → any ends_reply (ms ++ m ∷ []) ≡ ends_reply m) → (b || any ends_reply (ms ++ m ∷ [])) ≡ ends_reply m
+            go : (b : Bool) → (b || list_any ends_reply ms) ≡ false → (list_any ends_reply ms ≡ false → list_any ends_reply (ms ++ m ∷ []) ≡ ends_reply m) → (b || list_any ends_reply (ms ++ m ∷ [])) ≡ ends_reply m
             go true q ih = absurd (cc)
             go false q ih = ih q
 
@@ -113,7 +113,7 @@ module _ (m : Message) (later : List Message) where
     answered core k d h =
         let r = answered_from 0 core.entries k d h in
         let at : k ≡ suc r.0 = (let q : k ≡ 0 + suc r.0 = r.1 in omega (arith, q)) in
-        let found : request_of_reply core m ≡ Some (suc r.0) = ap (λ c. target_of c core.entries) is ∙ h ∙ ap Some at in
+        let found : request_of_reply core m ≡ Some (suc r.0) = ap (λ c. option_and_then (λ k. target k core.entries) c) is ∙ h ∙ ap Some at in
         ap (λ o. map (told later) (reply_to o core m).entries) found ∙ r.2
 
 -- a new request
@@ -123,7 +123,7 @@ requested : (x b : Bool) (core : Core) (m : Message) (e : Operation) (later : Li
 requested x true core m e later same h = refl
 requested x false core m e later same h =
     let outcome_is : outcome_with (whole_reply later e) ≡ outcome_of (outcome_by (reply_in e.cookie later)) =
-    ap (λ r. outcome_with (r ++ (if any ends_reply r then [] else reply_in e.cookie later))) h ∙ sym (same_outcome (reply_in e.cookie later)) in
+    ap (λ r. outcome_with (r ++ (if list_any ends_reply r then [] else reply_in e.cookie later))) h ∙ sym (same_outcome (reply_in e.cookie later)) in
     ap (λ l. l ++ all_told x later) (map-append (told later) core.entries (e ∷ [])) ∙ append_assoc (map (told later) core.entries) (told later e ∷ []) (all_told x later)
     ∙ (λ i. map (told later) core.entries ++ ((sym same i, outcome_is i) ∷ all_told x later))
 

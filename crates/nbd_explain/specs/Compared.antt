@@ -1,11 +1,11 @@
 -- How bytes that are left compare with an image, and the line that says so.
-use Rattle.std.specs.{Prelude.{◌≡◌, ◌++◌, ◌↔◌, ℕ, List, [], Bool, true, false, Option, Some, None, codes, count_by, is_none, is_some, length, slice_get}, Fmt.decimal, Io.KnownBytes.Appends}
+use Rattle.std.specs.{Prelude.{◌≡◌, ◌++◌, ◌↔◌, ℕ, List, [], Bool, true, false, Option, Some, None, codes, count_by, is_none, is_some, length, slice_get, unwrap_or}, Fmt.decimal, Io.KnownBytes.Appends}
 use Rattle.nbd_wire.specs.declared.commands.TheConstants as commands
-use Rattle.nbd_explain.specs.Common.{known, Effect, IsWrongIn, IsFirst, Held, held_from}
+use Rattle.nbd_explain.specs.Common.{Effect, IsWrongIn, IsFirst, Held, held_from}
 
 -- byte x is known, and the image has not this byte there
 abbrev pub DiffersAt : Held → (image : List ℕ) → ℕ → Type 0
-DiffersAt bytes image x = (b : ℕ) × (known (slice_get bytes x) ≡ Some b) × (slice_get image x ≡ Some b → ⊥)
+DiffersAt bytes image x = (b : ℕ) × (unwrap_or (slice_get bytes x) None ≡ Some b) × (slice_get image x ≡ Some b → ⊥)
 
 -- the line of an image that agrees: how many bytes are known, and how many are not
 abbrev pub agreeing_line : (known_count unknown_count : ℕ) → List ℕ

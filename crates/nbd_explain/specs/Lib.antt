@@ -7,6 +7,5 @@ pub mod Explained
 pub mod Named
 pub mod Ordering
 pub mod Orderless
-pub mod Outputs
 pub mod Shown
 pub mod internal

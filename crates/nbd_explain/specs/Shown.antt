@@ -64,3 +64,9 @@ abbrev pub LeavesShown : Profile → (known old new : Option (List ℕ)) → Run
 LeavesShown profile known old new Write = WritesSome profile known old new
 LeavesShown profile known old new Memory = Keeps old new ⊎ WritesMessages profile known old new
 LeavesShown profile known old new _ = Keeps old new
+
+-- in a profile a capture has one output at most: one answer, the same messages and the same last line
+abbrev pub OneOutput : Type 0
+OneOutput = (profile : Profile) (capture : List Pair) (yes no : Bool) (messages more : List Message)
+    (last other : List ℕ) → IsShown profile capture yes messages last → IsShown profile capture no more other
+    → (yes ≡ no) × (messages ≡ more) × (last ≡ other)

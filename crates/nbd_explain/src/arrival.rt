@@ -1,13 +1,9 @@
 //! The command `order --arrival`, over any reader and writer.
 
-ghost use Rattle.std.specs.Prelude.{◌≡◌, ◌⊎◌, IfErr, IfOk, OnOk};
-ghost use Rattle.std.specs.Io.KnownBytes.{Appends};
+ghost use Rattle.std.specs.{Prelude.{◌≡◌, ◌⊎◌, IfErr, IfOk, OnOk}, Io.KnownBytes.Appends};
 ghost use Rattle.nbd_wire.specs.declared.profile.Profile.TheVariants.{Base};
-ghost use Rattle.nbd_files.specs.declared.fault.RunFault.TheVariants.{Memory, Write};
-ghost use Rattle.nbd_explain.specs.Ordering.{LeavesOrdered};
-ghost use Rattle.nbd_explain.specs.Shown.{IsShowCause};
-ghost use Rattle.nbd_files.specs.Starts.{IsWithinLimit};
-ghost use Rattle.nbd_explain.specs.Arrival.{Arrives, number_lines};
+ghost use Rattle.nbd_files.specs.{declared.fault.RunFault.TheVariants.{Memory, Write}, Starts.IsWithinLimit};
+ghost use Rattle.nbd_explain.specs.{Ordering.LeavesOrdered, Shown.IsShowCause, Arrival.{Arrives, number_lines}};
 
 use nbd_capture::write_whole;
 use nbd_files::RunFault;

@@ -1,12 +1,9 @@
 //! What a session leaves, compared with an image.
 
 ghost use Rattle.std.specs.Prelude.{◌≡◌, ◌⊎◌, ◌+◌, ◌++◌, ◌-◌, ◌^◌, ◌<◌, ◌≤◌, ℕ, List, IfErr, IfOk, IfSome, count_by, is_some, length};
-ghost use Rattle.nbd_export.specs.Extents.{byte_of, size_of};
-ghost use Rattle.nbd_export.specs.Held.{held, held_from};
+ghost use Rattle.nbd_export.specs.{Extents.{byte_of, size_of}, Held.{held, held_from}};
 ghost use Rattle.nbd_files.specs.declared.fault.RunFault.TheVariants.{AgainstRead, Memory, Write};
-ghost use Rattle.nbd_explain.specs.Compared.{WritesCompared};
-ghost use Rattle.nbd_explain.specs.Ordering.{LeavesOrdered};
-ghost use Rattle.nbd_explain.specs.internal.Comparing.{IsComparison, IsLeastOther, compared_line, is_agreement};
+ghost use Rattle.nbd_explain.specs.{Compared.WritesCompared, Ordering.LeavesOrdered, internal.Comparing.{IsComparison, IsLeastOther, compared_line, is_agreement}};
 
 use nbd_capture::write_whole;
 use nbd_export::{Contents, Extents, Kind};

@@ -1,17 +1,12 @@
 //! The command `contents`, over any readers and writer.
 
 ghost use Rattle.std.specs.Prelude.{◌≡◌, ◌⊎◌, ℕ, List, Option, IfErr, IfOk, IsSome, OnOk};
-ghost use Rattle.nbd_files.specs.declared.fault.RunFault.TheVariants.{AgainstRead, Memory, Write};
+ghost use Rattle.nbd_files.specs.{declared.fault.RunFault.TheVariants.{AgainstRead, Memory, Write}, Starts.{IsStartWellFormed, IsWithinLimit, OfStart}};
 ghost use Rattle.nbd_wire.specs.protocol.Explains as definitions;
-ghost use Rattle.nbd_judge.specs.Servable.{size_of};
+ghost use Rattle.nbd_judge.specs.Beginnings.{size_of};
 ghost use Rattle.nbd_export.specs.Held.{held};
-ghost use Rattle.nbd_tool.specs.Beginnings.{IsReadAs, room_in};
-ghost use Rattle.nbd_explain.specs.Contents.{IsContentsCause, WritesBytes, WritesContents};
-ghost use Rattle.nbd_explain.specs.internal.Leaving.{IsLeftBy, IsLeftFrom, IsLeftIn, IsLeftOver, TellsLeft, entries_of};
-ghost use Rattle.nbd_tool.specs.Runs.{IsCapture};
-ghost use Rattle.nbd_files.specs.Starts.{IsStartWellFormed, IsWithinLimit, OfStart};
-ghost use Rattle.nbd_explain.specs.Explained.{IsExplainCause, IsOrderWithinLimit};
-ghost use Rattle.nbd_explain.specs.Ordering.{LeavesOrdered};
+ghost use Rattle.nbd_tool.specs.{Beginnings.{IsReadAs, room_in}, Runs.IsCapture};
+ghost use Rattle.nbd_explain.specs.{Contents.{IsContentsCause, WritesBytes, WritesContents}, internal.Leaving.{IsLeftBy, IsLeftFrom, IsLeftIn, IsLeftOver, TellsLeft, entries_of}, Explained.{IsExplainCause, IsOrderWithinLimit}, Ordering.LeavesOrdered};
 
 use crate::comparing::write_compared;
 use crate::reading::read_behind;

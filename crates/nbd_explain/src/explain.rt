@@ -1,16 +1,10 @@
 //! The command `explain`, over any readers and writer.
 
 ghost use Rattle.std.specs.Prelude.{ℕ, List, Option, IfErr, IfOk, IsOk, OnOk};
-ghost use Rattle.nbd_wire.specs.declared.profile.Profile.{Profile};
-ghost use Rattle.nbd_wire.specs.declared.profile.Profile.TheVariants.{Base};
-ghost use Rattle.nbd_files.specs.declared.fault.RunFault.TheVariants.{Write};
-ghost use Rattle.nbd_explain.specs.Ordering.{LeavesOrdered};
-ghost use Rattle.nbd_tool.specs.Runs.{IsCapture, IsCaptureCause};
-ghost use Rattle.nbd_files.specs.Starts.{IsStartWellFormed, IsWithinLimit, OfStart};
-ghost use Rattle.nbd_explain.specs.Explained.{IsExplainCause, IsExplained, IsOrderWithinLimit};
-ghost use Rattle.nbd_explain.specs.internal.Leaving.{entries_of};
-ghost use Rattle.nbd_explain.specs.internal.Lines.{IsToldGiven, IsToldOn, OnWritten};
-ghost use Rattle.nbd_tool.specs.Ends.{IsFinishOf};
+ghost use Rattle.nbd_wire.specs.declared.profile.Profile.{Profile, TheVariants.Base};
+ghost use Rattle.nbd_files.specs.{declared.fault.RunFault.TheVariants.Write, Starts.{IsStartWellFormed, IsWithinLimit, OfStart}};
+ghost use Rattle.nbd_explain.specs.{Ordering.LeavesOrdered, Explained.{IsExplainCause, IsExplained, IsOrderWithinLimit}, internal.{Leaving.entries_of, Lines.{IsToldGiven, IsToldOn, OnWritten}}};
+ghost use Rattle.nbd_tool.specs.{Runs.{IsCapture, IsCaptureCause}, Ends.IsFinishOf};
 
 use crate::answer::Answer;
 use crate::reading::{Recorder, finished_over, read_behind};

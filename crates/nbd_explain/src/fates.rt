@@ -1,8 +1,7 @@
 //! What became of the requests of a session, by its messages.
 
 ghost use Rattle.std.specs.Prelude.{◌≡◌, ◌∷◌, ◌||◌, List, [], IfOk, OnOk};
-ghost use Rattle.nbd_wire.specs.declared.message.Message.{Message};
-ghost use Rattle.nbd_wire.specs.Prelude.{ends_reply, is_failing, cookie_of};
+ghost use Rattle.nbd_wire.specs.{declared.message.Message.Message, Prelude.{ends_reply, is_failing, cookie_of}};
 ghost use Rattle.nbd_explain.specs.internal.Fates.{AreReplies, fate, fates_behind, outcome_told, told_in};
 
 use nbd_session::Outcome;

@@ -1,6 +1,5 @@
 //! What holds of what commands write: each law is the contract of a function that does nothing.
-ghost use Rattle.nbd_explain.specs.Compared.{ImagesCompareAsReads};
-ghost use Rattle.nbd_explain.specs.Outputs.{OneOutput};
+ghost use Rattle.nbd_explain.specs.{Compared.ImagesCompareAsReads, Shown.OneOutput};
 
 /// In a profile `show` has one output at most: the lines of the same messages, and the same last line.
 pub fn one_output()

@@ -1,9 +1,8 @@
 //! The command `lint`, over any reader and writer.
 
 ghost use Rattle.std.specs.Prelude.{IfErr, OnOk};
-ghost use Rattle.nbd_explain.specs.Ordering.{LeavesOrdered};
+ghost use Rattle.nbd_explain.specs.{Ordering.LeavesOrdered, Shown.IsShowCause};
 ghost use Rattle.nbd_files.specs.Starts.{IsWithinLimit};
-ghost use Rattle.nbd_explain.specs.Shown.{IsShowCause};
 
 use nbd_capture::write_whole;
 use nbd_files::RunFault;

@@ -1,17 +1,11 @@
 //! The command `show --names`, over any reader and writer.
 
 ghost use Rattle.std.specs.Prelude.{◌≡◌, ◌⊎◌, ℕ, List, Option, Some, IfErr, IfOk, OnOk, false};
-ghost use Rattle.nbd_wire.specs.declared.message.Message.{Message};
-ghost use Rattle.nbd_wire.specs.declared.profile.Profile.{Profile};
-ghost use Rattle.nbd_wire.specs.declared.profile.Profile.TheVariants.{Base};
+ghost use Rattle.nbd_wire.specs.declared.{message.Message.Message, profile.Profile.{Profile, TheVariants.Base}};
 ghost use Rattle.nbd_state.specs.declared.asked.Outcome.TheVariants.{Failure};
-ghost use Rattle.nbd_files.specs.declared.fault.RunFault.TheVariants.{Memory, Write};
-ghost use Rattle.nbd_tool.specs.Ends.{IsOverText};
-ghost use Rattle.nbd_tool.specs.Runs.{IsCapture};
-ghost use Rattle.nbd_explain.specs.Shown.{IsShowCause};
-ghost use Rattle.nbd_files.specs.Starts.{IsWithinLimit};
-ghost use Rattle.nbd_explain.specs.Named.{KeepsUnread, NamesAll, has_feed};
-ghost use Rattle.nbd_explain.specs.internal.Fates.{AddsEnding, AppendsLine, AppendsNames, IsLine, fates_behind};
+ghost use Rattle.nbd_files.specs.{declared.fault.RunFault.TheVariants.{Memory, Write}, Starts.IsWithinLimit};
+ghost use Rattle.nbd_tool.specs.{Ends.IsOverText, Runs.IsCapture};
+ghost use Rattle.nbd_explain.specs.{Shown.IsShowCause, Named.{KeepsUnread, NamesAll, has_feed}, internal.Fates.{AddsEnding, AppendsLine, AppendsNames, IsLine, fates_behind}};
 
 use crate::fates::fates_of;
 use crate::reading::Recorder;

@@ -1,21 +1,14 @@
 //! The command `order`, over any readers and writer.
 
 ghost use Rattle.std.specs.Prelude.{◌≡◌, ◌⊎◌, ◌++◌, ◌∷◌, List, [], Err, IfErr, IfOk, Ok, OnOk};
-ghost use Rattle.nbd_wire.specs.declared.profile.Profile.{Profile};
-ghost use Rattle.nbd_wire.specs.declared.profile.Profile.TheVariants.{Base};
+ghost use Rattle.nbd_wire.specs.{declared.profile.Profile.{Profile, TheVariants.Base}, Prelude.{Item, report, IsRunOf}};
 ghost use Rattle.nbd_wire.specs.protocol.Explains as definitions;
-ghost use Rattle.nbd_wire.specs.Prelude.{Item, report, IsRunOf};
-ghost use Rattle.nbd_judge.specs.Beginnings.{initial_of};
-ghost use Rattle.nbd_judge.specs.Servable.{size_of};
-ghost use Rattle.nbd_capture.specs.Lines.{line_feed};
-ghost use Rattle.nbd_capture.specs.Order.{entry_text};
-ghost use Rattle.nbd_order.specs.Finding.{IsFound, IsWanted, Says};
-ghost use Rattle.nbd_order.specs.declared.finding.Wanted.{Wanted};
-ghost use Rattle.nbd_tool.specs.Beginnings.{IsReadAs};
-ghost use Rattle.nbd_tool.specs.declared.beginning.Beginning.{Beginning};
-ghost use Rattle.nbd_explain.specs.Ordering.{IsOrderingCause, LeavesOrdered, Orders, entry_lines, found_text, gave_up_line, ordered_of, reason_words, spaced_numbers, status_of, unexplained_line};
+ghost use Rattle.nbd_judge.specs.Beginnings.{initial_of, size_of};
+ghost use Rattle.nbd_capture.specs.{Lines.line_feed, Order.entry_text};
+ghost use Rattle.nbd_order.specs.{Finding.{IsFound, IsWanted, Says}, declared.finding.Wanted.Wanted};
+ghost use Rattle.nbd_tool.specs.{Beginnings.IsReadAs, declared.beginning.Beginning.Beginning};
+ghost use Rattle.nbd_explain.specs.{Ordering.{IsOrderingCause, LeavesOrdered, Orders, entry_lines, found_text, gave_up_line, ordered_of, reason_words, spaced_numbers, status_of, unexplained_line}, internal.Outcomes.{IsToldFrom, IsToldOf}};
 ghost use Rattle.nbd_files.specs.Starts.{IsInitial, IsStartCause, IsStartWellFormed, IsWithinLimit, OfStart};
-ghost use Rattle.nbd_explain.specs.internal.Outcomes.{IsToldFrom, IsToldOf};
 
 use crate::writing::write_told;
 use nbd_files::{Measured, RunFault, StartFrom};

@@ -1,14 +1,9 @@
 //! How the inputs are read: the story of a capture, told while its session is read, and what is read behind it.
 
 ghost use Rattle.std.specs.Prelude.{ℕ, List, Option, IfErr, IfOk, OnOk};
-ghost use Rattle.nbd_tool.specs.Beginnings.{IsBeginningOf, room_in};
-ghost use Rattle.nbd_tool.specs.Runs.{IsCapture, IsCaptureCause};
-ghost use Rattle.nbd_files.specs.declared.fault.RunFault.TheVariants.{Write};
-ghost use Rattle.nbd_files.specs.Starts.{IsStartWellFormed, IsWithinLimit, OfStart};
-ghost use Rattle.nbd_explain.specs.Contents.{HasEntries};
-ghost use Rattle.nbd_explain.specs.Explained.{IsExplainCause, IsOrderWithinLimit};
-ghost use Rattle.nbd_explain.specs.internal.Leaving.{IsGivenOrderCause, entries_of};
-ghost use Rattle.nbd_tool.specs.Ends.{IsFinishOf};
+ghost use Rattle.nbd_tool.specs.{Beginnings.{IsBeginningOf, room_in}, Runs.{IsCapture, IsCaptureCause}, Ends.IsFinishOf};
+ghost use Rattle.nbd_files.specs.{declared.fault.RunFault.TheVariants.Write, Starts.{IsStartWellFormed, IsWithinLimit, OfStart}};
+ghost use Rattle.nbd_explain.specs.{Contents.HasEntries, Explained.{IsExplainCause, IsOrderWithinLimit}, internal.Leaving.{IsGivenOrderCause, entries_of}};
 
 use nbd_files::{Measured, RunFault, StartFrom};
 use nbd_session::{SessionFault, Transcript};

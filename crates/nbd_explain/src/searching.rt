@@ -3,8 +3,7 @@
 ghost use Rattle.std.specs.Prelude.{◌≡◌, Err, IfOk, IsOk, OnOk};
 ghost use Rattle.nbd_tool.specs.declared.beginning.Beginning.{Beginning};
 ghost use Rattle.nbd_wire.specs.declared.profile.Profile.{Profile};
-ghost use Rattle.nbd_explain.specs.Answering.{answer_to};
-ghost use Rattle.nbd_explain.specs.internal.Lines.{Begins, BeginsWithLineOf, IsLineOf, IsToldBySearch, IsToldOfFound};
+ghost use Rattle.nbd_explain.specs.{Answering.answer_to, internal.Lines.{Begins, BeginsWithLineOf, IsLineOf, IsToldBySearch, IsToldOfFound}};
 
 use crate::answer::{Answer, found_answer};
 use crate::found::found_explanation;

@@ -1,12 +1,10 @@
 //! The command `show`, over any reader and writer.
 
-ghost use Rattle.std.specs.Prelude.{◌≡◌, IfErr, IfOk, OnErr, OnOk, None, true};
-ghost use Rattle.std.specs.Io.KnownBytes.{Appends};
+ghost use Rattle.std.specs.{Prelude.{◌≡◌, IfErr, IfOk, OnErr, OnOk, None, true}, Io.KnownBytes.Appends};
 ghost use Rattle.nbd_wire.specs.declared.profile.Profile.TheVariants.{Base};
 ghost use Rattle.nbd_capture.specs.Writing.{AppendsPrefix};
 ghost use Rattle.nbd_lines.specs.Script.{message_lines};
-ghost use Rattle.nbd_tool.specs.Runs.{IsCapture};
-ghost use Rattle.nbd_tool.specs.Ends.{LeavesLast, is_accepted, last_line};
+ghost use Rattle.nbd_tool.specs.{Runs.IsCapture, Ends.{LeavesLast, is_accepted, last_line}};
 ghost use Rattle.nbd_files.specs.Starts.{IsWithinLimit};
 ghost use Rattle.nbd_explain.specs.Shown.{IsShowCause, LeavesShown, WritesAll};
 

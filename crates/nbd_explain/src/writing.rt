@@ -1,13 +1,10 @@
 //! A verdict's line with its explanation, and how a text is written that was made before.
 
-ghost use Rattle.std.specs.Prelude.{◌≡◌, ℕ, IfErr, IfOk};
-ghost use Rattle.std.specs.Io.KnownBytes.{Appends};
+ghost use Rattle.std.specs.{Prelude.{◌≡◌, ℕ, IfErr, IfOk}, Io.KnownBytes.Appends};
 ghost use Rattle.nbd_files.specs.declared.fault.RunFault.TheVariants.{Write};
 ghost use Rattle.nbd_wire.specs.protocol.Explains as definitions;
-ghost use Rattle.nbd_tool.specs.Beginnings.{IsReadAs};
-ghost use Rattle.nbd_tool.specs.Verdicts.{line};
-ghost use Rattle.nbd_explain.specs.Answering.{IsAnswerTo};
-ghost use Rattle.nbd_explain.specs.internal.Lines.{Begins};
+ghost use Rattle.nbd_tool.specs.{Beginnings.IsReadAs, Verdicts.line};
+ghost use Rattle.nbd_explain.specs.{Answering.IsAnswerTo, internal.Lines.Begins};
 
 use crate::answer::{Answer, verdict_answer};
 use nbd_capture::write_whole;

@@ -1,19 +1,12 @@
 -- What the verdict on a capture says.
 use Rattle.std.specs.{Prelude.{ℕ, List, ◌≡◌, ◌↔◌, map}, declared.{alloc.Global.Global, vec.Vec.Vec}}
 use Rattle.nbd_wire.specs.{declared.{entry.Entry.Entry, message.{Message.Message, Side.Side}, profile.Profile.Profile, verdict.Verdict.{Verdict, TheVariants.{Yes, Wire}}}, Prelude.{IsExplainedOf, Start, Item, pairs, Pair, report, IsRunOf}}
-use Rattle.nbd_session.specs.{declared.fault.SessionFault.SessionFault, Refusals.IsWireFaultOf}
-use Rattle.nbd_session.specs.declared.fault.SessionFault.TheVariants as session
+use Rattle.nbd_session.specs.Refusals.{IsWireFaultOf}
 use Rattle.nbd_judge.specs.{Conclusions.Answers, Verdicts.IsVerdict}
 
 -- each chunk's side and its bytes
 abbrev pub records_of : List (Side × Vec ℕ Global) → List (Side × List ℕ)
 records_of chunks = map (λ (chunk : Side × Vec ℕ Global). (chunk.0, chunk.1.items)) chunks
-
--- a session of the profile over the capture ends in this fault; of out of memory nothing is said
-abbrev pub IsFaultOf : Profile → List Pair → SessionFault → Type 0
-IsFaultOf profile capture (session.Wire at fault) =
-    (messages : List Message) × IsWireFaultOf profile capture messages at fault
-IsFaultOf profile capture session.Memory = Unit {0}
 
 -- some run of the profile has these bytes, and the verdict is that on the report of each such run
 pub record HasVerdict (profile : Profile) (capture : List Pair) (order : List Entry) (initial : Start)
@@ -27,7 +20,8 @@ pub record HasVerdict (profile : Profile) (capture : List Pair) (order : List En
 
 -- the verdict on a capture: that on its run of the profile, or where no such run has its bytes its wire fault
 abbrev pub IsChecked : Profile → List Pair → List Entry → Start → Verdict → Type 0
-IsChecked profile capture order initial (Wire at fault) = IsFaultOf profile capture (session.Wire at fault)
+IsChecked profile capture order initial (Wire at fault) =
+    (messages : List Message) × IsWireFaultOf profile capture messages at fault
 IsChecked profile capture order initial v = HasVerdict profile capture order initial v
 
 -- the verdict is a yes

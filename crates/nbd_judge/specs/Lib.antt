@@ -3,7 +3,6 @@ pub mod Captures
 pub mod Conclusions
 pub mod Folding
 pub mod Images
-pub mod Servable
 pub mod Uniqueness
 pub mod Verdicts
 pub mod internal

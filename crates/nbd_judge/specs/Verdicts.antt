@@ -1,23 +1,12 @@
 -- The verdict on a report, an order of service and what the export held at first.
 use Rattle.std.specs.Prelude.{ℕ, List, length, ◌≡◌, ◌==◌, Option, None, Some, if◌then◌else◌, slice_get}
-use Rattle.nbd_wire.specs.declared.{entry.Entry.Entry, profile.Profile.Profile, verdict.{OrderFault.{OrderFault, TheVariants.{NoSuchRequest, Twice, Late, Missing, BadPart, NotCovered}}, Verdict.{Verdict, TheVariants.{Yes, Wire, Image, Order, Content, Status}}}}
-use Rattle.nbd_wire.specs.Prelude.{FirstBadPart, FirstLate, FirstNoSuchRequest, FirstTwice, LeastMissing, LeastNotCovered, Report, due_in, inside_in, IsWrong, effects, FitsImage, Start, start_byte, IsFirst, Asked, asked_at, IsFaultless, answered_count, improper_count, request_count}
+use Rattle.nbd_wire.specs.{declared.{entry.Entry.Entry, profile.Profile.Profile, verdict.{OrderFault.OrderFault, Verdict.{Verdict, TheVariants.{Yes, Wire, Image, Order, Content, Status}}}}, Prelude.{Report, due_in, inside_in, IsWrong, effects, FitsImage, Start, start_byte, IsFirst, Asked, asked_at, IsFaultless, answered_count, improper_count, request_count, IsFaultAt}}
 use Rattle.nbd_wire.specs.declared.commands.TheConstants as commands
 use Rattle.nbd_judge.specs.Images.{IsOtherSize}
 
 -- the order's answer is this fault at this entry, counted from 1; for Missing and NotCovered of this request
 abbrev pub IsOrderFault : Profile → Report → List Entry → ℕ → OrderFault → Type 0
-IsOrderFault profile r order entry NoSuchRequest = FirstNoSuchRequest (length r.asked) (inside_in r) order entry
-IsOrderFault profile r order entry Twice = FirstTwice (length r.asked) (inside_in r) order entry
-IsOrderFault profile r order entry Late = FirstLate (length r.asked) (due_in profile r) (inside_in r) order entry
-IsOrderFault profile r order entry Missing = LeastMissing (length r.asked) (due_in profile r) (inside_in r) order entry
-IsOrderFault profile r order entry BadPart = FirstBadPart (length r.asked) (inside_in r) order entry
-IsOrderFault profile r order entry NotCovered =
-    LeastNotCovered (length r.asked) (due_in profile r) (inside_in r) order entry
-
--- no entry of the order serves a wrong byte, where the export's bytes were these at first
-abbrev pub HasNoneWrongFrom : Report → List Entry → (ℕ → Option ℕ) → Type 0
-HasNoneWrongFrom r order initial = (i x : ℕ) → IsWrong (effects r) order initial i x → ⊥
+IsOrderFault profile r order = IsFaultAt (length r.asked) (due_in profile r) (inside_in r) order
 
 -- entry i of the order, counted from 0, serves a wrong byte
 abbrev pub HasWrongFrom : Report → List Entry → (ℕ → Option ℕ) → ℕ → Type 0
@@ -48,7 +37,7 @@ wrong_verdict r request offset = wrong_verdict_if (asked_at request r.asked) req
 -- the verdict where the export's bytes were these at first: Order, Content, Status or Yes
 abbrev pub IsJudged : Profile → Report → List Entry → (ℕ → Option ℕ) → Verdict → Type 0
 IsJudged profile r order initial (Yes of_requests of_answered of_improper) =
-    IsFaultless profile r order × HasNoneWrongFrom r order initial
+    IsFaultless profile r order × ((i x : ℕ) → IsWrong (effects r) order initial i x → ⊥)
     × (of_requests ≡ request_count r) × (of_answered ≡ answered_count r) × (of_improper ≡ improper_count profile r)
 IsJudged profile r order initial (Order entry fault) = IsOrderFault profile r order entry fault
 IsJudged profile r order initial (Content request offset) =

@@ -3,7 +3,9 @@ pub mod Pieces
 pub mod Services
 use Rattle.std.specs.Prelude.{ℕ, Option, Some, None, length, List, ◌≡◌, Bool, false, nat_lt, ◌<◌, ◌≤◌, IsTrue, ◌⊎◌, ◌+◌, true, is_some}
 use Rattle.nbd_wire.specs.protocol.Explains as definitions
-use Rattle.nbd_wire.specs.{declared.{profile.Profile.Profile, entry.{Entry.Entry, Part.Part}}, Prelude.{Item, pairs, Pair, Report, report, IsRunOf, in_part, is_in, Asked, first_shown, inside_in, is_success, byte_at}}
+use Rattle.nbd_wire.specs.{declared.{profile.Profile.Profile, entry.{Entry.Entry, Part.Part}, message.Message.Message}, Prelude.{Item, pairs, Pair, Report, report, IsRunOf, in_part, is_in, Asked, first_shown, inside_in, is_success, byte_at}}
+use Rattle.nbd_session.specs.{declared.fault.SessionFault.SessionFault, Refusals.IsWireFaultOf}
+use Rattle.nbd_session.specs.declared.fault.SessionFault.TheVariants as session
 use Rattle.nbd_export.specs.Ranges.{IsLeast}
 use Rattle.nbd_state.specs.declared.span.Span.{Span}
 use Rattle.nbd_wire.specs.declared.commands.TheConstants as commands
@@ -21,6 +23,12 @@ pub record HasReport (profile : Profile) (capture : List Pair) (found : Report) 
   pub is_run : IsRunOf profile items
   pub has_pairs : pairs items ≡ capture
   pub same_report : (others : List Item) → IsRunOf profile others → pairs others ≡ capture → report others ≡ found
+
+-- a session of the profile over the capture ends in this fault; of out of memory nothing is said
+abbrev pub IsFaultOf : Profile → List Pair → SessionFault → Type 0
+IsFaultOf profile capture (session.Wire at fault) =
+    (messages : List Message) × IsWireFaultOf profile capture messages at fault
+IsFaultOf profile capture session.Memory = Unit {0}
 
 -- k is above the number, if there is one
 abbrev pub is_above : ℕ → Option ℕ → Bool

@@ -2,7 +2,7 @@
 
 ghost use Rattle.std.specs.Prelude.{◌<◌, ◌^◌, IfErr, IfOk, length};
 ghost use Rattle.nbd_wire.specs.{declared.profile.Profile.TheVariants.Base, Prelude.flat};
-ghost use Rattle.nbd_judge.specs.{Beginnings.initial_of, Captures.{AnswersExactly, IsChecked, IsFaultOf, records_of}, internal.HasReport};
+ghost use Rattle.nbd_judge.specs.{Beginnings.initial_of, Captures.{AnswersExactly, IsChecked, records_of}, internal.{HasReport, IsFaultOf}};
 
 use crate::{Verdict, conclude};
 use nbd_export::Start;

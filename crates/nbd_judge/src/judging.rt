@@ -2,7 +2,7 @@
 
 ghost use Rattle.std.specs.Prelude.{◌≡◌, ℕ, List, Option, IfOk};
 ghost use Rattle.nbd_wire.specs.{declared.{profile.Profile.Profile, entry.Entry.Entry}, Prelude.{Pair, Item, pairs, report, IsRunOf, IsFaultless}};
-ghost use Rattle.nbd_judge.specs.{Conclusions.LeavesUnserved, Captures.SaysYes, Folding.HoldsLeft, Servable.size_of, Verdicts.{FirstWrongFrom, IsJudged, wrong_verdict}};
+ghost use Rattle.nbd_judge.specs.{Conclusions.LeavesUnserved, Captures.SaysYes, Folding.HoldsLeft, Beginnings.size_of, Verdicts.{FirstWrongFrom, IsJudged, wrong_verdict}};
 
 use crate::Verdict;
 use crate::order::order_fault;

@@ -3,7 +3,7 @@
 ghost use Rattle.std.specs.Prelude.{◌≡◌, ℕ, IfOk, MatchOption, None, Some};
 ghost use Rattle.nbd_laws.specs.Soundness.{IsSoundReport};
 ghost use Rattle.nbd_wire.specs.Prelude.{IsBadPart, Asked, asked_at, inside_in};
-ghost use Rattle.nbd_judge.specs.{internal.Pieces.IsSortedAt, Folding.HoldsLeft, Servable.size_of, Verdicts.{FirstWrongFrom, HasWrongFrom}};
+ghost use Rattle.nbd_judge.specs.{internal.Pieces.IsSortedAt, Folding.HoldsLeft, Beginnings.size_of, Verdicts.{FirstWrongFrom, HasWrongFrom}};
 
 use crate::change::change;
 use crate::compare::wrong;

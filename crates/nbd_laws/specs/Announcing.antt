@@ -1,13 +1,8 @@
 -- Which block sizes a client has to keep, told by looking back (proto.md, "Size constraints").
 use Rattle.std.specs.Prelude.{◌≡◌, ◌==◌, ◌&&◌, ℕ, List, [], ◌∷◌, ◌++◌, Option, None, if◌then◌else◌}
 use Rattle.nbd_wire.specs.declared.answers.TheConstants as answers
-use Rattle.nbd_wire.specs.declared.message.Message.{Message}
-use Rattle.nbd_wire.specs.declared.message.Message.TheVariants.{Answer, Choice}
+use Rattle.nbd_wire.specs.{declared.{message.Message.{Message, TheVariants.{Answer, Choice}}, profile.Profile.Profile, sizes.Sizes.Sizes}, Prelude.{Item, completed_messages, info_of, ends_at, sizes_kept, sizes_of, start_of, asks_sizes, last_sizes}}
 use Rattle.nbd_wire.specs.declared.options.TheConstants as options
-use Rattle.nbd_wire.specs.declared.profile.Profile.{Profile}
-use Rattle.nbd_wire.specs.declared.sizes.Sizes.{Sizes}
-use Rattle.nbd_wire.specs.Prelude.{Item, completed_messages, info_of, ends_at, sizes_kept, sizes_of, start_of}
-use Rattle.nbd_wire.specs.protocol.Sizes.{asks_sizes, last_sizes}
 use Rattle.nbd_laws.specs.Selecting.{ChooseNone}
 
 -- the block sizes that a message announces, if it does

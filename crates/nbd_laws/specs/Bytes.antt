@@ -1,10 +1,6 @@
 -- What the bytes of a run are, and what a run but for open bytes is worth.
 use Rattle.std.specs.Prelude.{◌≡◌, ◌++◌, ◌∷◌, ◌-◌, ℕ, List, [], nat_lt, length, if◌then◌else◌}
-use Rattle.nbd_wire.specs.declared.message.Side.{Side}
-use Rattle.nbd_wire.specs.declared.message.Side.TheVariants.{Client, Server}
-use Rattle.nbd_wire.specs.declared.profile.Profile.{Profile}
-use Rattle.nbd_wire.specs.Prelude.{Item, completed_messages, pairs, Pair, enc, IsRunOf, IsRunBut, same_side, side}
-use Rattle.nbd_wire.specs.declared.message.Message.{Message}
+use Rattle.nbd_wire.specs.{declared.{message.{Side.{Side, TheVariants.{Client, Server}}, Message.Message}, profile.Profile.Profile}, Prelude.{Item, completed_messages, pairs, Pair, enc, IsRunOf, IsRunBut, same_side, side}}
 
 -- the bytes of one side, in order
 abbrev pub bytes_from : Side → List Pair → List ℕ
@@ -21,8 +17,7 @@ abbrev pub of_two : Side → (client server : List ℕ) → List ℕ
 of_two Client client server = client
 of_two Server client server = server
 
--- each side's bytes in a run but for open bytes are the encodings of its completed messages, and the open ones after
--- them
+-- each side's bytes in a run but for open bytes are its completed messages' encodings, and the open ones after them
 abbrev pub RunsHoldEachSide : Type 0
 RunsHoldEachSide = (profile : Profile) (items : List Item) (client server : List ℕ)
     → IsRunBut profile items client server → (s : Side) →

@@ -1,9 +1,6 @@
 -- When a capture is explained, from any one run with its bytes.
 use Rattle.std.specs.Prelude.{◌≡◌, ℕ, List}
-use Rattle.nbd_wire.specs.declared.entry.Entry.{Entry}
-use Rattle.nbd_wire.specs.declared.profile.Profile.{Profile}
-use Rattle.nbd_wire.specs.declared.profile.Profile.TheVariants.{Base}
-use Rattle.nbd_wire.specs.Prelude.{IsExplainedOf, Start, Item, pairs, Pair, report, IsRunOf, Passes, answered_count, improper_count, request_count}
+use Rattle.nbd_wire.specs.{declared.{entry.Entry.Entry, profile.Profile.{Profile, TheVariants.Base}}, Prelude.{IsExplainedOf, Start, Item, pairs, Pair, report, IsRunOf, Passes, answered_count, improper_count, request_count}}
 
 -- where a run passes the tests, its bytes are explained
 abbrev pub PassingIsExplained : Type 0

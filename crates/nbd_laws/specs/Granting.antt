@@ -2,13 +2,8 @@
 -- an ACK to EXTENDED_HEADERS puts them in force for good is this project's choice).
 use Rattle.std.specs.Prelude.{◌≡◌, ◌==◌, ◌&&◌, ◌||◌, ◌++◌, Bool, false, List, [], ◌∷◌}
 use Rattle.nbd_wire.specs.declared.answers.TheConstants as answers
-use Rattle.nbd_wire.specs.declared.message.Message.{Message}
-use Rattle.nbd_wire.specs.declared.message.Message.TheVariants.{Answer}
-use Rattle.nbd_wire.specs.declared.message.Side.{Side}
+use Rattle.nbd_wire.specs.{declared.{message.{Message.{Message, TheVariants.Answer}, Side.Side}, profile.Profile.Profile}, Prelude.{Item, Starts, completed_messages, Exporting, IsRunOf, ends_at, Transmission, start_of, is_extended}}
 use Rattle.nbd_wire.specs.declared.options.TheConstants as options
-use Rattle.nbd_wire.specs.declared.profile.Profile.{Profile}
-use Rattle.nbd_wire.specs.Prelude.{Item, Starts, completed_messages, Exporting, IsRunOf, ends_at, Transmission, start_of}
-use Rattle.nbd_wire.specs.protocol.Rules.{is_extended}
 
 -- an ACK to EXTENDED_HEADERS
 abbrev pub is_grant : Message → Bool

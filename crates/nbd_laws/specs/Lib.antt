@@ -1,17 +1,13 @@
 pub mod Announcing
-pub mod Awaited
 pub mod Bytes
-pub mod Cuts
 pub mod Explaining
 pub mod Granting
 pub mod Marking
-pub mod Moments
 pub mod Negotiating
 pub mod Prefixes
 pub mod Profiles
 pub mod Reached
 pub mod Replying
-pub mod Sameness
 pub mod Selecting
 pub mod Service
 pub mod Soundness

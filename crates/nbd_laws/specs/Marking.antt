@@ -1,10 +1,6 @@
 -- Laws of places: what reading says of runs.
 use Rattle.std.specs.Prelude.{◌≡◌, ◌++◌, List, [], length}
-use Rattle.nbd_wire.specs.declared.fault.WireFault.{WireFault}
-use Rattle.nbd_wire.specs.declared.message.Message.{Message}
-use Rattle.nbd_wire.specs.declared.profile.Profile.{Profile}
-use Rattle.nbd_wire.specs.Prelude.{ArePairs, Pair, Item, IsPlaceOf, IsUnderWayOf, IsRunOf, within}
-use Rattle.nbd_wire.specs.protocol.Within.{Begins, BeginsNoRunOf}
+use Rattle.nbd_wire.specs.{declared.{fault.WireFault.WireFault, message.Message.Message, profile.Profile.Profile}, Prelude.{ArePairs, Pair, Item, IsPlaceOf, IsUnderWayOf, IsRunOf, within, Begins, BeginsNoRunOf}}
 
 -- where a run begins with these bytes, they are those of a session under way, with what completes within them
 abbrev pub BeginningsAreUnderWay : Type 0

@@ -3,13 +3,7 @@ use Rattle.std.specs.Prelude.{◌≡◌, ◌≢◌, false, ◌⊎◌, ◌+◌, �
 use Rattle.nbd_wire.specs.declared.answers.TheConstants as answers
 use Rattle.nbd_wire.specs.declared.handshake.TheConstants as handshake
 use Rattle.nbd_wire.specs.declared.options.TheConstants as options
-use Rattle.nbd_wire.specs.declared.message.Message.{Message}
-use Rattle.nbd_wire.specs.declared.message.Message.TheVariants.{Greeting, ClientFlags, Choice, Answer}
-use Rattle.nbd_wire.specs.declared.message.Side.TheVariants.{Server}
-use Rattle.nbd_wire.specs.declared.profile.Profile.{Profile}
-use Rattle.nbd_wire.specs.declared.profile.Profile.TheVariants.{Wide}
-use Rattle.nbd_wire.specs.Prelude.{Context, has_id, Item, Completes, completed_messages, is_error, is_proper_option, last_info, context_of, info_of, Exporting, has, IsRunOf}
-use Rattle.nbd_wire.specs.protocol.Payloads.{queries_of}
+use Rattle.nbd_wire.specs.{declared.{message.{Message.{Message, TheVariants.{Greeting, ClientFlags, Choice, Answer}}, Side.TheVariants.Server}, profile.Profile.{Profile, TheVariants.Wide}}, Prelude.{Context, has_id, Item, Completes, completed_messages, is_error, is_proper_option, last_info, context_of, info_of, Exporting, has, IsRunOf, queries_of}}
 
 -- the client speaks fixed newstyle, and takes NO_ZEROES at most, where it was offered
 abbrev pub AreFairFlags : (offered flags : ℕ) → Type 0

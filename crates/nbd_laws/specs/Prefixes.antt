@@ -1,9 +1,6 @@
 -- What the prefix of a run or of a message's bytes may be.
 use Rattle.std.specs.Prelude.{◌≡◌, ℕ, List, [], ◌∷◌, ◌++◌, if◌then◌else◌}
-use Rattle.nbd_wire.specs.declared.message.Side.{Side}
-use Rattle.nbd_wire.specs.declared.message.Message.{Message}
-use Rattle.nbd_wire.specs.declared.profile.Profile.{Profile}
-use Rattle.nbd_wire.specs.Prelude.{enc, Item, Byte, Starts, Completes, Serves, IsRunOf, MayComplete, IsSendable, side, same_side, Core}
+use Rattle.nbd_wire.specs.{declared.{message.{Side.Side, Message.Message}, profile.Profile.Profile}, Prelude.{enc, Item, Byte, Starts, Completes, Serves, IsRunOf, MayComplete, IsSendable, side, same_side, Core, flat}}
 
 -- of two messages of one side that may complete in one state, neither's bytes are a proper prefix of the other's, and
 -- equal bytes are of one message
@@ -48,3 +45,8 @@ abbrev pub CompletionsStandAfterBytes : Type 0
 CompletionsStandAfterBytes = (profile : Profile) (prefix back : List Item) (s : Side) (m : Message)
     → IsRunOf profile (prefix ++ Completes s m ∷ back) →
     (first : List Item) × (b : ℕ) × (prefix ≡ first ++ Byte s b ∷ [])
+
+-- a record cut in two leaves the flat capture as it is
+abbrev pub CutsDoNotCount : Type 0
+CutsDoNotCount = (prefix back : List (Side × List ℕ)) (s : Side) (bytes more : List ℕ) →
+    flat (prefix ++ (s, bytes ++ more) ∷ back) ≡ flat (prefix ++ (s, bytes) ∷ (s, more) ∷ back)

@@ -1,24 +1,12 @@
 -- What the profiles have in common.
-use Rattle.std.specs.Prelude.{◌≡◌, ◌≢◌, List, Some, All, IsTrue}
-use Rattle.std.specs.Prelude.{[], ◌∷◌, ◌≤◌, Ok, drop}
-use Rattle.std.specs.Prelude.{ℕ}
-use Rattle.std.specs.Prelude.{◌⊎◌, ◌++◌, ◌+◌, List, length, false, IsTrue, Some}
-use Rattle.nbd_wire.specs.declared.message.Side.TheVariants.{Server}
+use Rattle.std.specs.Prelude.{◌≡◌, ◌≢◌, List, Some, All, IsTrue, [], ◌∷◌, ◌≤◌, Ok, drop, ℕ, ◌⊎◌, ◌++◌, ◌+◌, length, false}
+use Rattle.nbd_wire.specs.declared.{message.{Side.TheVariants.Server, Message.{Message, TheVariants.Answer}}, fault.WireFault.WireFault, entry.Entry.Entry, sizes.Sizes.Sizes, profile.Profile.{Profile, TheVariants.{Base, Wide}}}
+use Rattle.nbd_wire.specs.Prelude.{IsRunOf, Answering, Phase, Transmission, begins, is_error_chunk, ArePairs, Reader, fresh_of, reads, pairs, without_service, Asked, Report, asked_at, due_in, report, is_error, number_at, IsPlaceOf, IsUnderWayOf, Pair, IsExplainedOf, Start, Item, completed_messages, info_of, ends_at, sizes_of, Core, start_of, extends, are_allowed}
 use Rattle.nbd_wire.specs.declared.head_lengths.TheConstants as head_lengths
-use Rattle.nbd_wire.specs.declared.fault.WireFault.{WireFault}
-use Rattle.nbd_wire.specs.Prelude.{IsRunOf, Answering, Phase, Transmission, begins, is_error_chunk, ArePairs, Reader, fresh_of, reads, pairs, without_service, Asked, Report, asked_at, due_in, report, is_error, number_at, IsPlaceOf, IsUnderWayOf, Pair, IsExplainedOf, Start, Item, completed_messages, info_of, ends_at, sizes_of, Core, start_of}
 use Rattle.nbd_wire.specs.declared.chunks.TheConstants as chunks
 use Rattle.nbd_wire.specs.declared.magics.TheConstants as magics
-use Rattle.nbd_wire.specs.protocol.Negotiation.{extends}
 use Rattle.nbd_wire.specs.declared.commands.TheConstants as commands
-use Rattle.nbd_wire.specs.declared.entry.Entry.{Entry}
 use Rattle.nbd_wire.specs.declared.answers.TheConstants as answers
-use Rattle.nbd_wire.specs.declared.message.Message.{Message}
-use Rattle.nbd_wire.specs.declared.message.Message.TheVariants.{Answer}
-use Rattle.nbd_wire.specs.declared.sizes.Sizes.{Sizes}
-use Rattle.nbd_wire.specs.declared.profile.Profile.{Profile}
-use Rattle.nbd_wire.specs.declared.profile.Profile.TheVariants.{Base, Wide}
-use Rattle.nbd_wire.specs.protocol.Sizes.{are_allowed}
 
 -- the same, held to this profile
 abbrev pub with_profile : Profile → Core → Core
@@ -55,8 +43,7 @@ IsFalseAnnouncement (Answering option payload info) bytes =
     × (are_allowed sizes ≡ false))
 IsFalseAnnouncement phase bytes = ⊥
 
--- bytes that begin with this number are a message of this length, and a chunk of an error's type that is neither ERROR
--- nor ERROR_OFFSET
+-- bytes that begin so are a message of this length, a chunk of an error's type that is neither ERROR nor ERROR_OFFSET
 abbrev pub IsUnknownErrorOf : (magic len : ℕ) → List ℕ → Type 0
 IsUnknownErrorOf magic len bytes =
     IsTrue (begins magic bytes) × (length bytes ≡ len) × IsTrue (is_error_chunk (number_at 6 2 bytes))

@@ -1,16 +1,10 @@
 -- What the replies to a request are.
-use Rattle.nbd_wire.specs.Prelude.{Status, has_id, reach, Item, status_of, operations_of, Operation, ends_reply, has_failed, has, is_in, IsRunOf, cookie_of, ends_at, operation, start, with_reply, are_settled, but_last, is_settled, read_as, status_kind}
+use Rattle.nbd_wire.specs.Prelude.{Status, has_id, reach, Item, status_of, operations_of, Operation, ends_reply, has_failed, has, is_in, IsRunOf, cookie_of, ends_at, operation, start, with_reply, are_settled, but_last, is_settled, read_as, status_kind, content_of, failure_of, asks_status}
+use Rattle.nbd_wire.specs.declared.{message.Message.{Message, TheVariants.{Simple, Chunk, ExtendedChunk}}, payloads.{Failure.Failure, Piece.Piece}, profile.Profile.Profile}
 use Rattle.std.specs.Prelude.{◌≡◌, ◌⊎◌, ◌<◌, ◌≤◌, ℕ, List, [], ◌∷◌, ◌++◌, Bool, true, false, Some, IsTrue, ◌≢◌, length}
 use Rattle.nbd_wire.specs.declared.chunks.TheConstants as chunks
 use Rattle.nbd_wire.specs.declared.command_flags.TheConstants as command_flags
 use Rattle.nbd_wire.specs.declared.commands.TheConstants as commands
-use Rattle.nbd_wire.specs.declared.message.Message.{Message}
-use Rattle.nbd_wire.specs.declared.message.Message.TheVariants.{Simple, Chunk, ExtendedChunk}
-use Rattle.nbd_wire.specs.declared.payloads.Failure.{Failure}
-use Rattle.nbd_wire.specs.declared.payloads.Piece.{Piece}
-use Rattle.nbd_wire.specs.declared.profile.Profile.{Profile}
-use Rattle.nbd_wire.specs.protocol.Payloads.{content_of, failure_of}
-use Rattle.nbd_wire.specs.protocol.Operations.{asks_status}
 
 -- a status chunk answers a BLOCK_STATUS and is of a context in force that the request asks and no earlier chunk of the
 -- reply is of; unless the request's length is 0, its extents but the last end before the range does, and with REQ_ONE

@@ -3,11 +3,7 @@ use Rattle.std.specs.Prelude.{◌≡◌, ◌≢◌, ◌⊎◌, ◌<◌, ◌^◌,
 use Rattle.byteorder.specs.Endian.{big_bytes}
 use Rattle.nbd_wire.specs.declared.answers.TheConstants as answers
 use Rattle.nbd_wire.specs.declared.options.TheConstants as options
-use Rattle.nbd_wire.specs.declared.message.Message.{Message}
-use Rattle.nbd_wire.specs.declared.message.Message.TheVariants.{Answer, Choice}
-use Rattle.nbd_wire.specs.declared.profile.Profile.{Profile}
-use Rattle.nbd_wire.specs.Prelude.{Context, Item, completed_messages, Exporting, Operation, IsRunOf, ends_at, Transmission, in_force, start_of}
-use Rattle.nbd_wire.specs.protocol.Forms.{HasGoForm, HasQueriesForm}
+use Rattle.nbd_wire.specs.{declared.{message.Message.{Message, TheVariants.{Answer, Choice}}, profile.Profile.Profile}, Prelude.{Context, Item, completed_messages, Exporting, Operation, IsRunOf, ends_at, Transmission, in_force, start_of, HasGoForm, HasQueriesForm}}
 
 -- the answer that tells a context (proto.md, "Option reply types")
 abbrev pub telling : Context → Message

@@ -1,14 +1,20 @@
 -- What a run says of its requests at a moment: after its first items, `prefix`.
-use Rattle.std.specs.Prelude.{◌≡◌, ◌<◌, ◌≤◌, ℕ, List, [], ◌∷◌, ◌++◌, Some, false, length, IsTrue}
-use Rattle.nbd_wire.specs.declared.entry.Entry.{Entry}
+use Rattle.std.specs.Prelude.{◌≡◌, List, ◌<◌, ◌≤◌, ℕ, [], ◌∷◌, ◌++◌, Some, false, length, IsTrue}
+use Rattle.nbd_wire.specs.declared.{entry.Entry.Entry, profile.Profile.Profile, message.{Side.TheVariants.{Client, Server}, Message.{Message, TheVariants.{Request, ExtendedRequest}}}}
+use Rattle.nbd_wire.specs.{Prelude.{Item, pairs, service_order, report, IsRunOf, IsFaultless, IsServedAt, MayServe, IsExplainedOf, Start, operations_of, Completes, Starts, Serves, Operation, Exporting, is_finished, request_of_reply, cookie_of, ends_at, inside_at, makes_due, operation, start, start_of}, protocol.Reports.export_of}
 use Rattle.nbd_wire.specs.declared.commands.TheConstants as commands
-use Rattle.nbd_wire.specs.declared.message.Side.TheVariants.{Client, Server}
-use Rattle.nbd_wire.specs.declared.message.Message.{Message}
-use Rattle.nbd_wire.specs.declared.message.Message.TheVariants.{Request, ExtendedRequest}
-use Rattle.nbd_wire.specs.declared.profile.Profile.{Profile}
-use Rattle.nbd_wire.specs.Prelude.{IsServedAt, MayServe, IsExplainedOf, Start, operations_of, Item, Completes, Starts, Serves, service_order, Operation, Exporting, is_finished, IsRunOf, request_of_reply, cookie_of, ends_at, inside_at, makes_due, operation, start, start_of}
-use Rattle.nbd_wire.specs.protocol.Reports.{export_of}
 use Rattle.nbd_laws.specs.Prefixes.{ended_messages}
+
+-- where the order has no fault, a run with the same bytes is served in it
+abbrev pub LatestMoments : Type 0
+LatestMoments = (profile : Profile) (items : List Item) (order : List Entry) → IsRunOf profile items
+    → IsFaultless profile (report items) order →
+    (items' : List Item) × IsRunOf profile items' × (pairs items' ≡ pairs items) × (service_order items' ≡ order)
+
+-- the order in which a run is served has no fault
+abbrev pub OrdersAreFaultless : Type 0
+OrdersAreFaultless = (profile : Profile) (items : List Item) → IsRunOf profile items
+    → IsFaultless profile (report items) (service_order items)
 
 -- request k is outstanding after these items
 pub record IsOutstanding (prefix : List Item) (k : ℕ) (e : Operation) : Type 0 where
@@ -36,8 +42,7 @@ EachReplyAnswersOne = (profile : Profile) (prefix back : List Item) (m : Message
     → IsRunOf profile (prefix ++ Starts Server m ∷ back) → export_of prefix ≡ Some export →
     (k : ℕ) × (e : Operation) × AnswersRequest profile prefix m k e
 
--- what is served is of a request that has completed; a part of it is inside it, not empty, and none of it was served
--- before
+-- what is served is of a request that has completed; a part is inside it, not empty, and none of it was served before
 abbrev pub ServedOnceAfterCompletion : Type 0
 ServedOnceAfterCompletion = (profile : Profile) (prefix back : List Item) (e : Entry)
     → IsRunOf profile (prefix ++ Serves e ∷ back) →

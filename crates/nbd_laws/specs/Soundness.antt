@@ -2,11 +2,8 @@
 use Rattle.std.specs.Prelude.{◌≡◌, ◌≢◌, ◌+◌, ◌≤◌, ℕ, List, [], Option, Some, None, length, IsTrue, is_some, slice_get}
 use Rattle.nbd_wire.specs.declared.command_flags.TheConstants as command_flags
 use Rattle.nbd_wire.specs.declared.commands.TheConstants as commands
-use Rattle.nbd_wire.specs.declared.limits.TheConstants.{EXPORT_SIZE}
+use Rattle.nbd_wire.specs.{declared.{limits.TheConstants.EXPORT_SIZE, payloads.Piece.Piece, profile.Profile.Profile}, Prelude.{Item, Asked, Report, asked_at, first_shown, report, Exporting, Success, has_range, byte_at, holds, is_in, piece_offset, piece_size, has, IsRunOf, pairs, without_service}}
 use Rattle.nbd_wire.specs.declared.transmission.TheConstants as transmission
-use Rattle.nbd_wire.specs.declared.payloads.Piece.{Piece}
-use Rattle.nbd_wire.specs.declared.profile.Profile.{Profile}
-use Rattle.nbd_wire.specs.Prelude.{Item, Asked, Report, asked_at, first_shown, report, Exporting, Success, has_range, byte_at, holds, is_in, piece_offset, piece_size, has, IsRunOf}
 
 -- the pieces lie in the range of their request, and no two of them share an offset
 pub record AreLaid (offset len : ℕ) (pieces : List Piece) : Type 0 where
@@ -44,8 +41,7 @@ pub record IsSoundAsked (size count k : ℕ) (a : Asked) : Type 0 where
   pub covered : a.command ≡ commands.READ → a.outcome ≡ Success → (x : ℕ) → IsTrue (is_in a.offset a.length x)
       → IsTrue (is_some (byte_at a.pieces x))
 
--- of a report: the export is within the limit and has flags, without an export there is no request, and each request is
--- sound
+-- of a report: the export is within the limit and has flags, without one there is no request, and each request is sound
 pub record IsSoundReport (r : Report) : Type 0 where
   pub limit : (export : Exporting) → r.export ≡ Some export
       → (export.size ≤ EXPORT_SIZE) × IsTrue (has export.flags transmission.HAS_FLAGS)
@@ -56,3 +52,18 @@ pub record IsSoundReport (r : Report) : Type 0 where
 -- the report of a run is sound
 abbrev pub ReportsAreSound : Type 0
 ReportsAreSound = (profile : Profile) (items : List Item) → IsRunOf profile items → IsSoundReport (report items)
+
+-- runs with the same bytes have the same marks at the same places, but for those of service
+abbrev pub SameMarks : Type 0
+SameMarks = (profile : Profile) (items items' : List Item) → IsRunOf profile items → IsRunOf profile items'
+    → pairs items ≡ pairs items' → without_service items ≡ without_service items'
+
+-- runs with the same bytes have the same report
+abbrev pub SameReports : Type 0
+SameReports = (profile : Profile) (items items' : List Item) → IsRunOf profile items → IsRunOf profile items'
+    → pairs items ≡ pairs items' → report items ≡ report items'
+
+-- the report does not depend on where requests are served
+abbrev pub ReportsIgnoreService : Type 0
+ReportsIgnoreService = (items items' : List Item) → without_service items ≡ without_service items'
+    → report items ≡ report items'

@@ -2,16 +2,12 @@
 //! in specs/Captures.antt and the files beside it.
 
 ghost use Rattle.std.specs.Prelude.{◌≡◌, ℕ, List, [], ◌∷◌, length};
-ghost use Rattle.nbd_wire.specs.declared.entry.Entry.{Entry};
-ghost use Rattle.nbd_wire.specs.protocol.Entries.{part};
-ghost use Rattle.nbd_wire.specs.Prelude.{whole, Start, Zeroes, image, Pair, flat};
-ghost use Rattle.nbd_wire.specs.protocol.Explains.{Unknown};
+ghost use Rattle.nbd_wire.specs.{declared.{entry.Entry.Entry, profile.Profile.TheVariants.Wide}, Prelude.{part, whole, Start, Zeroes, image, Pair, flat, Unknown}};
 ghost use Rattle.nbd_laws.specs.captures.Openings as captures;
 ghost use Rattle.nbd_laws.specs.captures.Reads as reads;
 ghost use Rattle.nbd_laws.specs.captures.Chunks as chunks;
 ghost use Rattle.nbd_laws.specs.captures.Requests as requests;
 ghost use Rattle.nbd_laws.specs.captures.Options as options;
-ghost use Rattle.nbd_wire.specs.declared.profile.Profile.TheVariants.{Wide};
 ghost use Rattle.nbd_laws.specs.Explaining.{IsNo, IsYes, IsYesOf};
 
 /// What READs may show of the WRITEs and of the start.

@@ -1,20 +1,9 @@
 //! Laws over the definitions of nbd_wire: each is the contract of a function that does nothing.
 #![tactic(auto, using(crate::proofs::LawLemmas::laws))]
 
-ghost use Rattle.nbd_laws.specs.Soundness.{ReportsAreSound};
-ghost use Rattle.nbd_laws.specs.Announcing.{SizesAreAnnounced};
-ghost use Rattle.nbd_laws.specs.Granting.{HeadersAreGranted, HeadsAreInForce};
-ghost use Rattle.nbd_laws.specs.Bytes.{OpenBytesEndRuns, RunsHoldEachSide};
-ghost use Rattle.nbd_laws.specs.Prefixes.{CompletionsStandAfterBytes, PrefixesAreRuns, NoProperPrefix, StartsStandBeforeBytes};
-ghost use Rattle.nbd_laws.specs.Cuts.{CutsDoNotCount};
-ghost use Rattle.nbd_laws.specs.Moments.{LatestMoments, OrdersAreFaultless};
-ghost use Rattle.nbd_laws.specs.Negotiating.{AnswersFollowChoices, HandshakesAreFair};
-ghost use Rattle.nbd_laws.specs.Profiles.{BaseIsWide, DuesAgree, EndsAgree, PlacesAgree, RunsAgree, UnderWayAgrees};
-ghost use Rattle.nbd_laws.specs.Replying.{RepliesAreWhole};
-ghost use Rattle.nbd_laws.specs.Selecting.{ContextsAreSelected, ContextsStay};
-ghost use Rattle.nbd_laws.specs.Sameness.{SameMarks, SameReports, ReportsIgnoreService};
-ghost use Rattle.nbd_laws.specs.Service.{CookiesAreDistinct, DisconnectsAreEmpty, EachReplyAnswersOne, EmptyIsExplained, NothingAfterDisconnect, RepliesEndAsTheyStart, ServedOnceAfterCompletion};
-ghost use Rattle.nbd_laws.specs.Explaining.{PassingIsExplained, ExplainedPasses};
+ghost use Rattle.nbd_laws.specs.{Soundness.{ReportsAreSound, SameMarks, SameReports, ReportsIgnoreService}, Announcing.SizesAreAnnounced, Granting.{HeadersAreGranted, HeadsAreInForce}, Bytes.{OpenBytesEndRuns, RunsHoldEachSide}, Prefixes.{CompletionsStandAfterBytes, PrefixesAreRuns, NoProperPrefix, StartsStandBeforeBytes, CutsDoNotCount}};
+ghost use Rattle.nbd_laws.specs.{Service.{LatestMoments, OrdersAreFaultless, CookiesAreDistinct, DisconnectsAreEmpty, EachReplyAnswersOne, EmptyIsExplained, NothingAfterDisconnect, RepliesEndAsTheyStart, ServedOnceAfterCompletion}, Negotiating.{AnswersFollowChoices, HandshakesAreFair}, Profiles.{BaseIsWide, DuesAgree, EndsAgree, PlacesAgree, RunsAgree, UnderWayAgrees}, Replying.RepliesAreWhole};
+ghost use Rattle.nbd_laws.specs.{Selecting.{ContextsAreSelected, ContextsStay}, Explaining.{PassingIsExplained, ExplainedPasses}};
 
 /// A run with given bytes and a given order of service exists exactly where a run with these bytes
 /// exists and the order has no fault.

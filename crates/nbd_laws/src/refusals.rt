@@ -3,14 +3,9 @@
 #![tactic(auto, using(crate::proofs::worked::WorkedPlaceLemmas::worked_places))]
 
 ghost use Rattle.std.specs.Prelude.{[], ◌∷◌};
-ghost use Rattle.nbd_wire.specs.Prelude.{flat, IsPlaceOf};
-ghost use Rattle.nbd_wire.specs.protocol.Places.{IsPlace};
-ghost use Rattle.nbd_wire.specs.declared.profile.Profile.TheVariants.{Base, Wide};
-ghost use Rattle.nbd_wire.specs.declared.fault.WireFault.TheVariants.{BadMagic, NotFixedNewstyle, BadClientFlags, OutOfTurn, OutOfProfile, UnknownCookie, BadDisconnect, IncompleteStatus};
-ghost use Rattle.nbd_wire.specs.declared.message.Message.TheVariants.{Greeting};
-ghost use Rattle.nbd_laws.specs.captures.Openings.{hasty_client};
+ghost use Rattle.nbd_wire.specs.{Prelude.{flat, IsPlaceOf, IsPlace}, declared.{profile.Profile.TheVariants.{Base, Wide}, fault.WireFault.TheVariants.{BadMagic, NotFixedNewstyle, BadClientFlags, OutOfTurn, OutOfProfile, UnknownCookie, BadDisconnect, IncompleteStatus}, message.Message.TheVariants.Greeting}};
+ghost use Rattle.nbd_laws.specs.captures.{Openings.hasty_client, Messages.{context_messages, opening_messages, status_asked_messages}};
 ghost use Rattle.nbd_laws.specs.captures.Refused as refused;
-ghost use Rattle.nbd_laws.specs.captures.Messages.{context_messages, opening_messages, status_asked_messages};
 
 /// The client speaks first.
 pub fn client_first()

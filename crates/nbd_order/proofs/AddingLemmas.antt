@@ -1,7 +1,7 @@
 -- Ranges, added request by request.
 use Rattle.nbd_order.proofs.{Common.{◌≡◌, ℕ, ◌+◌, List, [], ◌∷◌, sym, ◌∙◌, ap, Some, drop, slice_get, Asked, Piece, Span, is_in}, HereLemmas.joined_assoc, LeavingLemmas.drop_next, StretchLemmas.touches_push}
 use Rattle.std.specs.Prelude.{◌++◌}
-use Rattle.nbd_state.specs.Spans.{span_of}
+use Rattle.nbd_state.specs.Places.{span_of}
 use Rattle.nbd_wire.specs.Prelude.{holds}
 use Rattle.nbd_order.specs.{declared.{here.Here.Here, touches.Touch.Touch}, internal.Here.{here_if, joined, of_piece, pieces_here, request_here, requests_here, touch_here, touches_here}}
 

@@ -6,7 +6,7 @@ use Rattle.nbd_wire.specs.{declared.{entry.Entry.Entry, profile.Profile.Profile}
 use Rattle.nbd_export.specs.{declared.extents.Extents.Extents, Extents.{byte_of, size_of}, Held.{held, held_from}, Ranges.{AreSameBelow, overlay, unknown}}
 use Rattle.nbd_export.proofs.HeldLemmas.{held_from-same}
 use Rattle.nbd_laws.specs.Soundness.{IsSoundReport}
-use Rattle.nbd_judge.specs.Servable.{size_of as export_size}
+use Rattle.nbd_judge.specs.Beginnings.{size_of as export_size}
 use Rattle.nbd_judge.proofs.contents.StartLemmas.{left_same, report_of_conclusion}
 use Rattle.nbd_order.specs.{declared.leaving.Left.{Left, TheVariants.{Contents, NoExport, Refused}}, Leaving.{IsLeft, IsLeftOn, are_open_at, forgotten, is_open, is_open_at, left}}
 

@@ -1,5 +1,5 @@
 -- The tests of a request at one offset.
-use Rattle.nbd_order.proofs.Common.{◌≡◌, ℕ, ◌<◌, refl, inl, inr, ◌∙◌, ap, Option, Some, None, Bool, true, false, not, ◌&&◌, ◌||◌, ◌==◌, nat_le, nat_lt, arith, if◌then◌else◌, IsTrue, is_some, and_parts, eqb-true, ltb-true, or_cases, Profile, Base, Wide, effect, effect_if, is_success, GivesByte, Exporting, has_range, byte_at, is_in, Asked, Report, asked_at, due_by_chunk, due_of, first_shown, inside_asked, lesser_of, size_of, due_at, gives_byte, reads_at, IsBefore, IsReadAt}
+use Rattle.nbd_order.proofs.Common.{◌≡◌, ℕ, ◌<◌, refl, inl, inr, ◌∙◌, ap, Option, Some, None, Bool, true, false, not, ◌&&◌, ◌||◌, ◌==◌, nat_le, nat_lt, arith, if◌then◌else◌, IsTrue, is_some, and_parts, eqb-true, ltb-true, or_cases, Profile, Base, Wide, effect, option_map, is_success, GivesByte, Exporting, has_range, byte_at, is_in, Asked, Report, asked_at, due_by_chunk, due_of, first_shown, inside_asked, lesser_of, size_of, due_at, gives_byte, reads_at, IsBefore, IsReadAt}
 use Rattle.nbd_judge.proofs.orders.TableLemmas.{some_of}
 use Rattle.nbd_wire.specs.declared.commands.TheConstants as commands
 
@@ -27,7 +27,7 @@ read_at profile r k x a at h =
     record {
       gave = record {
         read = effect a;
-        is_request = ap effect_if at;
+        is_request = ap (option_map effect) at;
         is_read = gives.0;
         succeeded = two.0;
         inside = ap (λ o. inside_asked r.export o x) at ∙ lies_inside r.export a x gives.1 gives.2 four.0 four.1;

@@ -1,5 +1,5 @@
 -- What an order without a fault serves, and in which order.
-use Rattle.nbd_order.proofs.Common.{◌≡◌, ℕ, zero, suc, ◌<◌, ◌≤◌, inl, inr, List, length, refl, sym, ◌∙◌, ap, subst, Option, Some, None, true, false, not, ◌==◌, nat_lt, arith, slice_get, take, IsTrue, cases_lt, eqb-true, false_from_ne_true, lt-ltb, size_of, slice_get_cases, Entry, Part, Profile, IsAgain, IsMisplaced, in_part, is_served, Effect, effect, effect_if, effects, touches, Exporting, has_range, is_change, is_in, Asked, Report, asked_at, inside_asked, due_in, inside_in, IsFaultless, IsBefore}
+use Rattle.nbd_order.proofs.Common.{◌≡◌, ℕ, zero, suc, ◌<◌, ◌≤◌, inl, inr, List, length, refl, sym, ◌∙◌, ap, subst, Option, Some, None, true, false, not, ◌==◌, nat_lt, arith, slice_get, take, IsTrue, cases_lt, eqb-true, false_from_ne_true, lt-ltb, size_of, slice_get_cases, Entry, Part, Profile, IsAgain, IsMisplaced, in_part, is_served, Effect, effect, effects, touches, Exporting, has_range, is_change, is_in, Asked, Report, asked_at, inside_asked, due_in, inside_in, IsFaultless, IsBefore, option_map}
 use Rattle.nbd_order.proofs.{OffsetLemmas.lies_inside, TouchLemmas.{from_taken, is_served_by, is_served_from, names_by, served_at, taken}}
 use Rattle.nbd_wire.specs.declared.commands.TheConstants as commands
 
@@ -7,13 +7,13 @@ use Rattle.nbd_wire.specs.declared.commands.TheConstants as commands
 pub change_ranged : (command : ℕ) → is_change command ≡ true → (has_range command ≡ true) × (not (command == commands.BLOCK_STATUS) ≡ true)
 change_ranged command h = (grind arith, grind (arith, eqb-true))
 
-pub in_range : (export : Option Exporting) (o : Option Asked) (e : Effect) (x : ℕ) → effect_if o ≡ Some e → IsTrue (inside_asked export o x)
+pub in_range : (export : Option Exporting) (o : Option Asked) (e : Effect) (x : ℕ) → (option_map effect) o ≡ Some e → IsTrue (inside_asked export o x)
     → IsTrue (is_in e.offset e.length x) × ((s : Exporting) × (export ≡ Some s) × (x < s.size))
 in_range export None e x q h = absurd (cc)
 in_range None (Some a) e x q h = absurd (grind arith)
 in_range (Some s) (Some a) e x q h = (let same : effect a ≡ e = cc in (ap (λ (d : Effect). is_in d.offset d.length x) (sym same) ∙ grind arith, (s, refl, grind arith)))
 
-pub is_inside : (export : Option Exporting) (o : Option Asked) (e : Effect) (x : ℕ) (s : Exporting) → effect_if o ≡ Some e → IsTrue (touches None e x) → export ≡ Some s → x < s.size
+pub is_inside : (export : Option Exporting) (o : Option Asked) (e : Effect) (x : ℕ) (s : Exporting) → (option_map effect) o ≡ Some e → IsTrue (touches None e x) → export ≡ Some s → x < s.size
     → IsTrue (inside_asked export o x)
 is_inside export None e x s q t p l = absurd (cc)
 is_inside export (Some a) e x s q t p l =
@@ -23,7 +23,7 @@ is_inside export (Some a) e x s q t p l =
     let w = change_ranged a.command c in
     lies_inside export a x (grind (arith, w.1)) w.0 (grind arith) (ap (λ o. nat_lt x (size_of o)) p ∙ lt-ltb x s.size l)
 
-pub numbered : (k : ℕ) (asked : List Asked) (e : Effect) → effect_if (asked_at k asked) ≡ Some e → (0 < k) × (k ≤ length asked)
+pub numbered : (k : ℕ) (asked : List Asked) (e : Effect) → (option_map effect) (asked_at k asked) ≡ Some e → (0 < k) × (k ≤ length asked)
 numbered zero asked e q = absurd (cc)
 numbered (suc k) asked e q = elim (slice_get_cases asked k).1 [
   | inl some ↦ (let l = some.1 in omega (arith, l))

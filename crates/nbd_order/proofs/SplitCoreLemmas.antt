@@ -1,10 +1,10 @@
 -- What messages lead to behind requests that are finished, and what they lead to without these.
 use Rattle.nbd_order.proofs.Common.{◌≡◌, ℕ, zero, suc, ◌+◌, ◌<◌, ◌≤◌, ◌==◌, List, [], ◌∷◌, length, refl, sym, ap, subst, ◌∙◌, Bool, true, false, not, Option, Some, None, arith, Entry, Item, Exporting, cases_Bool, inl, inr}
-use Rattle.std.specs.Prelude.{◌++◌}
+use Rattle.std.specs.Prelude.{◌++◌, option_and_then}
 use Rattle.std.proofs.Common.{append_assoc, length-append}
 use Rattle.nbd_wire.specs.declared.commands.TheConstants as commands
 use Rattle.nbd_wire.specs.declared.message.Message.{Message, TheVariants.{Simple, Chunk, ExtendedChunk}}
-use Rattle.nbd_wire.specs.Prelude.{Byte, Starts, Completes, Serves, without_service, Operation, is_finished, Obeys, cookie_of, core_with_request, filter_in, inside_at, inside_operation, is_reply_to, is_this, makes_due, reply_to, request_of_reply, target_of, written, Filter, sizes_kept, Core, Transmission, export_in, has_contexts, in_force, operation, target_from, with_reply_at}
+use Rattle.nbd_wire.specs.Prelude.{Byte, Starts, Completes, Serves, without_service, Operation, is_finished, Obeys, cookie_of, core_with_request, filter_in, inside_at, inside_operation, is_reply_to, is_this, makes_due, reply_to, request_of_reply, written, Filter, sizes_kept, Core, Transmission, export_in, has_contexts, in_force, operation, target_from, with_reply_at}
 use Rattle.nbd_wire.specs.protocol.Rules.{is_by_chunk, operation_asked}
 unfoldable use Rattle.nbd_wire.specs.protocol.{Rules.complete, States.target}
 use Rattle.nbd_laws.proofs.{runs.{PrefixLemmas.{InTransmission, asks, asks_more, gives as gives_chunk, gives_more, in_transmission, phase-complete, replies}, TraceLemmas.{answered_by-within, due_within}}, service.{DueLemmas.{known_if, due_from, or_later}, InsideLemmas.{core_end, entries_grow}}}
@@ -28,7 +28,7 @@ target_plus : (n i cookie : ℕ) (es : List Operation) → target_from (n + i) c
 target_plus n i cookie [] = refl
 target_plus n i cookie (e ∷ es) = grind (arith, target_plus n (suc i) cookie es)
 
-pub target_of_behind : (o : Option ℕ) (done es : List Operation) → AllDone done → target_of o (done ++ es) ≡ plus (length done) (target_of o es)
+pub target_of_behind : (o : Option ℕ) (done es : List Operation) → AllDone done → option_and_then (λ k. target k (done ++ es)) o ≡ plus (length done) (option_and_then (λ k. target k es) o)
 unfolding target
 target_of_behind None done es d = refl
 target_of_behind (Some cookie) done es d = grind (arith, target_behind 0 cookie done es d, target_plus (length done) 0 cookie es)
@@ -93,7 +93,7 @@ answered_behind done c d b m (Some k) within = record {
 }
 
 pub answers_behind : (done : List Operation) (c d : Core) → AllDone done → Behind done c d → (m : Message) → request_of_reply c m ≡ plus (length done) (request_of_reply d m)
-answers_behind done c d all b m = ap (target_of (cookie_of m)) b.entries ∙ target_of_behind (cookie_of m) done d.entries all
+answers_behind done c d all b m = ap (λ es. option_and_then (λ k. target k es) (cookie_of m)) b.entries ∙ target_of_behind (cookie_of m) done d.entries all
 
 replied_behind : (done : List Operation) (c d : Core) → AllDone done → Behind done c d → (m : Message) → Behind done (reply_to (request_of_reply c m) c m) (reply_to (request_of_reply d m) d m)
 replied_behind done c d all b m =

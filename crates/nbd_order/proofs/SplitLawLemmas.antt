@@ -1,9 +1,9 @@
 -- A session in two parts is judged as the two are, one after the other.
 use Rattle.nbd_order.proofs.Common.{◌≡◌, ℕ, zero, suc, ◌+◌, ◌<◌, ◌≤◌, List, [], ◌∷◌, length, refl, sym, ap, subst, ◌∙◌, Option, Some, None, arith, take, slice_get, cases_lt, inl, inr, if◌then◌else◌, slice_get_within, Profile, Entry, Item, FitsImage, Start, start_byte, Effect, IsWrong, byte_before, byte_or_start, effects, last_touch, later, touch_of, Exporting, Report, due_in, inside_in, report, Passes, ExplainedPasses, PassingIsExplained, size_of}
 use Rattle.nbd_order.proofs.{ChainLemmas.{left_behind, take_whole}, SplitLemmas.{AreParts, are_parts}, SplitOrderLemmas.{AreLow, AreNamed, Each, in_parts, in_whole, low_of_fine, named_of_fine, parted}, TouchLemmas.{later_later, later_none}}
-use Rattle.std.specs.{Prelude.{◌++◌, ◌-◌}, Option.option_map}
+use Rattle.std.specs.{Prelude.{◌++◌, ◌-◌, unwrap_or}, Option.option_map}
 use Rattle.std.proofs.{Math.Seq.take-append-add, lemmas.{List.{take-append-le, take-map}, Option.slice_get-map}}
-use Rattle.nbd_wire.specs.Prelude.{IsWrongIn, IsWrongOf, IsExplainedOf, known, pairs}
+use Rattle.nbd_wire.specs.Prelude.{IsWrongIn, IsWrongOf, IsExplainedOf, pairs}
 use Rattle.nbd_export.proofs.HeldLemmas.{length-held_from, slice_get-held_from}
 use Rattle.nbd_laws.proofs.service.{EntryLemmas.HasNoFault, IndexLemmas.{by_entries, by_index}}
 use Rattle.nbd_laws.specs.Soundness.{ReportsAreSound}
@@ -132,7 +132,7 @@ module _ (profile : Profile) (n : ℕ) (r r1 r2 : Report) (export : Exporting) (
 start_is : (r : Report) (order : List Entry) (initial : Start) (export : Exporting) → r.export ≡ Some export → (x : ℕ) → x < export.size → start_byte (start_behind r order initial) x ≡ left r order (start_byte initial) x
 start_is r order initial export is x l =
     let size : size_of r.export ≡ export.size = ap size_of is in
-    ap known (slice_get-held_from (left r order (start_byte initial)) 0 (size_of r.export) x (omega (arith, l, size))) ∙ ap (left r order (start_byte initial)) (let q : 0 + x ≡ x = omega arith in q)
+    ap (λ o. unwrap_or o None) (slice_get-held_from (left r order (start_byte initial)) 0 (size_of r.export) x (omega (arith, l, size))) ∙ ap (left r order (start_byte initial)) (let q : 0 + x ≡ x = omega arith in q)
 
 start_fits : (r : Report) (order : List Entry) (initial : Start) (other : Option Exporting) (export : Exporting) → r.export ≡ Some export → other ≡ Some export → FitsImage other (start_behind r order initial)
 start_fits r order initial other export is same = subst (λ o. FitsImage o (start_behind r order initial)) (sym same) (length-held_from (left r order (start_byte initial)) 0 (size_of r.export) ∙ ap size_of is)

@@ -1,5 +1,5 @@
 -- A session in two parts: what its report has of those of the parts.
-use Rattle.nbd_order.proofs.Common.{◌≡◌, ℕ, zero, suc, ◌+◌, ◌<◌, ◌≤◌, ◌&&◌, ◌||◌, List, [], ◌∷◌, length, refl, sym, ap, subst, ◌∙◌, Bool, true, false, not, Option, Some, None, arith, nat_le, if◌then◌else◌, Profile, Base, Item, Effect, effect, effect_if, effects, Exporting, Asked, Report, asked_at, due_by_chunk, due_in, due_of, first_shown, inside_in, lesser_of, is_change, is_in}
+use Rattle.nbd_order.proofs.Common.{◌≡◌, ℕ, zero, suc, ◌+◌, ◌<◌, ◌≤◌, ◌&&◌, ◌||◌, List, [], ◌∷◌, length, refl, sym, ap, subst, ◌∙◌, Bool, true, false, not, Option, Some, None, arith, nat_le, if◌then◌else◌, Profile, Base, Item, Effect, effect, effects, Exporting, Asked, Report, asked_at, due_by_chunk, due_in, due_of, first_shown, inside_in, lesser_of, is_change, is_in, option_map}
 use Rattle.nbd_order.proofs.{SplitCoreLemmas.{AllDone, Behind, due_append, due_completed, due_unserved, end_append, end_unserved, items_behind, operation_before, operation_behind, plus}, TimedLemmas.ended_at_end}
 use Rattle.std.specs.Prelude.{◌++◌}
 use Rattle.std.proofs.Common.{append-nil, length-append}
@@ -34,12 +34,12 @@ abbrev effect_op : Option Exporting → Option Operation → Option Effect
 effect_op export (Some e) = Some (effect (asked_of export None [] None e))
 effect_op export None = None
 
-effect_told : (core : Core) (κ : ℕ → Option ℕ) (k : ℕ) (o : Option Operation) → effect_if (told_if core κ k o) ≡ effect_op (export_in core.phase) o
+effect_told : (core : Core) (κ : ℕ → Option ℕ) (k : ℕ) (o : Option Operation) → (option_map effect) (told_if core κ k o) ≡ effect_op (export_in core.phase) o
 effect_told core κ k (Some e) = refl
 effect_told core κ k None = refl
 
 effect_report : (items : List Item) (k : ℕ) → effects (report items) k ≡ effect_op (export_in (core_of items).phase) (operation k (core_of items).entries)
-effect_report items k = ap effect_if (asked-report items k) ∙ effect_told (core_of items) (known_count items) k (operation k (core_of items).entries)
+effect_report items k = ap (option_map effect) (asked-report items k) ∙ effect_told (core_of items) (known_count items) k (operation k (core_of items).entries)
 
 inside_report : (items : List Item) (k : ℕ) → inside_in (report items) k ≡ inside_operation (export_in (core_of items).phase) (operation k (core_of items).entries)
 inside_report items k = ap (λ f. f k) (inside-report items)

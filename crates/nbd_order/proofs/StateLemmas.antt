@@ -1,9 +1,9 @@
 -- The tests of a refutation's states.
-use Rattle.nbd_order.proofs.Common.{◌≡◌, ℕ, ◌+◌, ◌<◌, ◌≤◌, inl, inr, List, length, refl, sym, ◌∙◌, ap, subst, Option, Some, get_or, arith, slice_get, nat_lt, true, false, cases_eq, ltb-true, get_or_from_slice_get, slice_get_read, slice_get_within, Profile, Effect, effect, effect_byte, effect_if, effects, Asked, Report, asked_at, has, State, AreSteps, Fits, Leads}
+use Rattle.nbd_order.proofs.Common.{◌≡◌, ℕ, ◌+◌, ◌<◌, ◌≤◌, inl, inr, List, length, refl, sym, ◌∙◌, ap, subst, Option, Some, get_or, arith, slice_get, nat_lt, true, false, cases_eq, ltb-true, get_or_from_slice_get, slice_get_read, slice_get_within, Profile, Effect, effect, effect_byte, option_map, effects, Asked, Report, asked_at, has, State, AreSteps, Fits, Leads}
 
 -- the effect of a request that was found
 pub same_effect : (r : Report) (k : ℕ) (a : Asked) (e : Effect) → asked_at k r.asked ≡ Some a → effects r k ≡ Some e → effect a ≡ e
-same_effect r k a e at is = (let q : Some (effect a) ≡ Some e = sym (ap effect_if at) ∙ is in cc)
+same_effect r k a e at is = (let q : Some (effect a) ≡ Some e = sym (ap (option_map effect) at) ∙ is in cc)
 
 pub byte_is : (r : Report) (k x : ℕ) (a : Asked) (e : Effect) (b : Option ℕ) → asked_at k r.asked ≡ Some a → effects r k ≡ Some e → b ≡ effect_byte (effect a) x → b ≡ effect_byte e x
 byte_is r k x a e b at is left = left ∙ ap (λ f. effect_byte f x) (same_effect r k a e at is)

@@ -1,5 +1,5 @@
 -- What is sure is left by each order that explains the session.
-use Rattle.nbd_order.proofs.Common.{◌≡◌, ℕ, zero, suc, ◌<◌, ◌≤◌, inl, inr, List, [], ◌∷◌, refl, sym, ◌∙◌, ap, Option, Some, None, Bool, true, false, not, ◌==◌, ◌&&◌, ◌||◌, if◌then◌else◌, arith, get_or, length, drop, slice_get, take, and_from, and_parts, cases_Bool, cases_eq, cases_lt, eqb-true, or_cases, take_all, Asked, Piece, Report, Profile, Entry, Part, Exporting, Effect, IsWrong, ExplainedPasses, IsFaultless, report, asked_at, byte_before, byte_or_start, due_in, due_of, effect, effect_byte, effect_if, effects, has_range, in_part, inside_in, is_change, is_in, is_success, last_touch, later, piece_offset, piece_size, start_byte, touch_of}
+use Rattle.nbd_order.proofs.Common.{◌≡◌, ℕ, zero, suc, ◌<◌, ◌≤◌, inl, inr, List, [], ◌∷◌, refl, sym, ◌∙◌, ap, Option, Some, None, Bool, true, false, not, ◌==◌, ◌&&◌, ◌||◌, if◌then◌else◌, arith, get_or, length, drop, slice_get, take, and_from, and_parts, cases_Bool, cases_eq, cases_lt, eqb-true, or_cases, take_all, Asked, Piece, Report, Profile, Entry, Part, Exporting, Effect, IsWrong, ExplainedPasses, IsFaultless, report, asked_at, byte_before, byte_or_start, due_in, due_of, effect, effect_byte, effects, has_range, in_part, inside_in, is_change, is_in, is_success, last_touch, later, piece_offset, piece_size, start_byte, touch_of, option_map}
 use Rattle.nbd_order.proofs.{ServiceLemmas.change_ranged, SettleLemmas.sound_asked, SureLemmas.{HasAt, last_has}, TimedLemmas.{IsTimed, timed}, ToldLemmas.{any_counted, count_more}, TouchLemmas.{ServesAt, is_served_from, served_at}}
 use Rattle.std.specs.{Prelude.{◌-◌, count_by}, List.list_any}
 use Rattle.std.proofs.lemmas.{Option.slice_get-get_or, Bool.{le-leb, lt-ltb, leb-true, or_parts}}
@@ -109,11 +109,11 @@ module _ (requests : ℕ → Option Effect) (x : ℕ) where
   touch_taken (c ∷ es) (suc j) none = ap (λ t. later t (touch_of c.part (requests c.request) x)) (touch_taken es j (λ i d l at. none (suc i) d (omega arith) at))
 
 -- what touches x is a change at x, and the entry serves x
-touch_parts : (p : Option Part) (o : Option Asked) (x : ℕ) (f : Effect) → touch_of p (effect_if o) x ≡ Some f → (a : Asked) × (o ≡ Some a) × (effect a ≡ f) × (changes x a ≡ true) × (in_part p x ≡ true)
+touch_parts : (p : Option Part) (o : Option Asked) (x : ℕ) (f : Effect) → touch_of p ((option_map effect) o) x ≡ Some f → (a : Asked) × (o ≡ Some a) × (effect a ≡ f) × (changes x a ≡ true) × (in_part p x ≡ true)
 touch_parts p None x f e = absurd (cc)
 touch_parts p (Some a) x f e = (a, refl, grind arith, grind arith, grind arith)
 
-touch_from : (p : Option Part) (o : Option Asked) (x : ℕ) (a : Asked) → o ≡ Some a → changes x a ≡ true → in_part p x ≡ true → touch_of p (effect_if o) x ≡ Some (effect a)
+touch_from : (p : Option Part) (o : Option Asked) (x : ℕ) (a : Asked) → o ≡ Some a → changes x a ≡ true → in_part p x ≡ true → touch_of p ((option_map effect) o) x ≡ Some (effect a)
 touch_from p o x a at ch part = grind arith
 
 not_chunked : (p : Profile) (c : ℕ) → (c == commands.READ) ≡ false → is_chunked p c ≡ false
@@ -308,7 +308,7 @@ module _ (profile : Profile) (r : Report) (sound : IsSoundReport r) (times : (k 
               read_entry.2,
               (
                 effect reading.0,
-                ap (effects r) read_entry.3 ∙ ap effect_if reading.1,
+                ap (effects r) read_entry.3 ∙ ap (option_map effect) reading.1,
                 (
                   inl command,
                   succeeds.1,

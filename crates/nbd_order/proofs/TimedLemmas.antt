@@ -1,15 +1,15 @@
 -- Of each request that is finished it is noted when its reply began and ended.
+use Rattle.std.specs.{List.list_any, Prelude.{◌++◌, ◌⊎◌}}
 use Rattle.nbd_order.proofs.Common.{◌≡◌, ℕ, zero, suc, inl, inr, List, [], ◌∷◌, refl, sym, ◌∙◌, ap, subst, Option, Some, None, Bool, true, false, ◌&&◌, ◌||◌, ◌==◌, arith, is_some, length, and_from, eq-eqb, or_cases, Asked, Item, IsRunOf, Profile, asked_at, report}
-use Rattle.std.specs.Prelude.{◌++◌, ◌⊎◌}
 use Rattle.nbd_judge.proofs.orders.TableLemmas.{some_of}
 use Rattle.nbd_laws.proofs.{requests.ReportLemmas.{asked-report, stated, told_if}, runs.{ProfileLemmas.at_base, ReachLemmas.run_reaches}, service.SoonerLemmas.sooner_at_end}
 use Rattle.nbd_laws.specs.Reached.{IsReached, at_start, after_message}
-use Rattle.nbd_wire.specs.{declared.message.Message.{Message, TheVariants.{Chunk, ExtendedChunk, ExtendedRequest, Request, Simple}}, Prelude.{Operation, any, ends_reply, is_finished, known_count, operations_of, core_with_request, ends_at, noted, reply_to, request_of_reply, Core, operation, start, start_of, with_reply, with_reply_at, is_answered}, protocol.Rules.complete}
+use Rattle.nbd_wire.specs.{declared.message.Message.{Message, TheVariants.{Chunk, ExtendedChunk, ExtendedRequest, Request, Simple}}, Prelude.{Operation, ends_reply, is_finished, known_count, operations_of, core_with_request, ends_at, noted, reply_to, request_of_reply, Core, operation, start, start_of, with_reply, with_reply_at, is_answered}, protocol.Rules.complete}
 use Rattle.nbd_wire.specs.declared.commands.TheConstants as commands
 
 -- of each reply that is finished the end is noted
 abbrev NotesEnds : Core → Type 0
-NotesEnds core = (k : ℕ) (e : Operation) → operation k core.entries ≡ Some e → any ends_reply e.replies ≡ true → is_some (core.ended_at k) ≡ true
+NotesEnds core = (k : ℕ) (e : Operation) → operation k core.entries ≡ Some e → list_any ends_reply e.replies ≡ true → is_some (core.ended_at k) ≡ true
 
 noted_still : (o : Option ℕ) (b : Bool) (n : ℕ) → is_some o ≡ true → is_some (noted o b n) ≡ true
 noted_still o b n e = grind arith
@@ -17,7 +17,7 @@ noted_still o b n e = grind arith
 noted_now : (o : Option ℕ) (n : ℕ) → is_some (noted o true n) ≡ true
 noted_now o n = grind arith
 
-any_more : (p : Message → Bool) (ms : List Message) (m : Message) → any p (ms ++ m ∷ []) ≡ (any p ms || p m)
+any_more : (p : Message → Bool) (ms : List Message) (m : Message) → list_any p (ms ++ m ∷ []) ≡ (list_any p ms || p m)
 any_more p [] m = grind arith
 any_more p (d ∷ ms) m = grind (arith, any_more p ms m)
 
@@ -46,17 +46,17 @@ notes_reply : (o : Option ℕ) (core : Core) (m : Message) → NotesEnds core �
 notes_reply None core m h = h
 notes_reply (Some j) core m h = λ k e at ends. elim (replied j k m core.entries e at) [
   | inl was ↦ noted_still (core.ended_at k) ((j == k) && ends_reply m) (length core.entries) (h k e was ends)
-  | inr now ↦ elim (or_cases (any ends_reply now.1.0.replies) (ends_reply m) (sym (any_more ends_reply now.1.0.replies m) ∙ ap (λ (y : Operation). any ends_reply y.replies) (sym now.1.2) ∙ ends)) [
+  | inr now ↦ elim (or_cases (list_any ends_reply now.1.0.replies) (ends_reply m) (sym (any_more ends_reply now.1.0.replies m) ∙ ap (λ (y : Operation). list_any ends_reply y.replies) (sym now.1.2) ∙ ends)) [
     | inl before ↦ noted_still (core.ended_at k) ((j == k) && ends_reply m) (length core.entries) (h k now.1.0 now.1.1 before)
     | inr here ↦ ap (λ b. is_some (noted (core.ended_at k) b (length core.entries))) (and_from (j == k) (ends_reply m) (eq-eqb j k now.0) here) ∙ noted_now (core.ended_at k) (length core.entries)
   ]
 ]
 
-notes_request : (b : Bool) (core : Core) (d : Operation) → any ends_reply d.replies ≡ false → NotesEnds core → NotesEnds (core_with_request b core d)
+notes_request : (b : Bool) (core : Core) (d : Operation) → list_any ends_reply d.replies ≡ false → NotesEnds core → NotesEnds (core_with_request b core d)
 notes_request true core d none h = h
 notes_request false core d none h = λ k e at ends. elim (asked_new k core.entries d e at) [
   | inl was ↦ h k e was ends
-  | inr now ↦ absurd (cc (ap (λ (y : Operation). any ends_reply y.replies) now))
+  | inr now ↦ absurd (cc (ap (λ (y : Operation). list_any ends_reply y.replies) now))
 ]
 
 notes_complete : (core : Core) (m : Message) → NotesEnds core → NotesEnds (complete core m)

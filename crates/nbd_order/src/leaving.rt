@@ -4,7 +4,7 @@ ghost use Rattle.std.specs.Prelude.{◌≡◌, ℕ, IfOk, MatchBool, OnOk};
 ghost use Rattle.nbd_export.specs.{Ranges.AreSameBelow, Extents.{byte_of, size_of}};
 ghost use Rattle.nbd_judge.specs.{Beginnings.initial_of, Captures.SaysYes};
 ghost use Rattle.nbd_order.specs.{Leaving.{IsLeft, IsLeftOn, IsLeftWithout, forgotten, is_open}, Sure.IsLeftByEach};
-ghost use Rattle.nbd_judge.specs.Servable as judged;
+ghost use Rattle.nbd_judge.specs.Beginnings as judged;
 ghost use Rattle.nbd_state.specs.Transcripts.{report_of_request};
 
 use crate::sweep::sweep;

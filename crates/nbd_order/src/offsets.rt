@@ -1,6 +1,6 @@
 //! What a request does at one offset.
 
-ghost use Rattle.std.specs.Prelude.{◌≡◌, IsTrue, MatchBool, MatchOption, true, false, slice_get};
+ghost use Rattle.std.specs.Prelude.{◌≡◌, IsTrue, MatchBool, MatchOption, true, false, slice_get, unwrap_or, None};
 ghost use Rattle.nbd_export.specs.Held.{held};
 ghost use Rattle.nbd_judge.specs.Beginnings.{initial_of};
 ghost use Rattle.nbd_state.specs.Transcripts.{report_of_request};
@@ -101,7 +101,7 @@ pub fn start_byte(start: &Start, offset: u64) -> Option<u8>
 
 // The byte that contents have at an offset, if they have one there and it is known.
 fn given_byte(contents: &Extents, offset: u64) -> Option<u8>
-    ensures { result ≡ explains.known (slice_get (held contents.now) offset) }
+    ensures { result ≡ unwrap_or (slice_get (held contents.now) offset) None }
 {
     if offset < contents.size() {
         contents.byte_at(offset)

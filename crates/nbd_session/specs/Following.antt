@@ -1,14 +1,7 @@
 -- A session that a monitor follows.
 use Rattle.std.specs.Prelude.{◌≡◌, ◌++◌, ℕ, List, Some, None, Result, Err, IfErr, OnOk}
-use Rattle.nbd_wire.specs.declared.message.Side.{Side}
-use Rattle.nbd_wire.specs.Prelude.{side_pairs}
-use Rattle.nbd_session.specs.Incoming.{bytes_come}
-use Rattle.nbd_session.specs.Refusals.{Refuses}
-use Rattle.nbd_session.specs.Sessions.{AddsPrefix, SessionView, pairs_of}
-use Rattle.nbd_session.specs.declared.fault.SessionFault.{SessionFault}
-use Rattle.nbd_session.specs.declared.monitor.Monitor.{Monitor}
-use Rattle.nbd_session.specs.internal.Standing.{Past}
-use Rattle.nbd_session.specs.internal.Steps.{IsKept}
+use Rattle.nbd_wire.specs.{declared.message.Side.Side, Prelude.side_pairs}
+use Rattle.nbd_session.specs.{Incoming.bytes_come, Refusals.Refuses, Sessions.{AddsPrefix, SessionView, pairs_of}, declared.{fault.SessionFault.SessionFault, monitor.Monitor.Monitor}, internal.{Standing.Past, Steps.IsKept}}
 
 -- what a session was given
 abbrev pub past_of : SessionView → Past

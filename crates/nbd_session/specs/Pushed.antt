@@ -1,10 +1,6 @@
--- What a session holds of the bytes that it was given: each side's messages and what came after them, and how the two
--- sides alternated.
+-- What a session holds of the bytes that it was given: messages and what came after them, and how the sides alternated.
 use Rattle.std.specs.Prelude.{◌≡◌, ◌+◌, ℕ, List, [], ◌∷◌, ◌++◌, take, drop, length, if◌then◌else◌}
-use Rattle.nbd_wire.specs.declared.message.Side.{Side}
-use Rattle.nbd_wire.specs.declared.message.Side.TheVariants.{Client, Server}
-use Rattle.nbd_wire.specs.declared.message.Message.{Message}
-use Rattle.nbd_wire.specs.Prelude.{Pair, side_pairs, same_side}
+use Rattle.nbd_wire.specs.{declared.message.{Side.{Side, TheVariants.{Client, Server}}, Message.Message}, Prelude.{Pair, side_pairs, same_side}}
 use Rattle.nbd_laws.specs.Bytes.{bytes_from, bytes_of, of_two}
 
 -- bytes of one side that follow each other, by their number

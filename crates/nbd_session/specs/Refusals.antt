@@ -1,14 +1,7 @@
 -- What a session's fault says of the bytes that it was given and of its messages.
 use Rattle.std.specs.Prelude.{◌≡◌, ◌≢◌, ◌⊎◌, ◌∷◌, ◌++◌, ℕ, List, [], Option, Some, None, length}
-use Rattle.nbd_wire.specs.declared.profile.Profile.{Profile}
-use Rattle.nbd_wire.specs.declared.message.Message.{Message}
-use Rattle.nbd_wire.specs.Prelude.{Pair, Reader, IsPlaceOf, IsUnderWayOf, CompletesExactlyOf, IsOfNoRunOf}
-use Rattle.nbd_wire.specs.protocol.Within.{BeginsNoRunOf}
-use Rattle.nbd_wire.specs.declared.fault.WireFault.{WireFault}
-use Rattle.nbd_wire.specs.declared.fault.WireFault.TheVariants.{Unfinished}
-use Rattle.nbd_session.specs.declared.fault.SessionFault.{SessionFault}
-use Rattle.nbd_session.specs.declared.fault.SessionFault.TheVariants.{Memory, Wire}
-use Rattle.nbd_session.specs.Sessions.{SessionView, pairs_of, bytes_taken}
+use Rattle.nbd_wire.specs.{declared.{profile.Profile.Profile, message.Message.Message, fault.WireFault.{WireFault, TheVariants.Unfinished}}, Prelude.{Pair, IsPlaceOf, IsUnderWayOf, CompletesExactlyOf, IsOfNoRunOf, BeginsNoRunOf}}
+use Rattle.nbd_session.specs.{declared.fault.SessionFault.{SessionFault, TheVariants.{Memory, Wire}}, Sessions.{SessionView, pairs_of, bytes_taken}}
 
 -- a fault at the last of these bytes, which is the place that the profile's rules name, with these messages: no run
 -- begins with them, and before the last one exactly these messages complete in each run that begins so
@@ -30,31 +23,17 @@ pub record IsAcceptedOf (profile : Profile) (ps : List Pair) (messages : List Me
   pub placeless : HasNoPlaceOf profile ps
   pub all : CompletesExactlyOf profile ps messages
 
--- bytes of a side are open where reading stands
-abbrev pub LeavesOpen : Reader → Type 0
-LeavesOpen end = (end.rests.client.bytes ≢ []) ⊎ (end.rests.server.bytes ≢ [])
-
--- an end within a message: the bytes were taken without a fault, some are open at their end, and no run has exactly
--- these bytes
+-- an end within a message: no fault was met, some bytes are open at their end, and no run has exactly these bytes
 pub record IsOpenEndOf (profile : Profile) (ps : List Pair) (messages : List Message) : Type 0 where
   pub accepted : IsAcceptedOf profile ps messages
-  pub leaves_open : LeavesOpen accepted.under_way.end
+  pub leaves_open : (accepted.under_way.end.rests.client.bytes ≢ []) ⊎ (accepted.under_way.end.rests.server.bytes ≢ [])
   pub none : IsOfNoRunOf profile ps
 
--- a capture is refused at the last byte of a prefix of it
-pub record IsRefusedAtOf (profile : Profile) (capture : List Pair) (messages : List Message) (at : ℕ)
-    (fault : WireFault) : Type 0 where
-  pub prefix : List Pair
-  pub rest : List Pair
-  pub parts : prefix ++ rest ≡ capture
-  pub at_is : at ≡ length prefix
-  pub refusal : IsRefusalOf profile prefix messages fault
-
--- the fault of a capture, and the messages that completed before it: at a byte, or at the end of all
-abbrev pub IsWireFaultOf : Profile → (capture : List Pair) (messages : List Message) (at : ℕ) (fault : WireFault)
-    → Type 0
+-- the fault of a capture, and the messages that completed before it: at the last byte of a prefix, or at the end of all
+abbrev pub IsWireFaultOf : Profile → (capture : List Pair) → List Message → (at : ℕ) → WireFault → Type 0
 IsWireFaultOf profile capture messages at fault =
-    IsRefusedAtOf profile capture messages at fault
+    ((prefix : List Pair) × (rest : List Pair) × (prefix ++ rest ≡ capture) × (at ≡ length prefix)
+    × IsRefusalOf profile prefix messages fault)
     ⊎ (fault ≡ Unfinished) × (at ≡ length capture) × IsOpenEndOf profile capture messages
 
 -- a session that answers this fault was refused at the last byte that it took; of out of memory nothing is said

@@ -1,14 +1,7 @@
 -- What a session holds, what of a run that is, and what a piece adds to it.
 use Rattle.std.specs.Prelude.{◌≡◌, ◌++◌, ℕ, List, [], Option, Some, None, Result, Ok, Err, length}
-use Rattle.nbd_wire.specs.declared.profile.Profile.{Profile}
-use Rattle.nbd_wire.specs.declared.profile.Profile.TheVariants.{Base}
-use Rattle.nbd_wire.specs.declared.message.Message.{Message}
-use Rattle.nbd_wire.specs.declared.message.Side.{Side}
-use Rattle.nbd_wire.specs.Prelude.{Item, completed_messages, pairs, Pair, side_pairs, Report, report, IsRunOf, IsRunBut}
-use Rattle.nbd_session.specs.Pushed.{Stretch, pushed_pairs}
-use Rattle.nbd_session.specs.declared.fault.SessionFault.{SessionFault}
-use Rattle.nbd_session.specs.declared.fault.SessionFault.TheVariants.{Memory, Wire}
-use Rattle.nbd_wire.specs.declared.fault.WireFault.TheVariants.{Unfinished}
+use Rattle.nbd_wire.specs.{declared.{profile.Profile.{Profile, TheVariants.Base}, message.{Message.Message, Side.Side}, fault.WireFault.TheVariants.Unfinished}, Prelude.{Item, completed_messages, pairs, Pair, side_pairs, Report, report, IsRunOf, IsRunBut}}
+use Rattle.nbd_session.specs.{Pushed.{Stretch, pushed_pairs}, declared.fault.SessionFault.{SessionFault, TheVariants.{Memory, Wire}}}
 
 -- the profile that the session is held to, the accepted messages in the order of their completion, each side's bytes
 -- after its messages, the stretches of all bytes, and the fault that closed the session, if one did
@@ -93,8 +86,7 @@ empty_session_of profile = record {
 abbrev pub empty_session : SessionView
 empty_session = empty_session_of Base
 
--- some run of the session's profile has exactly the bytes that were taken and these messages, and the report of any
--- such run is this one
+-- some run of the profile has exactly the bytes that were taken and these messages, and each such run this report
 pub record IsReported (r : SessionView) (found : Report) : Type 0 where
   pub items : List Item
   pub is_run : IsRunOf r.profile items

@@ -1,11 +1,7 @@
 -- A session as the program has it.
 use Rattle.std.specs.Prelude.{List, map}
-use Rattle.nbd_session.specs.Incoming.{bytes_come}
-use Rattle.nbd_session.specs.Pushed.{Stretch}
+use Rattle.nbd_session.specs.{Incoming.bytes_come, Pushed.Stretch, declared.{log.Log.Log, monitor.Monitor.Monitor}, Sessions.SessionView}
 use Rattle.nbd_session.specs.declared.stretches.Stretch as program
-use Rattle.nbd_session.specs.declared.log.Log.{Log}
-use Rattle.nbd_session.specs.declared.monitor.Monitor.{Monitor}
-use Rattle.nbd_session.specs.Sessions.{SessionView}
 
 -- a stretch as the program has it
 abbrev pub stretch_of : program.Stretch → Stretch

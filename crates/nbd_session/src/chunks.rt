@@ -3,17 +3,11 @@
 
 ghost use Rattle.std.specs.Prelude.{ℕ, Bool, ◌≡◌, ◌+◌, ◌==◌, ◌&&◌, ◌||◌, None, Some, false, is_some, length, not};
 ghost use Rattle.nbd_wire.specs.declared.chunks.TheConstants as chunks;
-ghost use Rattle.nbd_wire.specs.declared.payloads.Piece.{Piece};
+ghost use Rattle.nbd_wire.specs.{declared.{payloads.Piece.Piece, fault.WireFault.TheVariants.{BadChunk, BadContent}}, Prelude.{Operation, Exporting, has_failed, is_finished, is_proper, pieces, Core, in_force, with_reply, fault_if, chunk_fault, fits_read, fits_failure, read_as, total}};
 ghost use Rattle.nbd_wire.specs.declared.command_flags.TheConstants as command_flags;
 ghost use Rattle.nbd_wire.specs.protocol.Flags as flags;
-ghost use Rattle.nbd_wire.specs.Prelude.{Operation, Exporting, has_failed, is_finished, is_proper, pieces, Core, in_force, with_reply, fault_if, chunk_fault, fits_read, fits_failure, read_as, total};
-ghost use Rattle.nbd_wire.specs.declared.fault.WireFault.TheVariants.{BadChunk, BadContent};
-ghost use Rattle.nbd_session.specs.internal.Asking.{done_by, elsewhere_fault, finish_by, is_status, lacks_by};
-ghost use Rattle.nbd_session.specs.internal.Expecting.{chunk_fault_to};
-ghost use Rattle.nbd_state.specs.Heads.{chunk_of};
-ghost use Rattle.nbd_state.specs.Showing.{IsShown};
-ghost use Rattle.nbd_state.specs.Shows.{Shows, TellsThese};
-ghost use Rattle.nbd_state.specs.Spans.{span_of};
+ghost use Rattle.nbd_session.specs.internal.{done_by, elsewhere_fault, finish_by, is_status, lacks_by, Expecting.chunk_fault_to};
+ghost use Rattle.nbd_state.specs.{Places.{chunk_of, span_of}, Showing.IsShown, Shows.{Shows, TellsThese}};
 
 use crate::spans::{bytes_in, content_span, is_inside};
 use crate::statuses::status_fault;

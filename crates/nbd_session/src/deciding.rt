@@ -1,11 +1,8 @@
 //! Which message a side's bytes begin: decided once, at the last byte of its head.
 
 ghost use Rattle.std.specs.Prelude.{◌≡◌, ◌≤◌, ℕ, List, IfErr, IfOk};
-ghost use Rattle.nbd_wire.specs.declared.message.Side.TheVariants.{Client, Server};
-ghost use Rattle.nbd_wire.specs.Prelude.{Core, Bad, reading_by_decision};
-ghost use Rattle.nbd_session.specs.internal.Counted.{decision_by_count};
-ghost use Rattle.nbd_session.specs.internal.Expecting.{HasHeadLength, HasReplyLength, IsExpectedOf, IsNoReply, IsPlaced, IsRefusedHead, IsWholeHead};
-ghost use Rattle.nbd_session.specs.internal.Leading.{request_head_length};
+ghost use Rattle.nbd_wire.specs.{declared.message.Side.TheVariants.{Client, Server}, Prelude.{Core, Bad, reading_by_decision}};
+ghost use Rattle.nbd_session.specs.internal.{decision_by_count, Expecting.{HasHeadLength, HasReplyLength, IsExpectedOf, IsNoReply, IsPlaced, IsRefusedHead, IsWholeHead}, Leading.request_head_length};
 ghost use Rattle.nbd_state.specs.Shows.{Shows};
 
 use crate::expected::Expected;

@@ -2,9 +2,8 @@
 
 ghost use Rattle.std.specs.Prelude.{◌≡◌, Some};
 ghost use Rattle.nbd_wire.specs.Prelude.{Exporting, Operation, Core, are_zeroes, simple_last_fault};
-ghost use Rattle.nbd_state.specs.Showing.{IsShown};
+ghost use Rattle.nbd_state.specs.{Showing.IsShown, Shows.Shows};
 ghost use Rattle.nbd_session.specs.internal.Expecting.{StandsIn, last_fault_by};
-ghost use Rattle.nbd_state.specs.Shows.{Shows};
 
 use crate::chunks::chunk_fault;
 use crate::expected::Expected;

@@ -3,7 +3,7 @@
 ghost use Rattle.std.specs.Prelude.{◌≡◌, ◌==◌, if◌then◌else◌};
 ghost use Rattle.nbd_wire.specs.declared.commands.TheConstants as commands;
 ghost use Rattle.nbd_wire.specs.Prelude.{carries_payload};
-ghost use Rattle.nbd_state.specs.Heads.{chunk_of};
+ghost use Rattle.nbd_state.specs.Places.{chunk_of};
 ghost use Rattle.nbd_session.specs.internal.Expecting.{message_of, payload_length_of, place_answered, request_with};
 
 use nbd_wire::{

@@ -1,9 +1,7 @@
 //! What a session keeps of its past: the messages, and how the two sides' bytes alternated.
 
 ghost use Rattle.std.specs.Prelude.{◌≡◌, ◌+◌, ◌++◌, ◌<◌, ◌^◌, [], OnOk, option_to_list, vec_capacity, vec_len};
-ghost use Rattle.nbd_session.specs.Pushed.{stretch_bytes};
-ghost use Rattle.nbd_session.specs.Views.{stretches_of};
-ghost use Rattle.nbd_session.specs.internal.Alternating.{stretches_with};
+ghost use Rattle.nbd_session.specs.{Pushed.stretch_bytes, Views.stretches_of, internal.Logging.stretches_with};
 
 use crate::stretches::{Stretch, note};
 use nbd_wire::{Message, Side};

@@ -2,15 +2,8 @@
 
 ghost use Rattle.std.specs.Prelude.{◌≡◌, ◌+◌, ◌<◌, ◌≤◌, ◌^◌, [], drop, take, length, Err, IfErr, IfOk, None, OnErr, OnOk, Some};
 ghost use Rattle.nbd_wire.specs.Prelude.{start_of};
-ghost use Rattle.nbd_session.specs.Following.{Follows, IsPushed};
-ghost use Rattle.nbd_session.specs.Incoming.{bytes_come, incoming_with, nothing_come};
-ghost use Rattle.nbd_session.specs.Refusals.{EndsIn};
-ghost use Rattle.nbd_session.specs.Sessions.{Adds, IsReported, SessionView, empty_session_of, end_by, fault_at_end, fault_of, open_end_fault};
-ghost use Rattle.nbd_session.specs.declared.fault.SessionFault.TheVariants.{Memory, Wire};
-ghost use Rattle.nbd_session.specs.internal.Holdings.{holding_of, incoming_of, with_expected, with_incoming};
-ghost use Rattle.nbd_session.specs.internal.Known.{awaited};
-ghost use Rattle.nbd_session.specs.internal.Standing.{Past, completed, count_at_server, rest_of, sent};
-ghost use Rattle.nbd_session.specs.internal.Steps.{IsExpecting, IsHeadRefused, IsKept, IsTaken, IsWhole, Knows, Stands};
+ghost use Rattle.nbd_session.specs.{Following.{Follows, IsPushed}, Incoming.{bytes_come, incoming_with, nothing_come}, Refusals.EndsIn, Sessions.{Adds, IsReported, SessionView, empty_session_of, end_by, fault_at_end, fault_of, open_end_fault}, declared.fault.SessionFault.TheVariants.{Memory, Wire}};
+ghost use Rattle.nbd_session.specs.internal.{Known.{holding_of, incoming_of, with_expected, with_incoming, awaited}, Standing.{Past, completed, count_at_server, rest_of, sent}, Steps.{IsExpecting, IsHeadRefused, IsKept, IsTaken, IsWhole, Knows, Stands}};
 
 use crate::deciding::{decide, head_length};
 use crate::ending::last_fault;

@@ -5,8 +5,7 @@ ghost use Rattle.std.specs.Prelude.{◌≡◌, ◌++◌, ◌||◌, ◌&&◌, ℕ
 ghost use Rattle.nbd_wire.specs.declared.handshake.TheConstants as handshake;
 ghost use Rattle.nbd_wire.specs.protocol.Flags as flags;
 ghost use Rattle.nbd_wire.specs.Prelude.{Core, client_flags, export_answer, greeting};
-ghost use Rattle.nbd_wire.specs.protocol.Negotiation.{sets_more};
-ghost use Rattle.nbd_session.specs.internal.Expecting.{IsPlaced, expected_decision};
+ghost use Rattle.nbd_session.specs.internal.Expecting.{sets_more, IsPlaced, expected_decision};
 
 use crate::expected::Expected;
 use nbd_wire::flags::{has, has_only, has_wide};

@@ -1,12 +1,10 @@
 //! Options and option replies (proto.md, "Fixed newstyle negotiation", "Option types", "Option reply types").
 
 ghost use Rattle.std.specs.Prelude.{◌≡◌, ◌++◌, ℕ, List, IfErr, IfOk, None, Some, if◌then◌else◌, length};
-ghost use Rattle.nbd_wire.specs.Prelude.{is_error, context_of, info_of, number_at, abort_answer, answer, choice, abort_fault, answer_fault, earlier_to, payload_fault, Core};
+ghost use Rattle.nbd_wire.specs.Prelude.{is_error, context_of, info_of, number_at, abort_answer, answer, choice, abort_fault, answer_fault, earlier_to, payload_fault, Core, ack_fault, answers_option, info_fault, is_bad_payload, is_followed, is_good_context, is_good_info, success_fault};
 ghost use Rattle.nbd_wire.specs.protocol.Contexts as contexts;
-ghost use Rattle.nbd_wire.specs.protocol.Negotiation.{ack_fault, answers_option, info_fault, is_bad_payload, is_followed, is_good_context, is_good_info, success_fault};
 ghost use Rattle.nbd_session.specs.internal.Expecting.{IsPlaced, expected_decision};
-ghost use Rattle.nbd_state.specs.Showing.{exporting_if};
-ghost use Rattle.nbd_state.specs.Shows.{HasSelection};
+ghost use Rattle.nbd_state.specs.{Showing.exporting_if, Shows.HasSelection};
 
 use crate::expected::Expected;
 use nbd_state::{Chosen, Selection};

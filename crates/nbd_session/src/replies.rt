@@ -2,12 +2,10 @@
 
 ghost use Rattle.std.specs.Prelude.{◌≡◌, ◌==◌, ◌&&◌, ◌||◌, ◌++◌, ℕ, List, IfErr, IfOk, None, Some, true, not, if◌then◌else◌, length};
 ghost use Rattle.nbd_wire.specs.declared.commands.TheConstants as commands;
-ghost use Rattle.nbd_wire.specs.Prelude.{Exporting, Core, begins, reply_with, simple_fault};
+ghost use Rattle.nbd_wire.specs.Prelude.{Exporting, Core, begins, simple_fault};
+ghost use Rattle.nbd_laws.specs.Reached.{reply_with};
 ghost use Rattle.nbd_wire.specs.protocol.States as definitions;
-ghost use Rattle.nbd_session.specs.internal.Counted.{operation_counted};
-ghost use Rattle.nbd_session.specs.internal.Leading.{chunk_fields, chunk_head_length, chunk_magic};
-ghost use Rattle.nbd_session.specs.internal.Asking.{is_simple_forbidden};
-ghost use Rattle.nbd_session.specs.internal.Expecting.{IsChunkOf, IsPlaced, IsPlaceOf, IsReplyHead, IsSimpleOf, expected_decision, head_fault_by, is_too_long};
+ghost use Rattle.nbd_session.specs.internal.{operation_counted, is_simple_forbidden, Leading.{chunk_fields, chunk_head_length, chunk_magic}, Expecting.{IsChunkOf, IsPlaced, IsPlaceOf, IsReplyHead, IsSimpleOf, expected_decision, head_fault_by, is_too_long}};
 ghost use Rattle.nbd_state.specs.Shows.{Shows};
 
 use crate::expected::Expected;

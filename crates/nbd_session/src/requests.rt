@@ -1,10 +1,8 @@
 //! Requests (proto.md, "Request message", "Reserved Magic values").
 
 ghost use Rattle.std.specs.Prelude.{◌≡◌, ◌++◌, ℕ, List, IfErr, IfOk, Some, length};
-ghost use Rattle.nbd_wire.specs.Prelude.{Core, request};
-ghost use Rattle.nbd_session.specs.internal.Asking.{is_bad_disconnect, is_beyond};
-ghost use Rattle.nbd_session.specs.internal.Expecting.{IsPlaced, expected_decision};
-ghost use Rattle.nbd_session.specs.internal.Leading.{request_head_length, request_head_of};
+ghost use Rattle.nbd_wire.specs.Prelude.{Core, request_by};
+ghost use Rattle.nbd_session.specs.internal.{is_bad_disconnect, is_beyond, Expecting.{IsPlaced, expected_decision}, Leading.{request_head_length, request_head_of}};
 ghost use Rattle.nbd_state.specs.Shows.{Shows};
 
 use crate::expected::Expected;
@@ -18,10 +16,10 @@ use nbd_wire::{
 pub(crate) fn request(state: &State, head: &[u8]) -> Result<Expected, WireFault>
     requires { length head.now ≡ request_head_length state.now.extended }
     ensures expected { IfOk result (λ expected. (now : Core) (payload : List ℕ) → Shows state.now now →
-        request now (head.now ++ payload) ≡ expected_decision now expected (length head.now) payload) }
+        request_by now.extended now (head.now ++ payload) ≡ expected_decision now expected (length head.now) payload) }
     ensures placed { IfOk result (λ expected. (core : Core) → IsPlaced core expected) }
     ensures refused { IfErr result (λ fault. (now : Core) → Shows state.now now →
-        (request now head.now).head_fault ≡ Some fault) }
+        (request_by now.extended now head.now).head_fault ≡ Some fault) }
 {
     let Some(head) = read_head(state.extended, head) else {
         return Err(WireFault::BadMagic);

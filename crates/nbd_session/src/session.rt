@@ -2,9 +2,7 @@
 
 ghost use Rattle.std.specs.Prelude.{◌≡◌, ◌+◌, ◌++◌, ◌<◌, ◌≤◌, ◌^◌, drop, Err, IfErr, IfOk, None, OnOk, Some, length};
 ghost use Rattle.nbd_wire.specs.Prelude.{side_pairs, IsUnderWayOf, CompletesExactlyOf};
-ghost use Rattle.nbd_session.specs.declared.fault.SessionFault.{SessionFault};
-ghost use Rattle.nbd_session.specs.Refusals.{EndsIn, HasNoPlaceOf, IsComplete, Refuses};
-ghost use Rattle.nbd_session.specs.Sessions.{Adds, AddsPrefix, IsAtEnd, IsOfRun, IsReported, fault_at_end, fault_of, empty_session, empty_session_of, pairs_of, bytes_taken};
+ghost use Rattle.nbd_session.specs.{declared.fault.SessionFault.SessionFault, Refusals.{EndsIn, HasNoPlaceOf, IsComplete, Refuses}, Sessions.{Adds, AddsPrefix, IsAtEnd, IsOfRun, IsReported, fault_at_end, fault_of, empty_session, empty_session_of, pairs_of, bytes_taken}};
 
 use crate::fault::SessionFault;
 use crate::log::Log;
@@ -26,9 +24,7 @@ pub struct Session {
 }
 
 impl Model for Session {
-    ghost use Rattle.nbd_session.specs.Sessions.{SessionView};
-    ghost use Rattle.nbd_session.specs.internal.Logging.{IsLogged};
-    ghost use Rattle.nbd_session.specs.Views.{session_view};
+    ghost use Rattle.nbd_session.specs.{Sessions.SessionView, internal.Logging.IsLogged, Views.session_view};
 
     ghost Value = { SessionView };
 

@@ -1,9 +1,8 @@
 //! Where pieces of content lie in an export.
 
 ghost use Rattle.std.specs.Prelude.{◌≡◌, ◌+◌, ◌-◌, ◌^◌, ◌&&◌, min, nat_le};
-ghost use Rattle.nbd_wire.specs.codec.Contents.{piece_of};
-ghost use Rattle.nbd_state.specs.Spans.{span_of};
-ghost use Rattle.nbd_wire.specs.Prelude.{total};
+ghost use Rattle.nbd_wire.specs.{codec.Contents.piece_of, Prelude.total};
+ghost use Rattle.nbd_state.specs.Places.{span_of};
 
 use nbd_state::{Span, ends_by};
 use nbd_wire::{Content, Piece};

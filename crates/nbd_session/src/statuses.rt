@@ -1,12 +1,8 @@
 //! Status chunks (proto.md, "Structured reply types", "Command flags").
 
-ghost use Rattle.std.specs.Prelude.{◌≡◌, ◌==◌, ◌&&◌, ◌<◌, ℕ, Option, false, is_some, length, nat_le, not};
-ghost use Rattle.nbd_wire.specs.Prelude.{reach, Exporting, Operation, is_finished, extents_of, status_of, Core, in_force, with_reply, but_last, chunk_fault, status_kind};
-ghost use Rattle.nbd_wire.specs.protocol.Transmission.{fits_range, fits_status};
-ghost use Rattle.std.specs.Option.{option_map};
-ghost use Rattle.nbd_state.specs.Heads.{chunk_with};
-ghost use Rattle.nbd_state.specs.Showing.{IsShown};
-ghost use Rattle.nbd_state.specs.Shows.{Shows};
+ghost use Rattle.std.specs.{Prelude.{◌≡◌, ◌==◌, ◌&&◌, ◌<◌, ℕ, Option, false, is_some, length, nat_le, not}, Option.option_map};
+ghost use Rattle.nbd_wire.specs.{Prelude.{reach, Exporting, Operation, is_finished, extents_of, status_of, Core, in_force, with_reply, but_last, chunk_fault, status_kind}, protocol.Transmission.{fits_range, fits_status}};
+ghost use Rattle.nbd_state.specs.{Places.chunk_with, Showing.IsShown, Shows.Shows};
 
 use crate::chunks::finish_fault;
 use nbd_state::{Asked, Exchange, State};

@@ -1,9 +1,7 @@
 //! How the bytes of the two sides alternated.
 
 ghost use Rattle.std.specs.Prelude.{◌≡◌, ◌+◌, ◌-◌, ◌<◌, ◌^◌, length, slice_get, vec_capacity, vec_len};
-ghost use Rattle.nbd_session.specs.Views.{stretches_of};
-ghost use Rattle.nbd_session.specs.Pushed.{stretch_bytes};
-ghost use Rattle.nbd_session.specs.internal.Alternating.{is_of, stretches_with};
+ghost use Rattle.nbd_session.specs.{Views.stretches_of, Pushed.stretch_bytes, internal.Logging.{is_of, stretches_with}};
 
 use nbd_wire::Side;
 

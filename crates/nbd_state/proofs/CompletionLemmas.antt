@@ -1,5 +1,5 @@
 -- What a state shows once a message has completed.
-use Rattle.nbd_state.proofs.Common.{◌≡◌, ℕ, zero, suc, ◌<◌, ◌==◌, ◌&&◌, List, [], ◌∷◌, ◌++◌, length, refl, sym, ◌∙◌, ap, subst, Option, Some, None, Bool, false, if◌then◌else◌, arith, slice_get, slice_index_or, slice_set, Result, IfOk, OnOk, ◌^◌, slice_get_read, place_at, Message, Operation, Exporting, ends_reply, is_finished, cookie_of, core_with_reply, noted, reply_to, shown_with, target_of, Context, Core, Transmission, with_reply_at, operation, target, with_reply, export_in, in_force, Asked, Exchange, Counts, Export, State, AddsUnanswered, IsShown, exporting, IsReached, AreAskedWith, asked_answered, asked_snoc, AreShown, HasSelection, Shows, ended_if, phase_shown, place_of, shown_if, shown_in, IsNotedWith, InPhase, open_target, sound, known_if}
+use Rattle.nbd_state.proofs.Common.{◌≡◌, ℕ, zero, suc, ◌<◌, ◌==◌, ◌&&◌, List, [], ◌∷◌, ◌++◌, length, refl, sym, ◌∙◌, ap, subst, Option, Some, None, Bool, false, if◌then◌else◌, arith, slice_get, slice_index_or, slice_set, Result, IfOk, OnOk, ◌^◌, slice_get_read, place_at, Message, Operation, Exporting, ends_reply, is_finished, cookie_of, core_with_reply, noted, reply_to, shown_with, Context, Core, Transmission, with_reply_at, operation, target, with_reply, export_in, in_force, Asked, Exchange, Counts, Export, State, AddsUnanswered, IsShown, exporting, IsReached, AreAskedWith, asked_answered, asked_snoc, AreShown, HasSelection, Shows, ended_if, phase_shown, place_of, shown_if, shown_in, IsNotedWith, InPhase, open_target, sound, known_if, option_and_then}
 use Rattle.nbd_state.proofs.{NotingLemmas.{ended_added, ended_set, fresh, shown_added, shown_set}, PlacedLemmas.{IsPlaced, are_shown_in, place_shows_operation, shown_length}, TargetLemmas.{distinct_reached, target_replied, target_requested}}
 use Rattle.nbd_wire.specs.protocol.States as definitions
 use Rattle.nbd_state.specs.declared.state.Phase.TheVariants as shown
@@ -51,8 +51,8 @@ replied_shows old mid new core export cookie place m x y r s p c g i step kept l
     a : IsPlaced core export cookie place old.exchanges.items
     a = place_shows_operation old core export cookie place s p g
 
-    named : target_of (cookie_of m) core.entries ≡ Some (suc place)
-    named = ap (λ o. target_of o core.entries) c ∙ a.found
+    named : option_and_then (λ k. target k core.entries) (cookie_of m) ≡ Some (suc place)
+    named = ap (λ o. option_and_then (λ k. target k core.entries) o) c ∙ a.found
 
     same : a.x ≡ x
     same = let q : Some a.x ≡ Some x = sym a.stands ∙ i in cc

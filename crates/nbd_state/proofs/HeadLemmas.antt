@@ -1,5 +1,5 @@
 -- What a chunk says does not depend on its header.
-use Rattle.nbd_state.proofs.Common.{arith, ◌≡◌, ℕ, List, Option, Some, has, ends_reply, is_error_chunk, is_failing, content_of, chunk_piece, piece_of, cookie_of, chunk_with}
+use Rattle.nbd_state.proofs.Common.{arith, ◌≡◌, ℕ, List, Option, Some, has, ends_reply, is_error_chunk, is_failing, content_of, option_to_list, piece_of, cookie_of, chunk_with}
 use Rattle.nbd_wire.specs.declared.chunks.TheConstants as chunks
 
 module _ (flags kind cookie : ℕ) (payload : List ℕ) where
@@ -11,7 +11,7 @@ module _ (flags kind cookie : ℕ) (payload : List ℕ) where
   unfolding is_failing
   chunk_fails at = grind arith
 
-  pub chunk_gives : (offset : ℕ) (at : Option ℕ) → piece_of offset (chunk_with at flags kind cookie payload) ≡ chunk_piece (content_of kind payload)
+  pub chunk_gives : (offset : ℕ) (at : Option ℕ) → piece_of offset (chunk_with at flags kind cookie payload) ≡ option_to_list (content_of kind payload)
   unfolding piece_of
   chunk_gives offset at = grind arith
 

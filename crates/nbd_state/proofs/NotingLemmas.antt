@@ -1,5 +1,5 @@
 -- What one more reply message notes.
-use Rattle.nbd_state.proofs.Common.{◌≡◌, ℕ, suc, List, [], ◌∷◌, ◌++◌, ◌==◌, ◌&&◌, append-nil, length, map, refl, ◌∙◌, ap, Bool, false, not, if◌then◌else◌, Option, Some, None, is_some, length-append, arith, take, eqb-true, eq-eqb, ne_eqb, slice_get, slice_set, Message, Piece, Exporting, Operation, ends_reply, is_finished, is_proper, pieces, pieces_of, chunk_piece, piece_of, piece_offset, piece_size, noted, shown_with, Shown, with_reply, statuses_of, zeroes, zeroes_told, Exchange, shown_in, with_counts, IsShown, ended_if, shown_if, pieces-snoc, noted_none, same_number}
+use Rattle.nbd_state.proofs.Common.{◌≡◌, ℕ, suc, List, [], ◌∷◌, ◌++◌, ◌==◌, ◌&&◌, append-nil, length, map, refl, ◌∙◌, ap, Bool, false, not, if◌then◌else◌, Option, Some, None, is_some, length-append, arith, take, eqb-true, eq-eqb, ne_eqb, slice_get, slice_set, Message, Piece, Exporting, Operation, ends_reply, is_finished, is_proper, pieces, flat_map, option_to_list, piece_of, piece_offset, piece_size, noted, shown_with, Shown, with_reply, status_in, zeroes, zeroes_told, Exchange, shown_in, with_counts, IsShown, ended_if, shown_if, pieces-snoc, noted_none, same_number}
 use Rattle.nbd_wire.specs.declared.commands.TheConstants as commands
 
 -- the range of a piece, with a count
@@ -28,21 +28,21 @@ abbrev pub more_counts : Option Piece → Bool → ℕ → List ℕ
 more_counts piece ends n = if is_some piece && not ends then n ∷ [] else []
 
 with_piece : (ps : List Piece) (cs : List ℕ) (piece : Option Piece) (ends : Bool) (n : ℕ) → length cs ≡ length ps →
-    with_counts (ps ++ chunk_piece piece) (cs ++ more_counts piece ends n) ≡ with_counts ps cs ++ (if not ends then map (span_at n) (chunk_piece piece) else [])
+    with_counts (ps ++ option_to_list piece) (cs ++ more_counts piece ends n) ≡ with_counts ps cs ++ (if not ends then map (span_at n) (option_to_list piece) else [])
 with_piece ps cs (Some p) false n e = with_more ps (p ∷ []) cs n e
 with_piece ps cs piece ends n e = grind (arith, append-nil, with_same, with_more)
 
 -- after a message that does not end the reply each piece has its count
-pub counted_more : (ps : List Piece) (cs : List ℕ) (piece : Option Piece) (ends : Bool) (n : ℕ) → ends ≡ false → length cs ≡ length ps → length (cs ++ more_counts piece ends n) ≡ length (ps ++ chunk_piece piece)
+pub counted_more : (ps : List Piece) (cs : List ℕ) (piece : Option Piece) (ends : Bool) (n : ℕ) → ends ≡ false → length cs ≡ length ps → length (cs ++ more_counts piece ends n) ≡ length (ps ++ option_to_list piece)
 counted_more ps cs piece ends n f e = grind (arith, length-append)
 
 -- a READ has no zeroes that a status told
 pub none_told : (export : Exporting) (e : Operation) → e.command ≡ commands.READ → zeroes export e ≡ []
-none_told export e q = ap (λ c. if (c == commands.BLOCK_STATUS) && is_proper export e then zeroes_told e (statuses_of (take 1 e.replies)) else []) q
+none_told export e q = ap (λ c. if (c == commands.BLOCK_STATUS) && is_proper export e then zeroes_told e (flat_map status_in (take 1 e.replies)) else []) q
 
 -- before the first reply nothing is noted
 pub none_noted : (export : Exporting) (e : Operation) (x : Exchange) → IsShown export e x → is_finished e ≡ false → e.replies ≡ [] → e.command ≡ commands.READ → x.asked.pieces.counts ≡ []
-none_noted export e x s u none q = empty x.asked.pieces.counts ((s.is_open u).1 q ∙ ap length (s.pieces_are ∙ (λ i. none_told export e q i ++ pieces_of e.offset (none i))))
+none_noted export e x s u none q = empty x.asked.pieces.counts ((s.is_open u).1 q ∙ ap length (s.pieces_are ∙ (λ i. none_told export e q i ++ flat_map (piece_of e.offset) (none i))))
   where
     empty : (cs : List ℕ) → length cs ≡ 0 → cs ≡ []
     empty [] h = refl
@@ -53,8 +53,8 @@ pub counted_none : (export : Exporting) (e : Operation) (m : Message) (ps : List
 counted_none export e m ps none p q c = grind (arith, none_told, pieces-snoc)
 
 -- a message with this piece is noted
-pub noted_piece : (export : Exporting) (e : Operation) (m : Message) (x : Exchange) (piece : Option Piece) (ends : Bool) (n : ℕ) (ps : List Piece) (cs : List ℕ) → IsShown export e x → is_finished e ≡ false → ends_reply m ≡ ends → piece_of e.offset m ≡ chunk_piece piece →
-    ps ≡ x.asked.pieces.items ++ chunk_piece piece → cs ≡ x.asked.pieces.counts ++ more_counts piece ends n →
+pub noted_piece : (export : Exporting) (e : Operation) (m : Message) (x : Exchange) (piece : Option Piece) (ends : Bool) (n : ℕ) (ps : List Piece) (cs : List ℕ) → IsShown export e x → is_finished e ≡ false → ends_reply m ≡ ends → piece_of e.offset m ≡ option_to_list piece →
+    ps ≡ x.asked.pieces.items ++ option_to_list piece → cs ≡ x.asked.pieces.counts ++ more_counts piece ends n →
     (if x.asked.command == commands.READ then with_counts ps cs else []) ≡ shown_in x.asked ++ shown_with (Some e) m n
 noted_piece export e m x piece ends n ps cs s u d p pieces_are counts_are = grind (arith, with_piece, eqb-true)
 

@@ -1,7 +1,8 @@
 -- What a state shows once a message of the negotiation has completed.
-use Rattle.nbd_state.proofs.Common.{IsAllowed, allowed, arith, ◌≡◌, ℕ, ◌<◌, ◌||◌, ◌&&◌, ◌==◌, List, length, refl, sym, ◌∙◌, ap, subst, Option, Some, None, Bool, slice_get_within, place_at, ask_allow, extended_ask_allow, MayAsk, Message, Greeting, ClientFlags, Choice, Answer, Exported, Request, ExtendedRequest, Simple, Chunk, ExtendedChunk, Sizing, sizing_after, sizing_at, agrees, reply_phase, choice_phase, is_proper_option, next_phase, selection_after, selection_at, takes_contexts, Exporting, AnswersOne, MayComplete, complete, grants_extended, grants_structured, Core, Phase, Answering, Transmission, export_in, Chosen, State, MayTake, IsTransmitting, Selection, HasSelection, Shows, export_shown_if, phase_shown}
+use Rattle.nbd_state.proofs.Common.{IsAllowed, allowed, arith, ◌≡◌, ℕ, ◌<◌, ◌||◌, ◌&&◌, ◌==◌, List, length, refl, sym, ◌∙◌, ap, subst, Option, Some, None, Bool, slice_get_within, place_at, ask_allow, extended_ask_allow, MayAsk, Message, Greeting, ClientFlags, Choice, Answer, Exported, Request, ExtendedRequest, Simple, Chunk, ExtendedChunk, Sizing, sizing_after, sizing_at, agrees, reply_phase, choice_phase, is_proper_option, next_phase, selection_after, selection_at, takes_contexts, Exporting, AnswersOne, MayComplete, complete, grants_structured, Core, Phase, Answering, Transmission, export_in, Chosen, State, MayTake, IsTransmitting, Selection, HasSelection, Shows, export_shown_if, phase_shown}
 use Rattle.nbd_state.proofs.{PlacedLemmas.place_shows_operation, CompletionLemmas.negotiation_is_shown}
 use Rattle.nbd_wire.specs.declared.commands.TheConstants as commands
+use Rattle.nbd_wire.specs.declared.{options.TheConstants.EXTENDED_HEADERS, answers.TheConstants.ACK}
 use Rattle.nbd_state.specs.declared.state.Phase as states
 use Rattle.nbd_state.specs.declared.state.Phase.TheVariants as shown
 
@@ -84,7 +85,7 @@ module _ (old new : State) (core : Core) (s : Shows old core) where
       (subst (λ z. HasSelection z (selection_at id payload core.selection)) (sym (ap (λ (z : State). z.selection) made)) selected) (ap (λ (z : State). z.brings_contexts) made ∙ brings_contexts_is) (ap (λ (z : State). z.sizing) made ∙ sized)
 
   pub shows_answered : (option kind : ℕ) (payload : List ℕ) (phase : states.Phase) (grants extends : Bool) (selection : Selection) (sizing : Sizing) → MayComplete core core.phase (Answer option kind payload) →
-      phase ≡ phase_shown (next_phase core.phase (Answer option kind payload)) → grants ≡ grants_structured option kind → extends ≡ grants_extended option kind → HasSelection selection (selection_after core.phase kind payload core.selection) → sizing ≡ sizing_after kind payload core.sizing →
+      phase ≡ phase_shown (next_phase core.phase (Answer option kind payload)) → grants ≡ grants_structured option kind → extends ≡ ((option == EXTENDED_HEADERS) && (kind == ACK)) → HasSelection selection (selection_after core.phase kind payload core.selection) → sizing ≡ sizing_after kind payload core.sizing →
       new ≡ record old { phase = phase; structured = old.structured || grants; extended = old.extended || extends; selection = selection; sizing = sizing } → Shows new (complete core (Answer option kind payload))
   unfolding complete
   shows_answered option kind payload phase grants extends selection sizing ok is granted extended selected sized made =

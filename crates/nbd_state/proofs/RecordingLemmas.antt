@@ -1,5 +1,5 @@
 -- An exchange after one more reply message.
-use Rattle.nbd_state.proofs.Common.{◌≡◌, ℕ, List, [], ◌∷◌, ◌++◌, ◌==◌, append_assoc, append-nil, sym, ◌∙◌, ap, Bool, true, false, not, ◌&&◌, ◌||◌, if◌then◌else◌, Option, Some, None, is_some, Result, IfOk, nat_lt, eqb-true, arith, take, Message, Operation, Exporting, ends_reply, is_failing, is_finished, is_proper, pieces, Piece, is_at, nat_cmp, eqb-false, Status, has_id, piece_of, is_allocation, is_settled, status_in, statuses_of, tells, zeroes, zeroes_in, zeroes_told, with_reply, Exchange, Success, Failure, is_none_yet, AreCounted, IsShown, is_settled_by, TellsThese, Telling, pieces-snoc}
+use Rattle.nbd_state.proofs.Common.{◌≡◌, ℕ, List, [], ◌∷◌, ◌++◌, ◌==◌, append_assoc, append-nil, sym, ◌∙◌, ap, Bool, true, false, not, ◌&&◌, ◌||◌, if◌then◌else◌, Option, Some, None, is_some, Result, IfOk, nat_lt, eqb-true, arith, take, Message, Operation, Exporting, ends_reply, is_failing, is_finished, is_proper, pieces, Piece, is_at, nat_cmp, eqb-false, Status, has_id, piece_of, is_allocation, is_settled, status_in, tells, zeroes, zeroes_in, zeroes_told, with_reply, Exchange, Success, Failure, AreCounted, IsShown, is_settled_by, TellsThese, Telling, pieces-snoc, length, flat_map}
 use Rattle.nbd_state.proofs.ReplyLemmas.{any-snoc, proper-same}
 use Rattle.std.proofs.Common.{ltb-true, ltb-false}
 use Rattle.nbd_wire.specs.declared.commands.TheConstants as commands
@@ -28,9 +28,9 @@ exchange_shows_reply export e m x y ends fails known s u n f k known_is failed_i
 pub at-same : (k q : ℕ) → is_at (nat_cmp k) q ≡ (k == q)
 at-same k q = grind (arith, nat_lt, eqb-true, ltb-true, eqb-false, ltb-false)
 
-statuses-snoc : (ms : List Message) (m : Message) → statuses_of (ms ++ m ∷ []) ≡ statuses_of ms ++ status_in m
+statuses-snoc : (ms : List Message) (m : Message) → flat_map status_in (ms ++ m ∷ []) ≡ flat_map status_in ms ++ status_in m
 statuses-snoc [] m = append-nil (status_in m)
-statuses-snoc (n ∷ ms) m = ap (λ l. status_in n ++ l) (statuses-snoc ms m) ∙ sym (append_assoc (status_in n) (statuses_of ms) (status_in m))
+statuses-snoc (n ∷ ms) m = ap (λ l. status_in n ++ l) (statuses-snoc ms m) ∙ sym (append_assoc (status_in n) (flat_map status_in ms) (status_in m))
 
 tells-snoc : (ss : List Status) (s : Status) (id : ℕ) → tells (ss ++ s ∷ []) id ≡ (if s.id == id then true else tells ss id)
 tells-snoc [] s id = grind arith
@@ -58,7 +58,7 @@ module _ (export : Exporting) (e : Operation) (m : Message) (x : Exchange) (ends
 
 -- the zeroes of a request look at the first message of its reply alone
 module _ (export : Exporting) (e : Operation) (m : Message) where
-  first_stays : (ms : List Message) → (ms ≡ [] → status_in m ≡ []) → zeroes_told e (statuses_of (take 1 (ms ++ m ∷ []))) ≡ zeroes_told e (statuses_of (take 1 ms))
+  first_stays : (ms : List Message) → (ms ≡ [] → status_in m ≡ []) → zeroes_told e (flat_map status_in (take 1 (ms ++ m ∷ []))) ≡ zeroes_told e (flat_map status_in (take 1 ms))
   first_stays ms n = grind arith
 
   stay : (e.replies ≡ [] → status_in m ≡ []) → zeroes export (with_reply e m) ≡ zeroes export e
@@ -78,11 +78,12 @@ module _ (export : Exporting) (e : Operation) (m : Message) where
   pieces_first y s none is p q = grind (arith, append-nil, pieces-snoc, proper-same)
 
 -- where nothing is known of a first reply there is none
-pub no_reply_yet : (ms : List Message) (o : Option ℕ) → is_some o ≡ not (is_none_yet ms) → is_some o ≡ false → ms ≡ []
-no_reply_yet ms o h n = grind arith
+pub no_reply_yet : (ms : List Message) (o : Option ℕ) → is_some o ≡ not (length ms == 0) → is_some o ≡ false → ms ≡ []
+no_reply_yet [] o h n = grind arith
+no_reply_yet (m ∷ ms) o h n = grind arith
 
-pub some_reply_yet : (ms : List Message) (o : Option ℕ) → is_some o ≡ not (is_none_yet ms) → is_some o ≡ true → ms ≡ [] → ⊥
-some_reply_yet ms o h n q = let w : true ≡ false = sym n ∙ h ∙ ap (λ l. not (is_none_yet l)) q in cc
+pub some_reply_yet : (ms : List Message) (o : Option ℕ) → is_some o ≡ not (length ms == 0) → is_some o ≡ true → ms ≡ [] → ⊥
+some_reply_yet ms o h n q = let w : true ≡ false = sym n ∙ h ∙ ap (λ l. not (length l == 0)) q in cc
 
 -- what follows from what an Ok gives
 pub weaken : {A E : Type 0} {P Q : A → Type 0} (r : Result A E) → ((x : A) → P x → Q x) → IfOk r P → IfOk r Q

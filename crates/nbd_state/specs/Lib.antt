@@ -1,13 +1,9 @@
-pub mod Completions
 pub mod Filters
-pub mod Heads
 pub mod Indexes
-pub mod Moments
 pub mod Pieces
 pub mod Places
 pub mod Showing
 pub mod Shows
 pub mod Sizes
-pub mod Spans
 pub mod Transcripts
 pub mod internal

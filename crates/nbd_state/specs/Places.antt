@@ -1,6 +1,7 @@
--- The places of the outstanding requests, by their cookies.
-use Rattle.std.specs.{Prelude.{ℕ, ◌+◌, ◌-◌, false, Option, Some, None, ◌&&◌, nat_le, get_or, if◌then◌else◌}, BTreeMap.get, Ordering.nat_cmp}
-use Rattle.nbd_state.specs.declared.outstanding.{Outstanding.Outstanding, Row.Row}
+-- The places of the outstanding requests, by their cookies; chunks by their heads; and where content lies in an export.
+use Rattle.std.specs.{Prelude.{ℕ, ◌+◌, ◌-◌, false, Option, Some, None, ◌&&◌, nat_le, get_or, if◌then◌else◌, List}, BTreeMap.get, Ordering.nat_cmp}
+use Rattle.nbd_state.specs.declared.{outstanding.{Outstanding.Outstanding, Row.Row}, span.Span.Span}
+use Rattle.nbd_wire.specs.{declared.{heads.transmission.ChunkHead.ChunkHead, message.Message.{Message, TheVariants.{Chunk, ExtendedChunk}}, payloads.Piece.Piece}, Prelude.{piece_offset, piece_size}}
 
 -- of those in a row, along which cookies and places count up by one
 abbrev pub place_in : Row → ℕ → Option ℕ
@@ -16,3 +17,15 @@ place_or None other = other
 -- of all
 abbrev pub place_at : Outstanding → ℕ → Option ℕ
 place_at outstanding cookie = place_or (place_in outstanding.row cookie) (get nat_cmp outstanding.others cookie)
+
+-- a chunk with these fields; an extended header has an offset
+abbrev pub chunk_with : (at : Option ℕ) → (flags kind cookie : ℕ) → List ℕ → Message
+chunk_with None flags kind cookie payload = Chunk flags kind cookie payload
+chunk_with (Some offset) flags kind cookie payload = ExtendedChunk flags kind cookie offset payload
+
+abbrev pub chunk_of : ChunkHead → List ℕ → Message
+chunk_of head payload = chunk_with head.at head.flags head.kind head.cookie payload
+
+-- where a piece lies
+abbrev pub span_of : Piece → Span
+span_of piece = record { offset = piece_offset piece; size = piece_size piece }

@@ -1,10 +1,10 @@
 -- How the program's state shows what the completed messages have led to.
 use Rattle.std.specs.{Prelude.{◌≡◌, ℕ, suc, ◌-◌, ◌||◌, true, Bool, List, [], ◌∷◌, Option, Some, None, slice_get}, BTreeSet.contains, Ordering.nat_cmp}
-use Rattle.nbd_state.specs.{Places.place_at, declared.{asked.Exchange.Exchange, asking.Telling.Telling, selection.Selection.Selection, state.{Export.Export, Phase.{Phase, TheVariants.{Greet, Flags, Choosing, Naming, Aborting, Answering, Ended, Transmission}}, State.State}}, Filters.is_settled_by, Moments.shown_in, Showing.IsShown}
-use Rattle.nbd_wire.specs.Prelude.{is_proper_option, takes_contexts, has_id, is_allocation, Operation, Exporting, Core, Shown, target, export_in, in_force, is_this}
+use Rattle.nbd_state.specs.{Places.place_at, declared.{asked.Exchange.Exchange, asking.Telling.Telling, selection.Selection.Selection, state.{Export.Export, Phase.{Phase, TheVariants.{Greet, Flags, Choosing, Naming, Aborting, Answering, Ended, Transmission}}, State.State}}, Filters.is_settled_by, Showing.{shown_in, IsShown}}
+use Rattle.nbd_wire.specs.{Prelude.{is_proper_option, takes_contexts, has_id, is_allocation, Operation, Exporting, Core, Shown, target, export_in, in_force, is_this, MayComplete, cookie_of}, declared.message.Message.Message}
 use Rattle.nbd_wire.specs.protocol.Contexts as contexts
 use Rattle.nbd_wire.specs.protocol.States as definitions
-use Rattle.nbd_laws.specs.Selecting.{AreAskedWith}
+use Rattle.nbd_laws.specs.{Selecting.AreAskedWith, Reached.IsReached}
 
 -- an export as the program has it
 abbrev pub export_shown : Exporting → Export
@@ -91,3 +91,15 @@ known_if None = None
 -- the exchanges have what is known of the numbered requests
 abbrev pub AreKnown : (ℕ → Option ℕ) → List Exchange → Type 0
 AreKnown known exchanges = (place : ℕ) → known (suc place) ≡ known_if (slice_get exchanges place)
+
+-- the message may complete where a session can stand of which the state shows what it has led to
+pub record MayTake (state : State) (message : Message) : Type 0 where
+  pub core : Core
+  pub reached : IsReached core
+  pub shows : Shows state core
+  pub completes : MayComplete core core.phase message
+
+-- where the message is a reply, the request that it answers has its exchange at this place
+abbrev pub Answers : State → Message → ℕ → Type 0
+Answers state message place = (cookie : ℕ) → cookie_of message ≡ Some cookie
+    → place_at state.outstanding cookie ≡ Some place

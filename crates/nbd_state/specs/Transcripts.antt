@@ -2,7 +2,7 @@
 use Rattle.std.specs.Prelude.{ℕ, List, map, Option, Some, None}
 use Rattle.nbd_wire.specs.protocol.Reports as definitions
 use Rattle.nbd_wire.specs.Prelude.{Report, Exporting}
-use Rattle.nbd_state.specs.{declared.{asked.{Asked.Asked, Exchange.Exchange}, state.{Export.Export, Phase.{Phase, TheVariants.Transmission}}}, Moments.shown_in, Showing.{exporting_if, outcome_of}}
+use Rattle.nbd_state.specs.{declared.{asked.{Asked.Asked, Exchange.Exchange}, state.{Export.Export, Phase.{Phase, TheVariants.Transmission}}}, Showing.{shown_in, exporting_if, outcome_of}}
 
 -- a request as a report states it
 abbrev pub report_of_request : Asked → definitions.Asked

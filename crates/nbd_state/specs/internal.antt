@@ -2,7 +2,7 @@
 pub mod Keeping
 use Rattle.std.specs.Prelude.{ℕ, List, Option, if◌then◌else◌, ◌≡◌, [], ◌∷◌, Bool, false, slice_get, ◌++◌, Some}
 use Rattle.nbd_wire.specs.{declared.{heads.transmission.RequestHead.RequestHead, message.Message.Message, sizes.Sizes.Sizes}, Prelude.{Context, Filter, length_by, Operation, written, Status, is_this, noted, is_allocation, Exporting, ends_reply, shown_with, with_reply}}
-use Rattle.nbd_state.specs.{declared.{asked.{Exchange.Exchange, Asked.Asked}, state.{Export.Export, Phase.{Phase, TheVariants.Transmission}}}, Shows.known_if, Moments.shown_in, Showing.IsShown}
+use Rattle.nbd_state.specs.{declared.{asked.{Exchange.Exchange, Asked.Asked}, state.{Export.Export, Phase.{Phase, TheVariants.Transmission}}}, Shows.known_if, Showing.{shown_in, IsShown}}
 
 -- the payload behind this head that is kept as it is
 abbrev pub carried : RequestHead → List ℕ → List ℕ

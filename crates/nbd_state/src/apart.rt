@@ -1,7 +1,7 @@
 //! What the rules ask of a request under way.
 
 ghost use Rattle.std.specs.Prelude.{◌≡◌};
-ghost use Rattle.nbd_state.specs.{Filters.is_settled_by, Spans.span_of};
+ghost use Rattle.nbd_state.specs.{Filters.is_settled_by, Places.span_of};
 ghost use Rattle.nbd_wire.specs.{declared.payloads.Piece.Piece, Prelude.is_apart_from};
 
 use crate::asked::Exchange;

@@ -1,9 +1,10 @@
 //! What a completed message leads to.
 
 ghost use Rattle.std.specs.Prelude.{◌≡◌, ◌<◌, ◌==◌, ◌&&◌, ◌++◌, ◌∷◌, ℕ, List, [], Option, Some, None, false, if◌then◌else◌, length, OnOk};
-ghost use Rattle.nbd_state.specs.{Places.place_at, Filters.filter_of_head, Heads.chunk_of, internal.{carried, operation_of_head, AddsUnanswered, IsTransmitting, TellsOne, is_allocation_told}, Completions.{Answers, MayTake}, Shows.{AreKnown, Shows, export_shown_if, phase_shown}};
+ghost use Rattle.nbd_state.specs.{Places.{place_at, chunk_of}, Filters.filter_of_head, internal.{carried, operation_of_head, AddsUnanswered, IsTransmitting, TellsOne, is_allocation_told}, Shows.{Answers, MayTake, AreKnown, Shows, export_shown_if, phase_shown}};
 ghost use Rattle.nbd_wire.specs.declared.commands.TheConstants as commands;
-ghost use Rattle.nbd_wire.specs.{declared.message.Message.TheVariants.{Answer, Choice, Simple}, Prelude.{ack_phase, next_phase, agrees, reply_phase, is_proper_option, takes_contexts, Exporting, MayComplete, complete, grants_structured, core_with_request, is_reply_to, noted, IsSendable, Core, has_contexts, in_force, target, sizes_kept, status_in, grants_extended, core_with_reply, sizes_for}};
+ghost use Rattle.nbd_wire.specs.declared.{message.Message.TheVariants.{Answer, Choice, Simple}, answers.TheConstants.ACK, options.TheConstants.EXTENDED_HEADERS};
+ghost use Rattle.nbd_wire.specs.Prelude.{ack_phase, next_phase, agrees, reply_phase, is_proper_option, takes_contexts, Exporting, MayComplete, complete, grants_structured, core_with_request, is_reply_to, noted, IsSendable, Core, has_contexts, in_force, target, sizes_kept, status_in, core_with_reply, sizes_for};
 ghost use Rattle.nbd_wire.specs.protocol.Options as options;
 ghost use Rattle.nbd_wire.specs.protocol.States as definitions;
 ghost use Rattle.nbd_laws.specs.Reached.{IsReached};
@@ -355,7 +356,7 @@ fn grants_structured(option: u32, kind: u32) -> bool
 
 /// Whether an answer puts extended headers in force.
 fn grants_extended(option: u32, kind: u32) -> bool
-    ensures { result ≡ grants_extended option kind }
+    ensures { result ≡ ((option == EXTENDED_HEADERS) && (kind == ACK)) }
 {
     option == options::EXTENDED_HEADERS && kind == answers::ACK
 }

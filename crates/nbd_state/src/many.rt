@@ -1,8 +1,7 @@
 //! The pieces of a reply of several messages.
 
-ghost use Rattle.std.specs.{Prelude.{◌≡◌, ◌==◌, ◌&&◌, ◌++◌, ◌∷◌, ℕ, [], false, not, true, IfOk, OnOk, if◌then◌else◌, is_some}, Option.option_copied};
+ghost use Rattle.std.specs.{Prelude.{◌≡◌, ◌==◌, ◌&&◌, ◌++◌, ◌∷◌, ℕ, [], false, not, true, IfOk, OnOk, if◌then◌else◌, is_some, option_to_list}, Option.option_copied};
 ghost use Rattle.nbd_state.specs.{Filters.is_settled_by, Indexes.Indexes};
-ghost use Rattle.nbd_wire.specs.Prelude.{chunk_piece};
 
 use crate::asking::Telling;
 use crate::index::SpanIndex;
@@ -54,7 +53,7 @@ impl Many {
         count: u64,
         ends: bool,
     ) -> Result<(), AllocError>
-        ensures pieces { IfOk result (λ _. self.new.pieces.items ≡ self.old.pieces.items ++ chunk_piece piece) }
+        ensures pieces { IfOk result (λ _. self.new.pieces.items ≡ self.old.pieces.items ++ option_to_list piece) }
         ensures counts { IfOk result (λ _. self.new.counts.items ≡ self.old.counts.items
             ++ (if is_some piece && not ends then count ∷ [] else [])) }
         ensures told { IfOk result (λ _. ends ≡ false → self.new.told ≡ self.old.told) }
@@ -98,7 +97,7 @@ fn index_after(
     ends: bool,
 ) -> Result<SpanIndex, AllocError>
     requires { Indexes index.sizes pieces.now }
-    ensures { IfOk result (λ after. Indexes after.sizes (pieces.now ++ chunk_piece (option_copied piece.entry))) }
+    ensures { IfOk result (λ after. Indexes after.sizes (pieces.now ++ option_to_list (option_copied piece.entry))) }
 {
     if ends {
         return Ok(SpanIndex::new(alloc));
@@ -111,7 +110,7 @@ fn index_after(
 
 // The piece, if any, after the others.
 fn push_if(pieces: &mut Vec<Piece>, piece: Option<Piece>) -> Result<(), AllocError>
-    ensures { IfOk result (λ _. pieces.new.items ≡ pieces.old.items ++ chunk_piece piece) }
+    ensures { IfOk result (λ _. pieces.new.items ≡ pieces.old.items ++ option_to_list piece) }
 {
     if let Some(piece) = piece {
         pieces.push(piece)?;

@@ -2,7 +2,6 @@
 
 ghost use Rattle.std.specs.Prelude.{◌≡◌, ◌==◌, ◌&&◌, ◌++◌, ◌∷◌, ℕ, [], false, not, true, IfOk, IfSome, MatchOption, OnOk, if◌then◌else◌, is_some};
 ghost use Rattle.nbd_state.specs.{Filters.is_settled_by, Indexes.Indexes, internal.Keeping.{nothing_told, pieces_kept}};
-ghost use Rattle.nbd_wire.specs.Prelude.{chunk_piece};
 
 use crate::asking::Telling;
 use crate::index::SpanIndex;
@@ -30,6 +29,7 @@ enum Kept {
 
 impl Model for Pieces {
     ghost use Rattle.nbd_state.specs.{Pieces.PiecesView, internal.Keeping.pieces_kept};
+ghost use Rattle.std.specs.Prelude.{option_to_list};
 
     ghost Value = { PiecesView };
 
@@ -105,7 +105,7 @@ impl Pieces {
         count: u64,
         ends: bool,
     ) -> Result<(), AllocError>
-        ensures items { IfOk result (λ _. self.new.items ≡ self.old.items ++ chunk_piece piece) }
+        ensures items { IfOk result (λ _. self.new.items ≡ self.old.items ++ option_to_list piece) }
         ensures counts { IfOk result (λ _. self.new.counts ≡ self.old.counts
             ++ (if is_some piece && not ends then count ∷ [] else [])) }
         ensures told { IfOk result (λ _. ends ≡ false → (id : ℕ) →
@@ -145,7 +145,7 @@ impl Pieces {
 impl Kept {
     // The piece, if any, alone.
     fn at_most_one(piece: Option<Piece>) -> Kept
-        ensures { pieces_kept result ≡ record { items = chunk_piece piece; counts = []; told = nothing_told } }
+        ensures { pieces_kept result ≡ record { items = option_to_list piece; counts = []; told = nothing_told } }
     {
         match piece {
             Some(piece) => Kept::One(piece),
@@ -161,7 +161,7 @@ impl Kept {
         count: u64,
         ends: bool,
     ) -> Result<Kept, AllocError>
-        ensures items { IfOk result (λ kept. (pieces_kept kept).items ≡ (pieces_kept self).items ++ chunk_piece piece) }
+        ensures items { IfOk result (λ kept. (pieces_kept kept).items ≡ (pieces_kept self).items ++ option_to_list piece) }
         ensures counts { IfOk result (λ kept. (pieces_kept kept).counts ≡ (pieces_kept self).counts
             ++ (if is_some piece && not ends then count ∷ [] else [])) }
         ensures told { IfOk result (λ kept. ends ≡ false → (id : ℕ) →

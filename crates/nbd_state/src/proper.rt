@@ -1,7 +1,7 @@
 //! Whether a client should send a request (proto.md, "Request types", "Command flags",
 //! "Transmission flags").
 
-ghost use Rattle.std.specs.Prelude.{◌≡◌, ◌<◌, ◌+◌, ◌==◌, ◌&&◌, ◌||◌, ℕ, List, Option, false, length, not, nat_le};
+ghost use Rattle.std.specs.Prelude.{◌≡◌, ◌<◌, ◌+◌, ◌==◌, ◌&&◌, ◌||◌, ℕ, List, Option, false, length, not, nat_le, if◌then◌else◌};
 ghost use Rattle.nbd_wire.specs.{declared.{message.Message.Message, sizes.Sizes.Sizes}, Prelude.{Context, Filter, Operation}};
 ghost use Rattle.nbd_wire.specs.protocol.Operations as operations;
 ghost use Rattle.nbd_state.specs.{Filters.Asks, Showing.exporting, internal.operation_of_head};
@@ -132,7 +132,7 @@ fn other_flags(flags: u16, command: u16) -> u16
 
 // The mask, or no flag.
 fn mask_if(offered: bool, mask: u16) -> u16
-    ensures { result ≡ operations.mask_if offered mask }
+    ensures { result ≡ (if offered then mask else 0) }
 {
     if offered { mask } else { 0 }
 }

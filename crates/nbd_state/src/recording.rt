@@ -1,10 +1,10 @@
 //! What the messages of transmission do to a request under way.
 
-ghost use Rattle.std.specs.Prelude.{◌≡◌, ◌<◌, ◌+◌, ◌^◌, ◌==◌, true, ◌++◌, ◌∷◌, ℕ, List, false, not, IfErr, IfOk, OnErr, [], if◌then◌else◌, is_some, length, ◌&&◌, None, OnOk, Option, IsTrue, vec_capacity, vec_len};
-ghost use Rattle.nbd_wire.specs.{declared.message.Message.{Message, TheVariants.Simple}, Prelude.{Context, Filter, Status, Operation, Exporting, ends_reply, is_error_chunk, is_failing, is_finished, chunk_piece, extents_of, is_allocation, status_in, noted}};
+ghost use Rattle.std.specs.Prelude.{◌≡◌, ◌<◌, ◌+◌, ◌^◌, ◌==◌, true, ◌++◌, ◌∷◌, ℕ, List, false, not, IfErr, IfOk, OnErr, [], if◌then◌else◌, is_some, length, ◌&&◌, None, OnOk, Option, IsTrue, vec_capacity, vec_len, option_to_list};
+ghost use Rattle.nbd_wire.specs.{declared.message.Message.{Message, TheVariants.Simple}, Prelude.{Context, Filter, Status, Operation, Exporting, ends_reply, is_error_chunk, is_failing, is_finished, extents_of, is_allocation, status_in, noted}};
 ghost use Rattle.nbd_wire.specs.protocol.Payloads as payloads;
 ghost use Rattle.nbd_wire.specs.protocol.Pieces as pieces;
-ghost use Rattle.nbd_state.specs.{internal.{is_allocation_told, carried, operation_of_head, HasTaken}, declared.asked.Outcome.TheVariants.{Failure, Success}, Filters.Asks, Heads.chunk_of, Showing.{IsShown, exporting}};
+ghost use Rattle.nbd_state.specs.{internal.{is_allocation_told, carried, operation_of_head, HasTaken}, declared.asked.Outcome.TheVariants.{Failure, Success}, Filters.Asks, Places.chunk_of, Showing.{IsShown, exporting}};
 
 use crate::asked::{Asked, Exchange, Outcome};
 use crate::asking::Asking;
@@ -187,7 +187,7 @@ impl Exchange {
     ) -> Result<(), AllocError>
         ensures taken { IfOk result (λ _. (export : Exporting) (e : Operation) (m : Message) →
             IsShown export e self.old → is_finished e ≡ false → ends_reply m ≡ ends → is_failing m ≡ fails →
-            pieces.piece_of e.offset m ≡ chunk_piece piece → status_in m ≡ [] →
+            pieces.piece_of e.offset m ≡ option_to_list piece → status_in m ≡ [] →
             HasTaken export e m counts.now self.old self.new) }
         ensures first { IfOk result
             (λ _. self.new.asked.known_at ≡ (if is_some self.old.asked.known_at then self.old.asked.known_at
@@ -270,7 +270,7 @@ fn is_error_chunk(kind: u16) -> bool
 
 // The bytes of a simple reply as a piece, unless there are none.
 fn simple_piece(offset: u64, payload: &Bytes) -> Result<Option<Piece>, AllocError>
-    ensures { IfOk result (λ piece. chunk_piece piece ≡ pieces.simple_piece offset payload.now) }
+    ensures { IfOk result (λ piece. option_to_list piece ≡ pieces.simple_piece offset payload.now) }
 {
     if payload.as_slice().is_empty() {
         return Ok(None);

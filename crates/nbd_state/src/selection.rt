@@ -2,9 +2,10 @@
 
 ghost use Rattle.std.specs.{Prelude.{ℕ, ◌≡◌, ◌==◌, [], List, Bool, MatchOption, false, OnOk, length}, BTreeSet.contains, Ordering.nat_cmp};
 ghost use Rattle.nbd_wire.specs.protocol.Contexts as contexts;
-ghost use Rattle.nbd_wire.specs.Prelude.{no_selection, has_id, agrees, selection_after, selection_at, context_of, are_settled, is_allocation, selection_told, with_context};
+ghost use Rattle.nbd_wire.specs.Prelude.{no_selection, has_id, agrees, selection_after, selection_at, context_of, are_settled, is_allocation, selection_told};
 ghost use Rattle.nbd_wire.specs.protocol.States as definitions;
 ghost use Rattle.nbd_state.specs.{Filters.is_settled_by, declared.asking.Telling.Telling, Shows.{HasSelection, TellsThese, phase_shown}};
+ghost use Rattle.nbd_wire.specs.declared.answers.TheConstants as answers;
 
 use crate::asking::Telling;
 use crate::state::{Chosen, Phase};
@@ -160,7 +161,7 @@ impl Selection {
     // One more context, where the answer has the form of one.
     fn add(&mut self, answer: &[u8]) -> Result<(), AllocError>
         ensures { OnOk result ((selection : contexts.Selection) → HasSelection self.old selection →
-            HasSelection self.new (with_context (context_of answer.now) selection)) }
+            HasSelection self.new (selection_told answers.META_CONTEXT answer.now selection)) }
     {
         if let Some((id, name)) = context_of(answer) {
             self.ids.insert(id)?;

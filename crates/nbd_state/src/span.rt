@@ -13,7 +13,7 @@ pub struct Span {
 }
 
 impl Span {
-    ghost use Rattle.nbd_state.specs.Spans.{span_of};
+    ghost use Rattle.nbd_state.specs.Places.{span_of};
 
     /// Where a piece lies.
     pub fn of(piece: &Piece) -> Span

@@ -4,7 +4,7 @@ ghost use Rattle.std.specs.Prelude.{◌≡◌, ◌<◌, ◌+◌, ◌^◌, ◌==�
 ghost use Rattle.nbd_wire.specs.declared.commands.TheConstants as commands;
 ghost use Rattle.nbd_wire.specs.{Prelude.{extents_of, status_in, zeroes_in, has, status_kind}, declared.payloads.Piece.TheVariants.Hole};
 ghost use Rattle.nbd_wire.specs.declared.states.TheConstants as states;
-ghost use Rattle.nbd_state.specs.Heads.{chunk_of};
+ghost use Rattle.nbd_state.specs.Places.{chunk_of};
 
 use crate::asked::Asked;
 use nbd_wire::flags::has_long;

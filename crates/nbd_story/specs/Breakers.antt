@@ -1,8 +1,6 @@
 -- Who broke the rule that a wire fault names.
-use Rattle.nbd_wire.specs.declared.fault.WireFault.{WireFault}
-use Rattle.nbd_wire.specs.declared.fault.WireFault.TheVariants.{BadMagic, NotFixedNewstyle, OutOfTurn, BadClientFlags, CookieInUse, BadDisconnect, OutOfProfile, ExportTooLarge, Unfinished}
-use Rattle.nbd_story.specs.declared.rules.Breaker.{Breaker}
-use Rattle.nbd_story.specs.declared.rules.Breaker.TheVariants.{Client, Server, Sender, Nobody}
+use Rattle.nbd_wire.specs.declared.fault.WireFault.{WireFault, TheVariants.{BadMagic, NotFixedNewstyle, OutOfTurn, BadClientFlags, CookieInUse, BadDisconnect, OutOfProfile, ExportTooLarge, Unfinished}}
+use Rattle.nbd_story.specs.declared.rules.Breaker.{Breaker, TheVariants.{Client, Server, Sender, Nobody}}
 
 -- the sender of the byte, where each side can break the rule; the client by its flags and requests; nobody, where the
 -- session is allowed and this project does not follow it, or its recording ended; else the server

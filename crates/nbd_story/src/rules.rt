@@ -1,8 +1,7 @@
 //! The rules that a session or an order can break, each in a sentence.
 
 ghost use Rattle.std.specs.Prelude.{◌≡◌};
-ghost use Rattle.nbd_story.specs.Breakers.{breaker_of};
-ghost use Rattle.nbd_story.specs.declared.rules.Breaker.TheVariants.{Order};
+ghost use Rattle.nbd_story.specs.{Breakers.breaker_of, declared.rules.Breaker.TheVariants.Order};
 
 use nbd_wire::{OrderFault, WireFault};
 

@@ -3,7 +3,7 @@ pub use Rattle.nbd_capture.proofs.{FormLemmas.one_saying, OrderLineLemmas.one_en
 pub use Rattle.nbd_capture.specs.{Capture.{AreDigits, Chunk, IsCaptureLine, IsCaptureText, blank, byte, chunk, comment, none}, Lines.{empty, line_feed}, Order.{IsOrderLine, IsOrderText}, Reading.{NamesFirstBadLine, Reading, Reads, at_start}, Writing.AppendsPrefix, declared.{capture.CaptureFault.CaptureFault, reader.State.TheVariants.Open}}
 pub use Rattle.nbd_files.specs.{RunFaults.of_capture, Starts.{IsWithinLimit, image_of}, Texts.IsText, declared.{fault.RunFault.{RunFault, TheVariants.{Memory, Write}}, input.{Text.TheVariants.Longer, TheConstants.READ_LIMIT}}}
 pub use Rattle.nbd_judge.proofs.verdicts.{ChunkLemmas.{checked, told_of}, RefusalLemmas.answers_exactly, UniqueLemmas.one_answer}
-pub use Rattle.nbd_judge.specs.{Captures.{IsChecked, IsFaultOf}, Conclusions.{Answers, IsConclusion, IsReportOf}, internal.HasReport}
+pub use Rattle.nbd_judge.specs.{Captures.IsChecked, Conclusions.{Answers, IsConclusion, IsReportOf}, internal.{HasReport, IsFaultOf}}
 pub use Rattle.nbd_wire.specs.{declared.{verdict.Verdict.{Verdict, TheVariants.{Content, Order, Status, Yes}}, entry.Entry.Entry, fault.WireFault.WireFault, message.Side.Side, profile.Profile.Profile}, protocol.{Captures.{Pair, side_pairs}, Explains.{IsExplainedOf, Start, image}, Marks.{Item, pairs}, Reports.Report, Rules.IsRunOf}}
 pub use Rattle.nbd_session.proofs.judge.PieceLemmas.{kept_taken}
 pub use Rattle.nbd_session.specs.{Following.{Follows, IsPushed, past_of}, Refusals.{EndsIn, IsRefusalOf, IsWireFaultOf, Refuses}, Sessions.{AddsPrefix, IsAtEnd, IsReported, SessionView, bytes_taken, empty_session_of, end_by, fault_at_end, fault_of, open_end_fault, pairs_of}, declared.{fault.SessionFault.{SessionFault, TheVariants.Wire}, monitor.Monitor.Monitor}}

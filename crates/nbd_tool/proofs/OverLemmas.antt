@@ -122,7 +122,7 @@ fault_over {profile = profile} capture r (Err (Wire at fault)) over same ends = 
         let now : fault_at_end r ≡ Some other = ap (λ c. end_by c (open_end_fault r.client r.server (bytes_taken r))) closed in
         let is : other ≡ Wire at fault = (let q : Some (Wire at fault) ≡ Some other = same ∙ now in cc) in
         let why = subst (Refuses r) is refused in
-        (r.messages, inl (record { prefix = pairs_of r; rest = over.left; parts = over.parts; at_is = why.0; refusal = subst (λ q. IsRefusalOf q (pairs_of r) r.messages fault) over.profile_is why.1 }))
+        (r.messages, inl (pairs_of r, over.left, over.parts, why.0, subst (λ q. IsRefusalOf q (pairs_of r) r.messages fault) over.profile_is why.1))
 
 -- a fault of the capture's reader is the cause that the run's fault states
 pub cause_of : (known : Option (List ℕ)) (fault : CaptureFault) → NamesFirstBadLine known fault → IsCaptureCause known (of_capture fault)

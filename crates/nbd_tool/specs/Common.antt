@@ -4,4 +4,4 @@ pub use Rattle.nbd_wire.specs.declared.{entry.Entry.Entry, fault.WireFault.{Wire
 pub use Rattle.nbd_capture.specs.{Capture.{Chunk, IsCaptureText, IsFirstBadCaptureLine}, Contents.IsFirstBadContentsLine, Order.{IsFirstBadOrderLine, IsOrderText}, Writing.AppendsPrefix}
 pub use Rattle.nbd_files.specs.{Starts.IsStartCause, declared.{fault.RunFault.{RunFault, TheVariants.{CaptureLine, CaptureRead, ContentsLine, ContentsRead, Memory, OrderLine, OrderRead, Write}}, start.StartFrom.StartFrom}}
 pub use Rattle.nbd_session.specs.{Following.Follows, Refusals.{EndsIn, Refuses}, Sessions.{IsReported, SessionView, bytes_taken, fault_at_end, fault_of, pairs_of}, declared.{fault.SessionFault.SessionFault, monitor.Monitor.Monitor}}
-pub use Rattle.nbd_judge.specs.{Beginnings.initial_of, Captures.IsChecked, Conclusions.{Answers, IsConclusion, IsReportOf}, Servable.size_of}
+pub use Rattle.nbd_judge.specs.{Beginnings.{initial_of, size_of}, Captures.IsChecked, Conclusions.{Answers, IsConclusion, IsReportOf}}

@@ -1,6 +1,6 @@
 -- The names that the proofs of this crate cite from elsewhere, passed on from one place. Declares nothing.
 pub use Rattle.byteorder.specs.{Endian.{big_bytes, big_from, big_number}, Numbers.{big_from-append, big_from-cons, big_from-lt, big_number-reads_back, length-bytes_high_first}}
-pub use Rattle.nbd_wire.specs.codec.{Contents.piece_of, Reads.{Reads, ReadsAs}}
+pub use Rattle.nbd_wire.specs.codec.Contents.{piece_of, Reads, ReadsAs}
 pub use Rattle.nbd_wire.specs.declared.{chunks.TheConstants.{ERROR, ERROR_OFFSET, OFFSET_DATA, OFFSET_HOLE}, commands.TheConstants.WRITE, heads.{negotiation.{AnswerHead.AnswerHead, ChoiceHead.ChoiceHead}, transmission.{ChunkHead.ChunkHead, RequestHead.RequestHead, SimpleHead.SimpleHead}}, infos.TheConstants.{BLOCK_SIZE, EXPORT}, magics.TheConstants.{ANSWER_MAGIC, CHUNK_MAGIC, EXTENDED_CHUNK_MAGIC, EXTENDED_REQUEST_MAGIC, GREETING_MAGIC, OPTION_MAGIC, REQUEST_MAGIC, SIMPLE_MAGIC}, message.Message.{Message, TheVariants.{Answer, Choice, Chunk, ClientFlags, Exported, ExtendedChunk, ExtendedRequest, Greeting, Request, Simple}}, payloads.{Failure.Failure, Info.{Info, TheVariants.{BlockSize, Export, Other}}, Piece.{Piece, TheVariants.{Bytes, Hole}}}}
 pub use Rattle.nbd_wire.specs.protocol.{Contexts.{Context, Extent, Filter, Status}, Encoding.AreBytes, Forms.{GoesOn, with_extents, with_ids, with_lengths}, Payloads.{are_queries, behind_name, extents_in, extents_of, has_empty, ids_in, ids_of, name_in, number_at}, Sizes.has_number}
 unfoldable pub use Rattle.nbd_wire.specs.codec.{Fits.FitsItsHead, Heads.{IsAnswerHead, IsChoiceHead, IsChunkHead, IsClientFlagsHead, IsExportHead, IsExtendedChunkHead, IsExtendedRequestHead, IsGreetingHead, IsRequestHead, IsSimpleHead, IsHeadOf, head_length}}

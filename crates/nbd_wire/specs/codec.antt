@@ -1,4 +1,4 @@
 pub mod Contents
 pub mod Fits
 pub mod Heads
-pub mod Reads
+pub mod Layouts

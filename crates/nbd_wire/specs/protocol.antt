@@ -1,5 +1,4 @@
 pub mod Sides
-pub mod Layouts
 pub mod Encoding
 pub mod Contexts
 pub mod Payloads

@@ -4,7 +4,7 @@
 //! payload has a form of that type, and takes no memory.
 
 ghost use Rattle.std.specs.{Prelude.{◌≡◌, ◌∷◌, [], MatchOption, true, false}, Option.option_map};
-ghost use Rattle.nbd_wire.specs.{codec.{Contents.{extent_of, piece_of}, Reads.{Reads, ReadsAs}}, protocol.{Contexts.Status, Forms.{HasContentForm, HasFailureForm, HasStatusForm}, Payloads.{content_of, extents_of, failure_of, has_empty, status_of}, Transmission.read_as}};
+ghost use Rattle.nbd_wire.specs.{codec.Contents.{extent_of, piece_of, Reads, ReadsAs}, protocol.{Contexts.Status, Forms.{HasContentForm, HasFailureForm, HasStatusForm}, Payloads.{content_of, extents_of, failure_of, has_empty, status_of}, Transmission.read_as}};
 
 use crate::chunks::{ERROR, ERROR_OFFSET, FIRST_ERROR, OFFSET_DATA, OFFSET_HOLE};
 use crate::numbers::{u16_at, u32_at, u64_at};

@@ -2,7 +2,7 @@
 //! flags") has the flag's number alone; the form is that of libnbd and qemu, and is this project's choice.
 
 ghost use Rattle.std.specs.{Prelude.{◌≡◌, ◌∷◌, [], MatchOption}, Option.option_map};
-ghost use Rattle.nbd_wire.specs.{protocol.{Contexts.Filter, Forms.HasFilterForm, Payloads.{filter_of, ids_of}}, codec.Reads.ReadsAs};
+ghost use Rattle.nbd_wire.specs.{protocol.{Contexts.Filter, Forms.HasFilterForm, Payloads.{filter_of, ids_of}}, codec.Contents.ReadsAs};
 
 use crate::numbers::{u32_at, u64_at};
 

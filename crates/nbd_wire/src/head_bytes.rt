@@ -1,7 +1,7 @@
 //! The heads of messages as bytes. Numbers are big-endian.
 
 ghost use Rattle.std.specs.Prelude.{◌≡◌};
-ghost use Rattle.nbd_wire.specs.protocol.Layouts.{answer_bytes, choice_bytes, chunk_bytes, client_flags_bytes, export_bytes, greeting_bytes, request_bytes, simple_bytes, extended_chunk_bytes, extended_request_bytes};
+ghost use Rattle.nbd_wire.specs.codec.Layouts.{answer_bytes, choice_bytes, chunk_bytes, client_flags_bytes, export_bytes, greeting_bytes, request_bytes, simple_bytes, extended_chunk_bytes, extended_request_bytes};
 
 use crate::head_lengths::{
     ANSWER, CHOICE, CHUNK, CLIENT_FLAGS, EXPORT, EXTENDED_CHUNK, EXTENDED_REQUEST, GREETING,

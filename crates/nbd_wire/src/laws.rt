@@ -2,7 +2,7 @@
 
 ghost use Rattle.std.specs.Prelude.{◌≡◌, ◌≤◌, ◌↔◌, ℕ, List, IsTrue, length, drop, map, take};
 ghost use Rattle.byteorder.specs.Endian.{big_bytes, big_number};
-ghost use Rattle.nbd_wire.specs.{protocol.{Encoding.{AreBytes, enc, tail}, Forms.{HasContentForm, HasFailureForm, HasGoForm, HasInfoForm, HasListedForm}, Payloads.{content_of, failure_of, info_of, is_go, is_listed}, Sendable.IsSendable}, codec.{Fits.FitsItsHead, Reads.Reads, Heads.{IsHeadOf, head_length}}, declared.message.Message.Message};
+ghost use Rattle.nbd_wire.specs.{protocol.{Encoding.{AreBytes, enc, tail}, Forms.{HasContentForm, HasFailureForm, HasGoForm, HasInfoForm, HasListedForm}, Payloads.{content_of, failure_of, info_of, is_go, is_listed}, Sendable.IsSendable}, codec.{Fits.FitsItsHead, Contents.Reads, Heads.{IsHeadOf, head_length}}, declared.message.Message.Message};
 ghost use Rattle.nbd_wire.specs.Names.{chunk_flag_names, chunk_names, client_flag_names, command_flag_names, command_names, error_names, handshake_flag_names, info_names, option_names, reply_names, transmission_flag_names};
 ghost use Rattle.nbd_wire.specs.Numbers.{ChunksAreLiteral, CommandFlagsAreLiteral, CommandsAreLiteral, HandshakeFlagsAreLiteral, InfosAreLiteral, LengthsAreLiteral, LimitsAreLiteral, MagicsAreLiteral, OptionsAreLiteral, ReplyKindsAreLiteral, StatesAreLiteral, TransmissionFlagsAreLiteral};
 ghost use Rattle.nbd_wire.specs.declared.flag_names.TheConstants as flag_names;

@@ -5,7 +5,7 @@
 //! no memory.
 
 ghost use Rattle.std.specs.{Prelude.{◌≡◌, ℕ, List, IfSome, is_some}, Option.option_map};
-ghost use Rattle.nbd_wire.specs.{protocol.{Contexts.Context, Forms.{HasContextForm, HasGoForm, HasInfoForm, HasListedForm, HasQueriesForm}, Payloads.{are_queries, context_of, info_of, is_go, is_listed, name_in, queries_of}}, codec.Reads.{Reads, ReadsAs}};
+ghost use Rattle.nbd_wire.specs.{protocol.{Contexts.Context, Forms.{HasContextForm, HasGoForm, HasInfoForm, HasListedForm, HasQueriesForm}, Payloads.{are_queries, context_of, info_of, is_go, is_listed, name_in, queries_of}}, codec.Contents.{Reads, ReadsAs}};
 
 use crate::numbers::{u16_at, u32_at, u64_at};
 use crate::{Info, infos};

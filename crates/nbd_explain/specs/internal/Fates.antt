@@ -1,7 +1,7 @@
 -- What replies say of the requests before them.
-use Rattle.std.specs.{Prelude.{◌≡◌, ◌++◌, ◌∷◌, ◌==◌, ℕ, List, [], Bool, false, Option, Some, None, codes, if◌then◌else◌}, Io.KnownBytes.Appends, BTreeMap.{BTreeMap, get}, Ordering.nat_cmp}
+use Rattle.std.specs.{Prelude.{◌≡◌, ◌++◌, ◌∷◌, ◌==◌, ℕ, List, [], Bool, false, Option, Some, None, codes, if◌then◌else◌}, Io.KnownBytes.Appends, BTreeMap.{BTreeMap, get}, Ordering.nat_cmp, List.list_any}
 use Rattle.nbd_wire.specs.declared.commands.TheConstants as commands
-use Rattle.nbd_explain.specs.{Common.{Message, Request, ExtendedRequest, any, ends_reply, is_failing, cookie_of, outcome_of}, declared.fates.Reply.Reply, Named.{IsEnding, has_feed}}
+use Rattle.nbd_explain.specs.{Common.{Message, Request, ExtendedRequest, ends_reply, is_failing, cookie_of, outcome_of}, declared.fates.Reply.Reply, Named.{IsEnding, has_feed}}
 use Rattle.nbd_state.specs.declared.asked.Outcome.{Outcome, TheVariants.{Failure, Pending, Success}}
 
 -- the message is one of a reply with this cookie
@@ -19,7 +19,8 @@ reply_in cookie (m ∷ later) =
 
 -- what became of a request with this reply
 abbrev pub outcome_by : List Message → Outcome
-outcome_by reply = if any ends_reply reply then (if any is_failing reply then Failure else Success) else Pending
+outcome_by reply =
+    if list_any ends_reply reply then (if list_any is_failing reply then Failure else Success) else Pending
 
 -- what became of a request, by the messages behind it, if it has a number
 abbrev pub fate_by : (command cookie : ℕ) → (later : List Message) → Option Outcome
@@ -39,7 +40,7 @@ fates_behind (m ∷ later) = fates_behind later ++ (fate m later ∷ [])
 
 -- what the messages of a reply say
 abbrev pub told_by : List Message → Reply
-told_by reply = record { ends = any ends_reply reply; fails = any is_failing reply }
+told_by reply = record { ends = list_any ends_reply reply; fails = list_any is_failing reply }
 
 abbrev pub outcome_told : Reply → Outcome
 outcome_told reply = if reply.ends then (if reply.fails then Failure else Success) else Pending

@@ -1,5 +1,5 @@
 -- Bytes of a range, taken out of a list of bytes.
-use Rattle.nbd_judge.proofs.Common.{◌≡◌, ℕ, zero, suc, ◌+◌, ◌-◌, ◌<◌, ◌≤◌, ◌&&◌, ◌⊎◌, inl, inr, List, [], ◌∷◌, length, refl, sym, ◌∙◌, ap, subst, Option, Some, None, Bool, true, false, if◌then◌else◌, arith, le_refl, max, min, slice_get, slice_range, take, drop, Part, Piece, Bytes, Hole, effect, effect_byte, is_success, new_byte, serves, is_change, is_in, piece_byte, piece_offset, piece_size, Asked, lesser_of, DiffersIn, IsLeast, bytes_from, overlay, zeroes, contents_with_effect, Span, DiffersInOneWithin, DiffersWithin, length-drop, length-take-le, nat_tests, and-true, slice_get-get_or, IsPartIn, served_span}
+use Rattle.nbd_judge.proofs.Common.{◌≡◌, ℕ, zero, suc, ◌+◌, ◌-◌, ◌<◌, ◌≤◌, ◌&&◌, ◌⊎◌, inl, inr, List, [], ◌∷◌, length, refl, sym, ◌∙◌, ap, subst, Option, Some, None, Bool, true, false, if◌then◌else◌, arith, le_refl, max, min, slice_get, slice_range, take, drop, Part, Piece, Bytes, Hole, effect, effect_byte, is_success, serves, is_change, is_in, piece_byte, piece_offset, piece_size, Asked, lesser_of, DiffersIn, IsLeast, bytes_from, overlay, zeroes, contents_with_effect, Span, DiffersInOneWithin, DiffersWithin, length-drop, length-take-le, nat_tests, and-true, slice_get-get_or, IsPartIn, served_span}
 use Rattle.nbd_judge.proofs.contents.CompareLemmas.{from_in, from_more, in_from, least_as, least_lesser, to_more}
 use Rattle.nbd_wire.specs.declared.commands.TheConstants as commands
 
@@ -102,5 +102,5 @@ written p a fit c s carried slice is old x =
         (let r = span_in_range p a fit in let i = from_in (served_span p a).offset (served_span p a).size x e in
         let lo : a.offset ≤ (served_span p a).offset = r.0 in let at : (served_span p a).offset ≤ x = i.0 in let below : x < (served_span p a).offset + (served_span p a).size = i.1 in
         ap (λ l. slice_get l (x - (served_span p a).offset)) is ∙ range_get a.payload ((served_span p a).offset - a.offset) (served_span p a).size (x - (served_span p a).offset) (omega (arith, at, below)) ∙ ap (slice_get a.payload) (omega (arith, lo, at))
-        ∙ sym (ap (λ b. new_byte b a.command a.offset a.payload x) s ∙ ap (λ k. new_byte true k a.offset a.payload x) c))
+        ∙ sym (ap (λ b. effect_byte (record (effect a) { succeeded = b }) x) s ∙ ap (λ k. effect_byte (record (effect a) { succeeded = true; command = k }) x) c))
     go false e = refl

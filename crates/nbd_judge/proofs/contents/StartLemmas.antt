@@ -1,18 +1,18 @@
 -- A verdict depends on the bytes at first only below the export's size.
-use Rattle.nbd_judge.proofs.Common.{◌≡◌, ℕ, ◌+◌, ◌<◌, ◌≤◌, List, refl, sym, ◌∙◌, ap, arith, Option, Some, None, Result, Ok, Err, IfOk, take, subst, inl, inr, ◌⊎◌, and_parts, Profile, Entry, Part, in_part, is_in, Effect, IsWrong, IsWrongIn, effect, effect_if, effects, last_touch, byte_or_start, byte_before, FitsImage, Start, start_byte, Asked, Report, asked_at, Exporting, AreSameBelow, IsSoundReport, size_and_flags, Verdict, given_length, initial_of, size_of, HasWrongFrom, IsJudged, IsVerdict, FirstWrongFrom}
+use Rattle.nbd_judge.proofs.Common.{◌≡◌, ℕ, ◌+◌, ◌<◌, ◌≤◌, List, refl, sym, ◌∙◌, ap, arith, Option, Some, None, Result, Ok, Err, IfOk, take, subst, inl, inr, ◌⊎◌, and_parts, Profile, Entry, Part, in_part, is_in, Effect, IsWrong, IsWrongIn, effect, effects, last_touch, byte_or_start, byte_before, FitsImage, Start, start_byte, Asked, Report, asked_at, Exporting, AreSameBelow, IsSoundReport, size_and_flags, Verdict, given_length, initial_of, size_of, HasWrongFrom, IsJudged, IsVerdict, FirstWrongFrom, option_map}
 use Rattle.nbd_judge.proofs.{contents.CompareLemmas.{from_in, wrong_of}, orders.FirstLemmas.first_of, verdicts.SoundLemmas.servable}
 use Rattle.nbd_wire.specs.declared.commands.TheConstants as commands
-use Rattle.nbd_wire.specs.Prelude.{Held, known}
+use Rattle.nbd_wire.specs.Prelude.{Held}
 use Rattle.nbd_export.specs.Starts as contents
 use Rattle.nbd_export.specs.declared.start.Start as contents_start
 use Rattle.nbd_export.specs.declared.start.Start.TheVariants as contents_starts
 use Rattle.nbd_wire.specs.declared.verdict.Verdict.TheVariants as verdict
-use Rattle.std.specs.Prelude.{[], ◌∷◌, zero, suc, map, slice_get}
+use Rattle.std.specs.Prelude.{[], ◌∷◌, zero, suc, map, slice_get, unwrap_or}
 use Rattle.std.proofs.lemmas.List.{length-map}
 use Rattle.nbd_export.specs.Extents.{byte_of, size_of as extent_size}
 use Rattle.nbd_export.proofs.HeldLemmas.{length-held_from, slice_get-held_from}
 
-request_of : (o : Option Asked) (e : Effect) → effect_if o ≡ Some e → (a : Asked) × (o ≡ Some a) × (effect a ≡ e)
+request_of : (o : Option Asked) (e : Effect) → (option_map effect) o ≡ Some e → (a : Asked) × (o ≡ Some a) × (effect a ≡ e)
 request_of None e h = absurd (cc)
 request_of (Some a) e h = (a, refl, cc)
 
@@ -110,7 +110,7 @@ start_fits size (contents_starts.Image image) h = sym (length-map image.value.it
 start_fits size (contents_starts.Contents given) h = sym (length-held_from (byte_of given.value) 0 (extent_size given.value)) ∙ h _ refl
 
 -- a byte of an image is known
-pub known_byte : (bytes : List ℕ) (x : ℕ) → slice_get bytes x ≡ known (slice_get (map Some bytes) x)
+pub known_byte : (bytes : List ℕ) (x : ℕ) → slice_get bytes x ≡ unwrap_or (slice_get (map Some bytes) x) None
 known_byte [] x = refl
 known_byte (b ∷ bytes) zero = refl
 known_byte (b ∷ bytes) (suc x) = known_byte bytes x
@@ -122,4 +122,4 @@ same_start size contents_starts.Zeroes fits x l = refl
 same_start size (contents_starts.Image image) fits x l = known_byte image.value.items x
 same_start size (contents_starts.Contents given) fits x l =
     let at : x ≡ 0 + x = omega arith in
-    ap (byte_of given.value) at ∙ ap known (sym (slice_get-held_from (byte_of given.value) 0 (extent_size given.value) x (subst (λ n. x < n) (sym fits) l)))
+    ap (byte_of given.value) at ∙ ap (λ o. unwrap_or o None) (sym (slice_get-held_from (byte_of given.value) 0 (extent_size given.value) x (subst (λ n. x < n) (sym fits) l)))

@@ -1,5 +1,5 @@
 -- What entries serve of a request.
-use Rattle.nbd_judge.proofs.Common.{◌≡◌, ℕ, zero, suc, ◌+◌, ◌-◌, ◌<◌, ◌≤◌, ◌==◌, ◌&&◌, ◌||◌, ◌⊎◌, inl, inr, List, [], ◌∷◌, ◌++◌, refl, sym, ◌∙◌, ap, subst, Option, Some, None, Bool, true, false, is_some, if◌then◌else◌, arith, nat_le, eqb-true, eq-eqb, append_assoc, append-nil, nat_tests, cases_Bool, cases_lt, cases_eq, Entry, Part, Piece, Hole, HasBadPart, IsServedAt, MayServe, Names, NamesWhole, in_part, is_served, SharesNone, byte_at, holds, is_in, piece_byte, piece_offset, piece_size, is_apart, is_apart_from, total, apart_from-shares, covered_total, full_total_covers, no_overlap, total_within, apart_snoc, whole_names, Span, HasMore, IsApart, IsBare, IsFree, IsHeld, IsIndex, Meets, index-more, index-none, AreParts, IsSpanOf, LieApart, part_pieces, parts_of}
+use Rattle.nbd_judge.proofs.Common.{◌≡◌, ℕ, zero, suc, ◌+◌, ◌-◌, ◌<◌, ◌≤◌, ◌==◌, ◌&&◌, ◌||◌, ◌⊎◌, inl, inr, List, [], ◌∷◌, ◌++◌, refl, sym, ◌∙◌, ap, subst, Option, Some, None, Bool, true, false, is_some, if◌then◌else◌, arith, nat_le, eqb-true, eq-eqb, append_assoc, append-nil, nat_tests, cases_Bool, cases_lt, cases_eq, Entry, Part, Piece, Hole, IsServedAt, MayServe, Names, NamesWhole, in_part, is_served, SharesNone, byte_at, holds, is_in, piece_byte, piece_offset, piece_size, is_apart, is_apart_from, total, apart_from-shares, covered_total, full_total_covers, no_overlap, total_within, apart_snoc, whole_names, Span, HasMore, IsApart, IsBare, IsFree, IsHeld, IsIndex, Meets, index-more, index-none, AreParts, IsSpanOf, LieApart, part_pieces, parts_of, IsMisplaced}
 use Rattle.nbd_judge.proofs.contents.CompareLemmas.{from_in, in_from}
 use Rattle.nbd_laws.proofs.requests.LaidLemmas.{AreApart, AreInside}
 
@@ -156,7 +156,7 @@ module _ (span : Span) (within : ℕ → Bool) (is_span : IsSpanOf span within) 
       }
 
     -- a part that does not lie in the span, or meets another, is bad
-    pub out_of_span : (p : Part) → (span.offset ≤ p.offset → p.offset + p.length ≤ span.offset + span.size → ⊥) → HasBadPart within before (record { request = k; part = Some p })
+    pub out_of_span : (p : Part) → (span.offset ≤ p.offset → p.offset + p.length ≤ span.offset + span.size → ⊥) → IsMisplaced within before k (Some p)
     out_of_span p out = elim (all_or_one (is_in span.offset span.size) p.offset p.length) [
       | inl all ↦ elim (cases_eq p.length 0) [
         | inl empty ↦ inl empty
@@ -168,7 +168,7 @@ module _ (span : Span) (within : ℕ → Bool) (is_span : IsSpanOf span within) 
       | inr (x, lo, hi, none) ↦ inr (inl (x, in_from p.offset p.length x lo hi, is_span x ∙ none))
     ]
 
-    pub meets_part : (p : Part) → (p.length ≡ 0) ⊎ Meets sizes p.offset p.length → HasBadPart within before (record { request = k; part = Some p })
+    pub meets_part : (p : Part) → (p.length ≡ 0) ⊎ Meets sizes p.offset p.length → IsMisplaced within before k (Some p)
     meets_part p (inl empty) = inl empty
     meets_part p (inr m) = elim (cases_eq p.length 0) [
       | inl empty ↦ inl empty

@@ -1,5 +1,5 @@
 -- The table of what an order serves of each request.
-use Rattle.nbd_judge.proofs.Common.{slice_get_within, take-length, IsFaultless, MatchOption, is_some, ◌≡◌, ℕ, zero, suc, ◌+◌, ◌-◌, ◌<◌, ◌≤◌, ◌==◌, ◌&&◌, inl, inr, List, [], ◌∷◌, ◌++◌, length, refl, sym, ◌∙◌, ap, subst, Option, Some, None, Result, Ok, Err, Bool, true, false, if◌then◌else◌, arith, nat_le, nat_lt, cases_Bool, eqb-true, slice_get, slice_set, take, ◌||◌, not, IsTrue, cases_eq, Entry, HasBadPart, IsTwice, MayServe, NamesWhole, inside_of, Exporting, has_range, is_chunked, IsBad, IsDue, IsLate, IsUnserved, NamesNone, Part, Profile, is_in, Asked, Report, asked_at, due_in, due_of, first_shown, inside_asked, inside_in, lesser_of, Names-left, Names-push_cases, NamesWhole-left, total, Span, IsIndex, sizes_of, Service, Unnamed, Whole, InParts, OrderFault, Twice, Missing, BadPart, NotCovered, IsOrderFault, has_inside, AreServices, IsAllServed, IsBadAt, IsFaultAfter, IsFaultOfService, IsFirstBad, IsNext, IsServiceAfter, IsServiceOf, IsShownAt, IsSpanOf, IsUnservedBy, LieApart, TellsFaultOf, TellsUnserved, part_pieces, parts_of, span_if, span_of_asked, IsFair, nat_tests, and-false, and_assoc}
+use Rattle.nbd_judge.proofs.Common.{slice_get_within, take-length, IsFaultless, MatchOption, is_some, ◌≡◌, ℕ, zero, suc, ◌+◌, ◌-◌, ◌<◌, ◌≤◌, ◌==◌, ◌&&◌, inl, inr, List, [], ◌∷◌, ◌++◌, length, refl, sym, ◌∙◌, ap, subst, Option, Some, None, Result, Ok, Err, Bool, true, false, if◌then◌else◌, arith, nat_le, nat_lt, cases_Bool, eqb-true, slice_get, slice_set, take, ◌||◌, not, IsTrue, cases_eq, Entry, MayServe, NamesWhole, inside_of, Exporting, has_range, is_chunked, IsBad, IsDue, IsLate, IsUnserved, NamesNone, Part, Profile, is_in, Asked, Report, asked_at, due_in, due_of, first_shown, inside_asked, inside_in, lesser_of, Names-left, Names-push_cases, NamesWhole-left, total, Span, IsIndex, sizes_of, Service, Unnamed, Whole, InParts, OrderFault, Twice, Missing, BadPart, NotCovered, IsOrderFault, has_inside, AreServices, IsAllServed, IsBadAt, IsFaultAfter, IsFaultOfService, IsFirstBad, IsNext, IsServiceAfter, IsServiceOf, IsShownAt, IsSpanOf, IsUnservedBy, LieApart, TellsFaultOf, TellsUnserved, part_pieces, parts_of, span_if, span_of_asked, IsFair, nat_tests, and-false, and_assoc, IsMisplaced, IsAgain}
 use Rattle.nbd_judge.proofs.{orders.DueLemmas.{due_chunked, due_none, due_whole}, contents.EffectLemmas.taken_one}
 use Rattle.nbd_wire.specs.declared.commands.TheConstants as commands
 use Rattle.nbd_judge.specs.internal.Services.{IsFaultOf}
@@ -106,8 +106,8 @@ module _ (r : Report) (order : List Entry) (i : ℕ) (e : Entry) (at : slice_get
       none_here b = elim b [
         | inl n ↦ named n
         | inr b ↦ elim b [
-          | inl t ↦ told_ok.0.0 (subst (IsTwice (take i order)) (same_entry t.0 t.1) t.2)
-          | inr p ↦ told_ok.0.1 (subst (λ (d : Entry). HasBadPart (inside_in r d.request) (take i order) d) (same_entry p.0 p.1) p.2)
+          | inl t ↦ told_ok.0.0 (subst (λ (d : Entry). IsAgain (take i order) d.request d.part) (same_entry t.0 t.1) t.2)
+          | inr p ↦ told_ok.0.1 (subst (λ (d : Entry). IsMisplaced (inside_in r d.request) (take i order) d.request d.part) (same_entry p.0 p.1) p.2)
         ]
       ]
 
@@ -127,7 +127,7 @@ module _ (r : Report) (order : List Entry) (i : ℕ) (e : Entry) (at : slice_get
     where
       bad : (fault : OrderFault) → IsFaultAfter (inside_in r e.request) (take i order) e fault → IsBadAt r order i fault
       bad Twice f = (e, at, f)
-      bad BadPart f = ((e, at, f.0), named, λ t. f.1 (subst (IsTwice (take i order)) (same_entry t.0 t.1) t.2))
+      bad BadPart f = ((e, at, f.0), named, λ t. f.1 (subst (λ (d : Entry). IsAgain (take i order) d.request d.part) (same_entry t.0 t.1) t.2))
       bad fault f = absurd f
 
 -- what is served where it was due has no fault
@@ -220,8 +220,8 @@ fair r order none i e at = record {
   part = λ p q. ((let ne : p.length ≡ 0 → ⊥ = λ z. bad p q (inl z) in omega arith), λ x h. inside p q x h (inside_in r e.request x) refl);
 }
   where
-    bad : (p : Part) → e.part ≡ Some p → HasBadPart (inside_in r e.request) (take i order) (record { request = e.request; part = Some p }) → ⊥
-    bad p q h = none i (inr (inr (e, at, subst (λ o. HasBadPart (inside_in r e.request) (take i order) (record { request = e.request; part = o })) (sym q) h)))
+    bad : (p : Part) → e.part ≡ Some p → IsMisplaced (inside_in r e.request) (take i order) e.request (Some p) → ⊥
+    bad p q h = none i (inr (inr (e, at, subst (λ o. IsMisplaced (inside_in r e.request) (take i order) e.request o) (sym q) h)))
 
     inside : (p : Part) → e.part ≡ Some p → (x : ℕ) → IsTrue (is_in p.offset p.length x) → (b : Bool) → inside_in r e.request x ≡ b → b ≡ true
     inside p q x h true z = refl

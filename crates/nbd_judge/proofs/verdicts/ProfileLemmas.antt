@@ -1,5 +1,5 @@
 -- A capture in which no answer of success on metadata contexts comes has the same verdict in both profiles.
-use Rattle.nbd_judge.proofs.Common.{◌≡◌, ℕ, List, [], ◌∷◌, length, refl, sym, ◌∙◌, ap, subst, inl, inr, Entry, WireFault, Message, Side, Client, Server, Profile, ArePairs, Pair, AreBytes, Start, Item, pairs, without_service, Report, report, due_in, inside_in, IsRunOf, Obeys, IsPlaceOf, IsUnderWayOf, State, start_of, NothingParts, Both, fresh_of, reads, Busy, Idle, Loose, Open, Walk, ended, final, loose, middle, opening, serving, dues_agree, nothing_before, places_agree, runs_agree, under_way_in, pairs_unserved, each_with, FirstLate, HasNoOrderFault, LeastMissing, LeastNotCovered, IsFaultless, improper_count, IsOrderFault, OrderFault, Late, Missing, NotCovered, but_last, places_begin_no_run, read_no_place, walk_of, explained_passes, passing_is_explained, orders_are_faultless, reports_ignore_service, same_reports, IsOpenEndOf, IsRefusalOf, IsWireFaultOf, LeavesOpen, CompletesExactlyOf, completes_exactly, Verdict, Yes, Wire, Image, Order, HasVerdict, Answers, AnswersAtOnceIn, NothingPartsIn, with_improper, VerdictsAgree, IsVerdict}
+use Rattle.nbd_judge.proofs.Common.{◌≡◌, ℕ, List, [], ◌∷◌, length, refl, sym, ◌∙◌, ap, subst, inl, inr, Entry, WireFault, Message, Side, Client, Server, Profile, ArePairs, Pair, AreBytes, Start, Item, pairs, without_service, Report, report, due_in, inside_in, IsRunOf, Obeys, IsPlaceOf, IsUnderWayOf, State, start_of, NothingParts, Both, fresh_of, reads, Busy, Idle, Loose, Open, Walk, ended, final, loose, middle, opening, serving, dues_agree, nothing_before, places_agree, runs_agree, under_way_in, pairs_unserved, each_with, HasNoOrderFault, IsFaultless, improper_count, IsOrderFault, OrderFault, Late, Missing, NotCovered, but_last, places_begin_no_run, read_no_place, walk_of, explained_passes, passing_is_explained, orders_are_faultless, reports_ignore_service, same_reports, IsOpenEndOf, IsRefusalOf, IsWireFaultOf, CompletesExactlyOf, completes_exactly, Verdict, Yes, Wire, Image, Order, HasVerdict, Answers, AnswersAtOnceIn, NothingPartsIn, with_improper, VerdictsAgree, IsVerdict, ◌⊎◌, Reader, IsFaultAt}
 use Rattle.nbd_judge.proofs.verdicts.AnswerLemmas.{answers_runs}
 use Rattle.nbd_wire.specs.Prelude.{get}
 
@@ -39,10 +39,7 @@ place_refuses profile ps messages fault place = record {
 
 -- where the same is due, an order has the same fault
 same_fault : (p q : Profile) (r : Report) (order : List Entry) (entry : ℕ) (fault : OrderFault) → due_in p r ≡ due_in q r → IsOrderFault p r order entry fault → IsOrderFault q r order entry fault
-same_fault p q r order entry Late same h = subst (λ due. FirstLate (length r.asked) due (inside_in r) order entry) same h
-same_fault p q r order entry Missing same h = subst (λ due. LeastMissing (length r.asked) due (inside_in r) order entry) same h
-same_fault p q r order entry NotCovered same h = subst (λ due. LeastNotCovered (length r.asked) due (inside_in r) order entry) same h
-same_fault p q r order entry fault same h = h
+same_fault p q r order entry fault same h = subst (λ due. IsFaultAt (length r.asked) due (inside_in r) order entry fault) same h
 
 same_faultless : (p q : Profile) (r : Report) (order : List Entry) → due_in p r ≡ due_in q r → IsFaultless p r order → IsFaultless q r order
 same_faultless p q r order same h = subst (λ due. HasNoOrderFault (length r.asked) due (inside_in r) order) same h
@@ -92,14 +89,14 @@ module _ (p q : Profile) (capture : List Pair) (tells : NothingPartsIn capture) 
           placeless = λ prefix rest more fault parts place. read_no_place prefix rest v.0.end (ap (reads (fresh_of q)) parts ∙ v.0.reads_it) more fault place;
           all = completes_exactly capture v.0.end messages v.0.are_pairs v.0.reads_it v.0.has_messages;
         };
-        leaves_open = subst LeavesOpen (sym v.1) e.leaves_open;
+        leaves_open = subst (λ (end : Reader). (end.rests.client.bytes ≡ [] → ⊥) ⊎ (end.rests.server.bytes ≡ [] → ⊥)) (sym v.1) e.leaves_open;
         none = λ items run has. (let other = runs_agree q p items (run_pairs q items run) (none_told q items has) run in e.none other.0 other.1 (same_pairs items other.0 other.2 ∙ has));
       }
 
   same_wire_fault : (messages : List Message) (at : ℕ) (fault : WireFault) → IsWireFaultOf p capture messages at fault → IsWireFaultOf q capture messages at fault
   same_wire_fault messages at fault (inl r) =
-      let place : IsPlaceOf q r.prefix messages fault = places_agree p q r.prefix messages fault (nothing_before (fresh_of p) r.prefix r.rest (subst (NothingParts p) (sym r.parts) (tells p))) r.refusal.place in
-      inl (record { prefix = r.prefix; rest = r.rest; parts = r.parts; at_is = r.at_is; refusal = place_refuses q r.prefix messages fault place })
+      let place : IsPlaceOf q r.0 messages fault = places_agree p q r.0 messages fault (nothing_before (fresh_of p) r.0 r.1 (subst (NothingParts p) (sym r.2) (tells p))) r.4.place in
+      inl (r.0, r.1, r.2, r.3, place_refuses q r.0 messages fault place)
   same_wire_fault messages at fault (inr e) = inr (e.0, e.1, same_open_end messages e.2)
 
 pub verdicts_agree : VerdictsAgree

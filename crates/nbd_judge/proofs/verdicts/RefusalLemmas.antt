@@ -21,17 +21,17 @@ fault_in cs i c piece old new (Wire at fault) w e same p took prefix is refuses 
     let behind : List Pair = flat (records_of (drop (suc i) cs)) in
     let whole : side_pairs c.0 added.prefix ++ side_pairs c.0 prefix.0 ≡ side_pairs c.0 c.1.items = sym (sent-append c.0 added.prefix prefix.0) ∙ ap (side_pairs c.0) (added.parts ∙ same) in (
       new.messages,
-      inl (record {
-        prefix = pairs_of new;
-        rest = side_pairs c.0 prefix.0 ++ behind;
-        parts = ap (λ ps. ps ++ (side_pairs c.0 prefix.0 ++ behind)) added.has_pairs
+      inl (
+        pairs_of new,
+        side_pairs c.0 prefix.0 ++ behind,
+        ap (λ ps. ps ++ (side_pairs c.0 prefix.0 ++ behind)) added.has_pairs
             ∙ append_assoc (pairs_of old) (side_pairs c.0 added.prefix) (side_pairs c.0 prefix.0 ++ behind)
             ∙ ap (λ ps. pairs_of old ++ ps) (sym (append_assoc (side_pairs c.0 added.prefix) (side_pairs c.0 prefix.0) behind) ∙ ap (λ ps. ps ++ behind) whole)
             ∙ ap (λ ps. ps ++ (side_pairs c.0 c.1.items ++ behind)) took
-            ∙ sym (split_at cs i c w e);
-        at_is = is;
-        refusal = subst (λ q. IsRefusalOf q (pairs_of new) new.messages fault) p refuses.1;
-      }),
+            ∙ sym (split_at cs i c w e),
+        is,
+        subst (λ q. IsRefusalOf q (pairs_of new) new.messages fault) p refuses.1,
+      ),
     )
 
 end_fault : {profile : Profile} (r : SessionView) (capture : List Pair) (fault : SessionFault) → r.profile ≡ profile → pairs_of r ≡ capture → EndsIn r fault → IsFaultOf profile capture fault

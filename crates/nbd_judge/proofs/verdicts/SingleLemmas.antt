@@ -1,5 +1,5 @@
 -- The cases of the definitions of a verdict exclude each other.
-use Rattle.nbd_judge.proofs.Common.{◌≡◌, ℕ, ◌+◌, ◌<◌, ◌⊎◌, inl, inr, List, length, refl, sym, ◌∙◌, ap, subst, Option, Some, None, slice_get, take, arith, Entry, Part, IsAgain, Names, whole_names, IsWrong, effects, FitsImage, Start, start_byte, IsBad, IsFirst, IsLate, IsUnserved, NamesAgain, NamesNone, Report, due_in, inside_in, asked_at, Asked, Profile, Exporting, IsFaultless, OrderFault, NoSuchRequest, Twice, Late, Missing, BadPart, NotCovered, Verdict, Yes, Wire, Image, Order, Content, Status, IsOtherSize, IsOrderFault, OneJudgement, OneVerdict, FirstWrongFrom, HasNoneWrongFrom, HasWrongFrom, FirstWrongOf, IsJudged, IsVerdict}
+use Rattle.nbd_judge.proofs.Common.{◌≡◌, ℕ, ◌+◌, ◌<◌, ◌⊎◌, inl, inr, List, length, refl, sym, ◌∙◌, ap, subst, Option, Some, None, slice_get, take, arith, Entry, Part, IsAgain, Names, whole_names, IsWrong, effects, FitsImage, Start, start_byte, IsBad, IsFirst, IsLate, IsUnserved, NamesAgain, NamesNone, Report, due_in, inside_in, asked_at, Asked, Profile, Exporting, IsFaultless, OrderFault, NoSuchRequest, Twice, Late, Missing, BadPart, NotCovered, Verdict, Yes, Wire, Image, Order, Content, Status, IsOtherSize, IsOrderFault, OneJudgement, OneVerdict, FirstWrongFrom, HasWrongFrom, FirstWrongOf, IsJudged, IsVerdict}
 use Rattle.nbd_judge.proofs.orders.FirstLemmas.{one_first, place_before}
 use Rattle.nbd_wire.specs.protocol.Explains as starts
 
@@ -98,7 +98,7 @@ module _ (profile : Profile) (r : Report) (order : List Entry) where
   one_fault d e NotCovered NotCovered f g = ap (λ n. Order n NotCovered) (one_first Unserved d e (least_uncovered d f) (least_uncovered e g))
 
 module _ (r : Report) (order : List Entry) (initial : ℕ → Option ℕ) where
-  pub has_wrong : (k x : ℕ) → FirstWrongFrom r order initial k x → HasNoneWrongFrom r order initial → ⊥
+  pub has_wrong : (k x : ℕ) → FirstWrongFrom r order initial k x → ((i x : ℕ) → IsWrong (effects r) order initial i x → ⊥) → ⊥
   has_wrong k x w none = none w.0 w.4.0.0 w.4.0.1
 
   one_wrong : (j k x y : ℕ) → FirstWrongFrom r order initial j x → FirstWrongFrom r order initial k y → (j ≡ k) × (x ≡ y)

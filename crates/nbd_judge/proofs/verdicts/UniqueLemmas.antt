@@ -1,5 +1,5 @@
 -- A capture is refused in one way at most, and has one answer at most.
-use Rattle.nbd_judge.proofs.{Common.{◌≡◌, ℕ, List, [], ◌∷◌, ◌++◌, ◌⊎◌, length, refl, sym, ◌∙◌, ap, subst, inl, inr, append-nil, Profile, Entry, WireFault, Message, Pair, Start, report, IsPlaceOf, one_place, prefixes_have_no_place, under_way_agree, IsOpenEndOf, IsRefusedAtOf, no_run_of, Verdict, Wire, HasVerdict, IsChecked, IsFaultOf, OneAnswer, OneWireFault}, verdicts.SingleLemmas.one_verdict}
+use Rattle.nbd_judge.proofs.{Common.{◌≡◌, ℕ, List, [], ◌∷◌, ◌++◌, ◌⊎◌, length, refl, sym, ◌∙◌, ap, subst, inl, inr, append-nil, Profile, Entry, WireFault, Message, Pair, Start, report, IsPlaceOf, one_place, prefixes_have_no_place, under_way_agree, IsOpenEndOf, no_run_of, Verdict, Wire, HasVerdict, IsChecked, IsFaultOf, OneAnswer, OneWireFault, IsRefusalOf}, verdicts.SingleLemmas.one_verdict}
 use Rattle.nbd_session.specs.declared.fault.SessionFault.TheVariants as session
 
 -- of two prefixes of a list one begins with the other
@@ -14,20 +14,24 @@ prefixes (x ∷ xs) (y ∷ ys) us vs e =
       | inr w ↦ inr (w.0, ap (λ l. x ∷ l) w.1 ∙ ap (λ z. z ∷ (ys ++ w.0)) same)
     ]
 
+-- a capture is refused at the last byte of a prefix
+abbrev IsRefusedAt : Profile → List Pair → List Message → ℕ → WireFault → Type 0
+IsRefusedAt profile capture messages at fault = (prefix : List Pair) × (rest : List Pair) × (prefix ++ rest ≡ capture) × (at ≡ length prefix) × IsRefusalOf profile prefix messages fault
+
 -- a longer prefix of a capture with a place has none
 module _ {profile : Profile} (capture : List Pair) (messages more : List Message) (at place : ℕ) (fault other : WireFault) where
-  longer : (a : IsRefusedAtOf profile capture messages at fault) (b : IsRefusedAtOf profile capture more place other) (w : List Pair) → b.prefix ≡ a.prefix ++ w → (at ≡ place) × (fault ≡ other) × (messages ≡ more)
+  longer : (a : IsRefusedAt profile capture messages at fault) (b : IsRefusedAt profile capture more place other) (w : List Pair) → b.0 ≡ a.0 ++ w → (at ≡ place) × (fault ≡ other) × (messages ≡ more)
   longer a b w e =
-      let none : w ≡ [] = prefixes_have_no_place profile a.prefix w more messages other fault (subst (λ ps. IsPlaceOf profile ps more other) e b.refusal.place) a.refusal.place in
-      let same : b.prefix ≡ a.prefix = e ∙ ap (λ l. a.prefix ++ l) none ∙ append-nil a.prefix in
-      let one = one_place profile a.prefix messages more fault other a.refusal.place (subst (λ ps. IsPlaceOf profile ps more other) same b.refusal.place) in
-      (a.at_is ∙ ap length (sym same) ∙ sym b.at_is, one.1, one.0)
+      let none : w ≡ [] = prefixes_have_no_place profile a.0 w more messages other fault (subst (λ ps. IsPlaceOf profile ps more other) e b.4.place) a.4.place in
+      let same : b.0 ≡ a.0 = e ∙ ap (λ l. a.0 ++ l) none ∙ append-nil a.0 in
+      let one = one_place profile a.0 messages more fault other a.4.place (subst (λ ps. IsPlaceOf profile ps more other) same b.4.place) in
+      (a.3 ∙ ap length (sym same) ∙ sym b.3, one.1, one.0)
 
-  open_end : IsRefusedAtOf profile capture messages at fault → IsOpenEndOf profile capture more → ⊥
-  open_end a b = b.accepted.placeless a.prefix a.rest messages fault a.parts a.refusal.place
+  open_end : IsRefusedAt profile capture messages at fault → IsOpenEndOf profile capture more → ⊥
+  open_end a b = b.accepted.placeless a.0 a.1 messages fault a.2 a.4.place
 
 pub one_wire_fault : OneWireFault
-one_wire_fault profile capture messages more at place fault other (inl a) (inl b) = elim (prefixes a.prefix b.prefix a.rest b.rest (a.parts ∙ sym b.parts)) [
+one_wire_fault profile capture messages more at place fault other (inl a) (inl b) = elim (prefixes a.0 b.0 a.1 b.1 (a.2 ∙ sym b.2)) [
   | inl w ↦ longer capture messages more at place fault other a b w.0 w.1
   | inr w ↦ (let back = longer capture more messages place at other fault b a w.0 w.1 in (sym back.0, sym back.1, sym back.2))
 ]

@@ -1,10 +1,10 @@
 -- What the entries of an order serve of one request, and a table of that.
 use Rattle.std.specs.{Prelude.{ℕ, suc, List, [], ◌∷◌, ◌++◌, ◌≡◌, ◌+◌, ◌-◌, ◌<◌, ◌≤◌, ◌==◌, ◌&&◌, Bool, true, false, min, nat_lt, if◌then◌else◌, Option, Some, None, Result, Ok, Err, MatchResult, length, slice_get, take, ◌||◌, not, IsTrue}, declared.vec.Vec.Vec}
 use Rattle.nbd_wire.specs.declared.{entry.{Entry.Entry, Part.Part}, payloads.Piece.{Piece, TheVariants.Hole}, profile.Profile.Profile, verdict.OrderFault.{OrderFault, TheVariants.{NoSuchRequest, Twice, Missing, BadPart, NotCovered}}}
-use Rattle.nbd_wire.specs.Prelude.{HasBadPart, IsTwice, IsServedAt, MayServe, Names, NamesWhole, Exporting, has_range, IsBad, IsBadPart, SharesNone, is_in, piece_offset, piece_size, Asked, Report, asked_at, due_in, first_shown, inside_in, Shown, total, IsDue, IsMissing, IsNotCovered, IsUnserved, NamesAgain, NamesNone}
+use Rattle.nbd_wire.specs.{Prelude.{IsServedAt, MayServe, Names, NamesWhole, Exporting, has_range, IsBad, IsBadPart, SharesNone, is_in, piece_offset, piece_size, Asked, Report, asked_at, due_in, first_shown, inside_in, Shown, total, IsDue, IsMissing, IsNotCovered, IsUnserved, NamesAgain, NamesNone}, protocol.Entries.{IsMisplaced, IsAgain}}
 use Rattle.nbd_wire.specs.declared.commands.TheConstants as commands
 use Rattle.nbd_state.specs.{declared.span.Span.Span, Indexes.IsIndex, Sizes.sizes_of}
-use Rattle.nbd_judge.specs.{declared.service.Service.{Service, TheVariants.{Unnamed, Whole, InParts}}, Servable.size_of}
+use Rattle.nbd_judge.specs.{declared.service.Service.{Service, TheVariants.{Unnamed, Whole, InParts}}, Beginnings.size_of}
 
 -- an entry's part, as a hole
 abbrev pub part_pieces : Option Part → List Piece
@@ -44,8 +44,9 @@ IsSpanOf span within = (x : ℕ) → within x ≡ is_in span.offset span.size x
 
 -- the fault of an entry after those before it: Twice, or else BadPart
 abbrev pub IsFaultAfter : (within : ℕ → Bool) → List Entry → Entry → OrderFault → Type 0
-IsFaultAfter within before e Twice = IsTwice before e
-IsFaultAfter within before e BadPart = HasBadPart within before e × (IsTwice before e → ⊥)
+IsFaultAfter within before e Twice = IsAgain before e.request e.part
+IsFaultAfter within before e BadPart =
+    IsMisplaced within before e.request e.part × (IsAgain before e.request e.part → ⊥)
 IsFaultAfter within before e _ = ⊥
 
 -- the service of a request after one more entry, which may be served, or the entry's fault

@@ -1,20 +1,18 @@
 -- What the lists of tests say, where none holds: in the words of relations.
 use Rattle.nbd_laws.proofs.requests.LaidLemmas.{AreApart, AreInside}
+use Rattle.nbd_laws.proofs.Common.{and_parts, not-false, or_cases, or_parts, ◌+◌, piece_offset, piece_size, SharesNone, IsStatus, answer_fault, answer_head_fault, greeting_fault, abort_fault, answers_option, is_followed, info_fault, is_good_info, earlier_to, is_good_context, answer_last_fault, cookie_fault, request_fault, chunk_fault, content_fault, done_fault, fits_failure, total, status_if, read_as, status_kind, Chunk, ExtendedChunk, Simple, ◌≡◌, ◌≢◌, ℕ, ◌≤◌, ◌⊎◌, ◌==◌, List, [], ◌∷◌, length, refl, sym, Option, Some, None, Bool, true, false, ◌&&◌, nat_le, nat_lt, eqb-true, arith, IsTrue, leb-true, leb-false, ltb-true, ne_eqb, is_error, is_proper_option, takes_contexts, info_of, context_of, content_of, failure_of, status_of, Exporting, Covers, Operation, has_failed, is_proper, pieces, has, Core, target, with_reply, NotFixedNewstyle, OutOfProfile, Profile, Selection, Context, Status, are_settled, is_settled, Failure, Piece, is_in}
+use Rattle.nbd_laws.proofs.judge.{DecideLemmas.simple_length, BoolLemmas.{and_false, fault_none}, KindLemmas.{kind_content, kind_status}, CoverLemmas.{full_total_covers, apart_from-shares}}
 unfoldable use Rattle.nbd_laws.proofs.judge.WholeLemmas.{MayReply}
-use Rattle.nbd_laws.proofs.Common.{and_parts, not-false, or_cases, or_parts, ◌+◌, simple_length, piece_offset, piece_size, SharesNone, IsStatus, answer_fault, answer_head_fault, greeting_fault, abort_fault, answers_option, is_followed, info_fault, is_good_info, earlier_to, is_good_context, answer_last_fault, cookie_fault, extended_request_fault, request_fault, chunk_fault, content_fault, done_fault, fits_failure, total, status_if, read_as, status_kind, Chunk, ExtendedChunk, Simple, ◌≡◌, ◌≢◌, ℕ, ◌≤◌, ◌⊎◌, ◌==◌, List, [], ◌∷◌, length, refl, sym, Option, Some, None, Bool, true, false, ◌&&◌, nat_le, nat_lt, eqb-true, arith, IsTrue, leb-true, leb-false, ltb-true, ne_eqb, is_error, is_proper_option, takes_contexts, info_of, context_of, content_of, failure_of, status_of, Exporting, Covers, Operation, has_failed, is_proper, pieces, has, Core, target, with_reply, NotFixedNewstyle, OutOfProfile, Profile, Selection, Context, Status, are_settled, is_settled, Failure, Piece, is_in}
 use Rattle.std.proofs.lemmas.Bool.{eq-eqb}
 use Rattle.nbd_wire.specs.protocol.Operations.{asks_status}
 use Rattle.nbd_wire.specs.declared.answers.TheConstants as answers
 use Rattle.nbd_wire.specs.declared.handshake.TheConstants as handshake
 use Rattle.nbd_wire.specs.declared.options.TheConstants as options
-use Rattle.nbd_laws.proofs.judge.BoolLemmas.{and_false, fault_none}
 use Rattle.nbd_wire.specs.declared.chunks.TheConstants as chunks
 use Rattle.nbd_wire.specs.declared.command_flags.TheConstants as command_flags
 use Rattle.nbd_wire.specs.declared.commands.TheConstants as commands
-use Rattle.nbd_laws.proofs.judge.KindLemmas.{kind_content, kind_status}
-use Rattle.nbd_laws.proofs.judge.CoverLemmas.{full_total_covers, apart_from-shares}
 
-pub no_length : (xs : List ℕ) → length xs ≡ 0 → xs ≡ []
+pub no_length : {A : Type 0} (xs : List A) → length xs ≡ 0 → xs ≡ []
 no_length [] e = refl
 no_length (x ∷ xs) e = absurd (omega arith)
 
@@ -43,16 +41,16 @@ abbrev pub MayAsk : (is_disc : Bool) → Core → (cookie offset len : ℕ) → 
 MayAsk true core cookie offset len = (offset ≡ 0) × (len ≡ 0)
 MayAsk false core cookie offset len = target cookie core.entries ≡ None
 
-pub ask_allow : (core : Core) (command cookie offset len : ℕ) → request_fault command offset len ≡ None → cookie_fault command (target cookie core.entries) ≡ None → MayAsk (command == commands.DISC) core cookie offset len
+pub ask_allow : (core : Core) (command cookie offset len : ℕ) → request_fault false 0 command offset len ≡ None → cookie_fault command (target cookie core.entries) ≡ None → MayAsk (command == commands.DISC) core cookie offset len
 ask_allow core command cookie offset len e f = grind (arith, fault_none, and_parts, eqb-true)
 
-pub extended_ask_allow : (core : Core) (flags command cookie offset len : ℕ) → extended_request_fault flags command offset len ≡ None → cookie_fault command (target cookie core.entries) ≡ None → MayAsk (command == commands.DISC) core cookie offset len
-extended_ask_allow core flags command cookie offset len e f = ask_allow core command cookie offset len (fault_none _ OutOfProfile (request_fault command offset len) e).1 f
+pub extended_ask_allow : (core : Core) (flags command cookie offset len : ℕ) → request_fault true flags command offset len ≡ None → cookie_fault command (target cookie core.entries) ≡ None → MayAsk (command == commands.DISC) core cookie offset len
+extended_ask_allow core flags command cookie offset len e f = ask_allow core command cookie offset len (fault_none _ OutOfProfile (request_fault false 0 command offset len) e).1 f
 
 pub simple_allow : (profile : Profile) (structured : Bool) (export : Exporting) (e : Operation) (error cookie : ℕ) (payload : List ℕ) → MayReply profile structured export e (Simple error cookie payload) →
     (e.replies ≡ []) × (e.command ≡ commands.READ → structured ≡ false) × (IsTrue (asks_status e) → error ≢ 0) × (length payload ≡ simple_length e error) × (error ≡ 0 → IsTrue (is_proper export e))
 unfolding MayReply
-simple_allow profile structured export e error cookie payload (l, at_head, at_last) = grind (arith, or_parts, fault_none, is_proper, not-false, and_false, eq-eqb)
+simple_allow profile structured export e error cookie payload (l, at_head, at_last) = grind (arith, or_parts, fault_none, is_proper, not-false, and_false, eq-eqb, eqb-true, no_length)
 
 -- a content chunk answers a READ, lies in its range, shares no offset with an earlier one, and is the only one of a
 -- proper READ with DF
@@ -95,7 +93,7 @@ form_of extended profile export e f flags kind payload false z h =
     go : (c : Option Piece) (g : Option Failure) (s : Option Status) → content_of kind payload ≡ c → failure_of (read_as profile kind) payload ≡ g → status_if extended e.contexts kind payload ≡ s →
         content_fault export e c g s (done_fault (has flags chunks.DONE) export f) ≡ None →
         IsChunk profile extended export e flags kind payload × (done_fault (has flags chunks.DONE) export f ≡ None)
-    go c g s is_c is_g is_s h = grind (arith, fault_none, and_parts, nat_le, eqb-true, leb-true, apart_from-shares, or_cases, in_range, told_if, leb-false)
+    go c g s is_c is_g is_s h = grind (arith, fault_none, and_parts, nat_le, eqb-true, leb-true, apart_from-shares, or_cases, in_range, told_if, leb-false, no_length)
 
 pub chunk_allow : (profile : Profile) (structured : Bool) (export : Exporting) (e : Operation) (flags kind cookie : ℕ) (payload : List ℕ) → MayReply profile structured export e (Chunk flags kind cookie payload) →
     (structured ≡ true) × IsChunk profile false export e flags kind payload × (done_fault (has flags chunks.DONE) export (with_reply e (Chunk flags kind cookie payload)) ≡ None)

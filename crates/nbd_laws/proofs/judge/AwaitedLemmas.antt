@@ -1,11 +1,7 @@
 -- The length at which something is decided next: below it the judge lets a side's bytes go on,
 -- also where the other side's messages complete meanwhile.
 use Rattle.nbd_laws.proofs.Common.{◌≡◌, ℕ, ◌+◌, ◌<◌, ◌≤◌, ◌≢◌, ◌⊎◌, ◌==◌, List, [], ◌∷◌, ◌++◌, length, sym, ◌∙◌, ap, subst, inl, inr, Option, Some, None, Ok, Bool, nat_lt, if◌then◌else◌, arith, length-append, append-nil, lt-ltb, le-ltb, ltb-true, ltb-false, eqb-false, ne_eqb, Side, side_pairs, Core, awaited_length_by, awaited_length, Decision, judge, reading_by_decision, read_by, IsFilled, Reader, More, Rest, get, old_of, reads}
-use Rattle.nbd_laws.proofs.judge.DecideLemmas.{last_reading, staged_reading_by}
-use Rattle.nbd_laws.proofs.judge.BlockLemmas.{Awaits, GoesOn, extended, judged_at_once, reads_at_once, reads_short, with_rest}
-use Rattle.nbd_laws.proofs.reading.ReaderLemmas.{AreHeld, Held, Kept, Later, Later-trans, at_once, begun, kept, none_held, old-filled, some_held}
-use Rattle.nbd_laws.proofs.judge.SoundLemmas.{kept_later}
-use Rattle.nbd_laws.proofs.judge.SteadyLemmas.{IsDeciding, IsSameHead, IsSteady, deciding}
+use Rattle.nbd_laws.proofs.{judge.{DecideLemmas.{last_reading, staged_reading_by}, BlockLemmas.{Awaits, GoesOn, extended, judged_at_once, reads_at_once, reads_short, with_rest}, SoundLemmas.kept_later, SteadyLemmas.{IsDeciding, IsSameHead, IsSteady, deciding}}, reading.ReaderLemmas.{AreHeld, Held, Kept, Later, Later-trans, at_once, begun, kept, none_held, old-filled, some_held}}
 
 -- where the judge lets bytes go on, they lie in the head, or after a head without a fault
 abbrev pub GoesBy : Decision → List ℕ → Type 0

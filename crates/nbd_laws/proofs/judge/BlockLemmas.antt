@@ -1,6 +1,5 @@
 -- Bytes of one side, taken at once: over any judge, what a reader reads of them is one append and one judgement.
-use Rattle.nbd_laws.proofs.Common.{judge, ◌≡◌, ℕ, ◌<◌, ◌≤◌, List, [], ◌∷◌, ◌++◌, length, refl, sym, ◌∙◌, ap, subst, Result, Ok, append_assoc, length-append, arith, Side, Pair, side_pairs, Core, WireFault, get, put, Rest, Reader, More, old_of, IsFilled, settle, step, reads, on_ok}
-use Rattle.nbd_laws.proofs.reading.ReaderLemmas.{get-put_same, old-filled, IsFilled-snoc, Later}
+use Rattle.nbd_laws.proofs.{Common.{Reading, rest_with, judge, ◌≡◌, ℕ, ◌<◌, ◌≤◌, List, [], ◌∷◌, ◌++◌, length, refl, sym, ◌∙◌, ap, subst, Result, Ok, append_assoc, length-append, arith, Side, Pair, side_pairs, Core, WireFault, get, put, Rest, Reader, More, old_of, IsFilled, settle, step, reads, on_ok}, reading.ReaderLemmas.{get-put_same, old-filled, IsFilled-snoc, Later}}
 
 -- no longer list of these bytes and more is judged before it has n of them
 abbrev pub GoesOn : (old now : Core) → Side → List ℕ → ℕ → Type 0
@@ -23,6 +22,13 @@ judged_at_once reader s more =
 abbrev pub with_rest : Reader → Side → Rest → Reader
 with_rest reader s rest = record reader { rests = put reader.rests s rest }
 
+filled_behind : (bytes more : List ℕ) → IsFilled more → IsFilled (bytes ++ more)
+filled_behind [] more f = f
+filled_behind (b ∷ bytes) more f = tt
+
+settle_same : (reader : Reader) (s : Side) (rest next : Rest) (r : Reading) → settle (with_rest reader s rest) s next r ≡ settle reader s next r
+settle_same reader s rest next r = grind arith
+
 pub reads-append : (reader : Reader) (ps qs : List Pair) → reads reader (ps ++ qs) ≡ on_ok (reads reader ps) (λ next. reads next qs)
 reads-append reader [] qs = refl
 reads-append reader (p ∷ ps) qs = go (step reader p.from p.byte) (λ next. reads-append next ps qs)
@@ -37,7 +43,10 @@ module _ (reader : Reader) (s : Side) (old : Core) (n : ℕ) where
 
   one_step : (rest : Rest) (b : ℕ) → old_of reader.core rest ≡ old →
       step (with_rest reader s rest) s b ≡ settle reader s (next_rest rest (b ∷ [])) (judge old reader.core s (rest.bytes ++ b ∷ []))
-  one_step rest b o = grind (arith, get-put_same)
+  one_step rest b o =
+      ap (λ r. settle (with_rest reader s rest) s (rest_with reader.core r b) (judge (rest_with reader.core r b).since reader.core s (rest_with reader.core r b).bytes)) (get-put_same reader.rests s rest)
+      ∙ (λ i. settle (with_rest reader s rest) s (record { bytes = rest.bytes ++ b ∷ []; since = o i }) (judge (o i) reader.core s (rest.bytes ++ b ∷ [])))
+      ∙ settle_same reader s rest (next_rest rest (b ∷ [])) (judge old reader.core s (rest.bytes ++ b ∷ []))
 
   in_one : (rest : Rest) (b : ℕ) (more : List ℕ) → old_of reader.core rest ≡ old → length (rest.bytes ++ b ∷ more) ≤ n → GoesOn old reader.core s rest.bytes n →
       reads (with_rest reader s rest) (side_pairs s (b ∷ more)) ≡ settle reader s (next_rest rest (b ∷ more)) (judge old reader.core s (rest.bytes ++ b ∷ more))
@@ -68,4 +77,6 @@ reads_at_once reader s n (b ∷ more) f l g =
 pub reads_short : (reader : Reader) (s : Side) (n : ℕ) (more : List ℕ) → IsFilled more → length ((get reader.rests s).bytes ++ more) < n →
     GoesOn (old_of reader.core (get reader.rests s)) reader.core s (get reader.rests s).bytes n →
     reads reader (side_pairs s more) ≡ Ok (with_rest reader s (extended reader.core (get reader.rests s) more))
-reads_short reader s n more f l g = grind (arith, reads_at_once)
+reads_short reader s n more f l g =
+    reads_at_once reader s n more f (omega (arith, l)) g
+    ∙ ap (settle reader s (extended reader.core (get reader.rests s) more)) (g more (filled_behind (get reader.rests s).bytes more f) l)

@@ -1,6 +1,5 @@
 -- Tests, and what their answers say.
-use Rattle.nbd_laws.proofs.Common.{and_parts, ◌≡◌, ℕ, zero, suc, ◌==◌, List, [], ◌∷◌, length, replicate, refl, ◌∙◌, ap, Option, None, Bool, true, false, ◌&&◌, eqb-true, arith, Message, WireFault, are_zeroes, Whole, fault_if}
-use Rattle.nbd_laws.proofs.judge.DecideLemmas.{last_reading}
+use Rattle.nbd_laws.proofs.{Common.{and_parts, ◌≡◌, ℕ, zero, suc, ◌==◌, List, [], ◌∷◌, length, replicate, refl, ◌∙◌, ap, Option, None, Bool, true, false, ◌&&◌, eqb-true, arith, Message, WireFault, are_zeroes, Whole, fault_if}, judge.DecideLemmas.last_reading}
 
 pub and_false : (a b : Bool) → (a && b) ≡ false → a ≡ true → b ≡ false
 and_false a b e h = grind arith

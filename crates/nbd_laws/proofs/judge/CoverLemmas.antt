@@ -1,7 +1,7 @@
 -- Pieces inside a range that share no offset cover it exactly where their sizes add up to its length.
 use Rattle.nbd_laws.proofs.Common.{and_from, and_parts, or_cases, or_parts, ◌≡◌, ℕ, zero, suc, ◌<◌, ◌≤◌, ◌+◌, ◌-◌, List, [], ◌∷◌, min, max, refl, sym, ◌∙◌, ap, subst, Some, Bool, true, false, if◌then◌else◌, nat_le, nat_lt, is_some, arith, IsTrue, lt-ltb, eqb-false, le-ltb, ltb-false, leb-false, leb-true, ltb-true, le-leb, lt-leb, Piece, piece_offset, piece_size, piece_byte, byte_at, holds, is_in, SharesNone, total, is_apart, is_apart_from}
-use Rattle.std.proofs.lemmas.Bool.{eqb-true}
 use Rattle.nbd_laws.proofs.requests.LaidLemmas.{AreApart, AreInside}
+use Rattle.std.proofs.lemmas.Bool.{eqb-true}
 
 abbrev pub one_if : Bool → ℕ
 one_if true = 1

@@ -1,12 +1,6 @@
 -- The judge is exact: it takes each message that the rules allow, at its last byte and not before.
-use Rattle.nbd_laws.proofs.Common.{◌≡◌, ℕ, ◌+◌, List, [], ◌++◌, length, refl, sym, ◌∙◌, ap, subst, None, Err, nat_lt, is_some, IsTrue, arith, length-append, ltb-false, ltb-true, Profile, Side, Client, Server, Message, enc, ArePairs, Pair, Item, pairs, number_at, Exporting, IsRunOf, MayComplete, MayStart, MayStartIn, request_of_reply, target_of, side, Core, Phase, Greet, Flags, Choosing, Naming, Aborting, Answering, Transmission, target, WireFault, Decision, operation_of, reply_in, request, judge, judge_in, read_by, reading_by_decision, IsFilled, More, Whole, reads, fresh_of}
-use Rattle.nbd_laws.proofs.judge.DecideLemmas.{request_unless}
-use Rattle.nbd_laws.proofs.judge.AwaitedLemmas.{in_head, in_payload}
-use Rattle.nbd_laws.proofs.reading.ReaderLemmas.{IsExact, Later, Later-trans}
-use Rattle.nbd_laws.proofs.judge.PhaseLemmas.{IsAppended, Later-appended, Later-transmission, Later-turn, target-append}
-use Rattle.nbd_laws.proofs.runs.RunLemmas.{no_run}
-use Rattle.nbd_laws.proofs.judge.SteadyLemmas.{IsDeciding, IsSteady, deciding}
-use Rattle.nbd_laws.proofs.judge.WholeLemmas.{IsWhole, cookie_read, reply_read, whole}
+use Rattle.nbd_laws.proofs.Common.{◌≡◌, ℕ, ◌+◌, List, [], ◌++◌, length, refl, sym, ◌∙◌, ap, subst, None, Err, nat_lt, is_some, IsTrue, arith, length-append, ltb-false, ltb-true, Profile, Side, Client, Server, Message, enc, ArePairs, Pair, Item, pairs, number_at, Exporting, IsRunOf, MayComplete, MayStart, MayStartIn, request_of_reply, option_and_then, side, Core, Phase, Greet, Flags, Choosing, Naming, Aborting, Answering, Transmission, target, WireFault, Decision, operation_of, reply_in, request_by, judge, judge_in, read_by, reading_by_decision, IsFilled, More, Whole, reads, fresh_of}
+use Rattle.nbd_laws.proofs.{judge.{DecideLemmas.request_unless, AwaitedLemmas.{in_head, in_payload}, PhaseLemmas.{IsAppended, Later-appended, Later-transmission, Later-turn, target-append}, SteadyLemmas.{IsDeciding, IsSteady, deciding}, WholeLemmas.{IsWhole, cookie_read, reply_read, whole}}, reading.ReaderLemmas.{IsExact, Later, Later-trans}, runs.RunLemmas.no_run}
 
 -- a reply answers the request that it answered when it started
 same_named : (old now : Core) (cookie : ℕ) → IsAppended old now → IsTrue (is_some (target cookie old.entries)) → operation_of now now cookie ≡ operation_of old now cookie
@@ -16,7 +10,7 @@ same_named old now cookie a began = grind (arith, target-append)
 same_reply : (old now : Core) (export : Exporting) (m : Message) → Later Server old now → old.phase ≡ Transmission export → IsTrue (is_some (request_of_reply old m)) → judge_in (Transmission export) now now Server (enc m) ≡ Whole m → judge_in (Transmission export) old now Server (enc m) ≡ Whole m
 same_reply old now export m l t st e =
     let c = (cookie_read (reply_read export (operation_of now now) now (enc m) m e)).0 in
-    let began = subst (λ o. IsTrue (is_some (target_of o old.entries))) c st in
+    let began = subst (λ o. IsTrue (is_some (option_and_then (λ k. target k old.entries) o))) c st in
     ap (λ o. read_by (reply_in now.extended export now o (enc m)) (enc m)) (sym (same_named old now (number_at 8 8 (enc m)) (Later-appended l export t) began)) ∙ e
 
 -- where a reply's session stood when it started
@@ -41,7 +35,7 @@ deciding_of Choosing Client old m p st = deciding Choosing Client old [] _ p ref
 deciding_of Naming Server old m p st = deciding Naming Server old [] _ p refl
 deciding_of Aborting Server old m p st = deciding Aborting Server old [] _ p refl
 deciding_of (Answering option given info) Server old m p st = deciding (Answering option given info) Server old [] _ p refl
-deciding_of (Transmission export) Client old m p st = deciding (Transmission export) Client old [] (request old []) p (ap (λ b. request_unless b old []) st.0)
+deciding_of (Transmission export) Client old m p st = deciding (Transmission export) Client old [] (request_by old.extended old []) p (ap (λ b. request_unless b old []) st.0)
 deciding_of (Transmission export) Server old m p st = deciding (Transmission export) Server old [] _ p refl
 deciding_of phase s old m p st = absurd (cc)
 

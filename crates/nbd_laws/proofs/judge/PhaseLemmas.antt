@@ -1,7 +1,6 @@
 -- What the other side's messages leave as it was.
 use Rattle.nbd_laws.proofs.Common.{◌≡◌, ℕ, suc, ◌+◌, ◌⊎◌, ◌==◌, List, [], ◌∷◌, ◌++◌, refl, sym, ◌∙◌, ap, subst, inl, inr, Some, None, Bool, true, false, not, ◌&&◌, if◌then◌else◌, append-nil, append_assoc, arith, Side, Client, Server, Message, turn, Operation, Exporting, is_finished, MayComplete, complete, core_with_request, side, Phase, Transmission, Core, in_force, operation, is_awaiting, target, target_from}
-use Rattle.nbd_laws.proofs.reading.ReaderLemmas.{Later, at_once, behind}
-use Rattle.nbd_laws.proofs.judge.WholeLemmas.{allowed}
+use Rattle.nbd_laws.proofs.{reading.ReaderLemmas.{Later, at_once, behind}, judge.WholeLemmas.allowed}
 unfoldable use Rattle.nbd_laws.proofs.judge.WholeLemmas.{IsAllowed}
 
 abbrev pub IsTransmitting : Phase → Type 0

@@ -1,11 +1,6 @@
 -- Of two messages of a side that may complete, neither's bytes are a proper prefix of the other's.
-use Rattle.nbd_laws.proofs.Common.{arith, ◌≡◌, ℕ, List, [], ◌∷◌, ◌++◌, refl, sym, ◌∙◌, ap, subst, IsTrue, is_some, false, append-nil, Side, Client, Server, Message, enc, Exporting, More, Whole, judge, judge_in, MayComplete, MayStart, MayStartIn, is_extended, operation_of, target_of, side, Core, Phase, Transmission, NoProperPrefix}
-use Rattle.nbd_laws.proofs.judge.SentLemmas.{message_bytes}
-use Rattle.nbd_laws.proofs.judge.ExactLemmas.{deciding_of, exact_more, exact_whole, taken_by}
-use Rattle.nbd_laws.proofs.judge.SteadyLemmas.{IsDeciding}
-use Rattle.nbd_laws.proofs.reading.ReaderLemmas.{Later, Later-trans, at_once}
-use Rattle.nbd_laws.proofs.runs.FollowLemmas.{IsBegun}
-use Rattle.nbd_laws.proofs.judge.WholeLemmas.{IsReply, IsRequest, as_long, as_short, cookie_read, named_one, reply_read, request_read}
+use Rattle.nbd_laws.proofs.Common.{arith, ◌≡◌, ℕ, List, [], ◌∷◌, ◌++◌, refl, sym, ◌∙◌, ap, subst, IsTrue, is_some, false, append-nil, Side, Client, Server, Message, enc, Exporting, More, Whole, judge, judge_in, MayComplete, MayStart, MayStartIn, is_extended, operation_of, option_and_then, target, side, Core, Phase, Transmission, NoProperPrefix}
+use Rattle.nbd_laws.proofs.{judge.{SentLemmas.message_bytes, ExactLemmas.{deciding_of, exact_more, exact_whole, taken_by}, SteadyLemmas.IsDeciding, WholeLemmas.{IsReply, IsRequest, as_long, as_short, cookie_read, named_one, reply_read, request_read}}, reading.ReaderLemmas.{Later, Later-trans, at_once}, runs.FollowLemmas.IsBegun}
 
 -- the same message, and nothing after it
 abbrev pub IsSame : Message → Message → List ℕ → Type 0
@@ -37,7 +32,7 @@ unfolding MayStartIn
 reply_starts core export bytes m r =
     let c = cookie_read r in
     let f = named_one r in
-    (subst (λ o. IsTrue (is_some o)) (sym (ap (λ c. target_of c core.entries) c.0 ∙ f.1)) refl, c.1)
+    (subst (λ o. IsTrue (is_some o)) (sym (ap (λ c. option_and_then (λ k. target k core.entries) c) c.0 ∙ f.1)) refl, c.1)
 
 -- a message that may complete may start where its session stands
 starts_now : (core : Core) (s : Side) (m : Message) → side m ≡ s → MayComplete core core.phase m → MayStart core s m

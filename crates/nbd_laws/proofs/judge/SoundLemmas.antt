@@ -1,11 +1,6 @@
 -- The judge is sound: a message that it calls whole is one that the rules allow.
 use Rattle.nbd_laws.proofs.Common.{IsSendable, side, enc, read_by, reply_in, arith, ◌≡◌, ℕ, ◌⊎◌, List, [], ◌∷◌, refl, sym, ◌∙◌, ap, subst, inl, inr, Some, is_some, IsTrue, Side, Client, Server, Message, AreBytes, turn, AreBytes-snoc, Exporting, MayStartIn, MayComplete, request_of_reply, is_extended, Phase, Transmission, Core, OutOfTurn, judge_in, judge, Reading, More, Whole, Bad, IsReached}
-use Rattle.nbd_laws.proofs.reading.ReaderLemmas.{Kept, begun, kept, Later, at_once, Later-trans, IsSoundAt, IsSound}
-use Rattle.nbd_laws.proofs.judge.PhaseLemmas.{IsTransmitting, completes_in_turn, Later-disconnected, Later-transmission, Later-turn, Later-extended}
-use Rattle.nbd_laws.proofs.judge.SoundClientLemmas.{IsAsked, request_sound}
-use Rattle.nbd_laws.proofs.judge.SoundNegotiationLemmas.{IsFit, negotiation_sound}
-use Rattle.nbd_laws.proofs.judge.SoundServerLemmas.{IsReplying, reply_sound}
-use Rattle.nbd_laws.proofs.judge.TidyLemmas.{tidy}
+use Rattle.nbd_laws.proofs.{reading.ReaderLemmas.{Kept, begun, kept, Later, at_once, Later-trans, IsSoundAt, IsSound}, judge.{PhaseLemmas.{IsTransmitting, completes_in_turn, Later-disconnected, Later-transmission, Later-turn, Later-extended}, SoundClientLemmas.{IsAsked, request_sound}, SoundNegotiationLemmas.{IsFit, negotiation_sound}, SoundServerLemmas.{IsReplying, reply_sound}, TidyLemmas.tidy}}
 
 pub kept_bytes : {s : Side} {old now : Core} {bytes : List ℕ} → Kept s old now bytes → AreBytes bytes
 kept_bytes (begun b lt r) = (lt, tt)

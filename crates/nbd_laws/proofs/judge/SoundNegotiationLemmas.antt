@@ -1,9 +1,7 @@
 -- What the judge takes for a message of the negotiation is one that the rules allow.
 use Rattle.nbd_laws.proofs.Common.{and_parts, not-false, ◌≡◌, ℕ, ◌≤◌, ◌+◌, ◌==◌, List, [], length, drop, refl, subst, Option, Some, None, Bool, true, false, not, eqb-true, arith, length-drop, GREETING_MAGIC, OPTION_MAGIC, ANSWER_MAGIC, Side, Client, Server, Message, Greeting, ClientFlags, Choice, Exported, enc, head, tail, AreBytes, is_proper_option, turn, takes_contexts, with_number, number_at-lt, AreBytes-drop, number_at, Exporting, has, IsSendable, side, Phase, Greet, Flags, Choosing, Naming, Aborting, Answering, Core, WireFault, BadMagic, BadExport, Decision, greeting, client_flags, choice, export_answer, answer_of, abort_answer, answer, are_zeroes, read_by, judge_in, Whole, fault_if}
+use Rattle.nbd_laws.proofs.judge.{AllowLemmas.no_length, BoolLemmas.{fault_none, are_zeroes-replicate}, WholeLemmas.{IsWhole, whole}}
 use Rattle.nbd_wire.specs.declared.handshake.TheConstants as handshake
-use Rattle.nbd_laws.proofs.judge.AllowLemmas.{no_length}
-use Rattle.nbd_laws.proofs.judge.BoolLemmas.{fault_none, are_zeroes-replicate}
-use Rattle.nbd_laws.proofs.judge.WholeLemmas.{IsWhole, whole}
 
 pub record IsFit (s : Side) (bytes : List ℕ) (m : Message) : Type 0 where
   pub encodes : bytes ≡ enc m

@@ -1,13 +1,6 @@
 -- What the judge takes for a reply is one that the rules allow.
-use Rattle.nbd_laws.proofs.Common.{◌≡◌, ℕ, ◌≤◌, ◌+◌, List, length, drop, refl, sym, ◌∙◌, ap, subst, Some, Bool, false, is_some, arith, length-drop, IsTrue, ltb-false, EXTENDED_CHUNK_MAGIC, SIMPLE_MAGIC, CHUNK_MAGIC, LONGEST_PAYLOAD, Server, Message, enc, head, tail, AreBytes, with_number, number_at-lt, AreBytes-drop, number_at, extended_chunk_of, chunk_of, operation_if, operation_of, simple_of, read_by, Whole, is_too_large, simple_length, is_extended, request_of_reply, target_of, Operation, Exporting, IsSendable, Transmission, Core, target, operation, OutOfProfile}
-use Rattle.nbd_laws.proofs.judge.DecideLemmas.{reply}
-use Rattle.nbd_laws.proofs.judge.BoolLemmas.{fault_none}
-use Rattle.nbd_laws.proofs.reading.ReaderLemmas.{Later}
-use Rattle.nbd_laws.proofs.judge.PhaseLemmas.{IsAppended, Later-appended, target-append}
-use Rattle.nbd_laws.proofs.judge.SoundNegotiationLemmas.{IsFit}
-use Rattle.nbd_laws.proofs.judge.WholeLemmas.{IsReply, as_chunk, as_extended, as_simple, cookie_read, reply_read}
-use Rattle.nbd_laws.proofs.judge.TidyLemmas.{IsTidy}
-use Rattle.nbd_laws.proofs.requests.EachLemmas.{Each, each_entry}
+use Rattle.nbd_laws.proofs.Common.{true, ◌≡◌, ℕ, ◌≤◌, ◌+◌, List, length, drop, refl, sym, ◌∙◌, ap, subst, Some, Bool, false, is_some, arith, length-drop, IsTrue, ltb-false, EXTENDED_CHUNK_MAGIC, SIMPLE_MAGIC, CHUNK_MAGIC, LONGEST_PAYLOAD, Server, Message, enc, head, tail, AreBytes, with_number, number_at-lt, AreBytes-drop, number_at, chunk_of, option_and_then, operation_of, simple_of, read_by, Whole, is_too_large, is_extended, request_of_reply, Operation, Exporting, IsSendable, Transmission, Core, target, operation, OutOfProfile}
+use Rattle.nbd_laws.proofs.{judge.{DecideLemmas.{simple_length, reply}, BoolLemmas.fault_none, PhaseLemmas.{IsAppended, Later-appended, target-append}, SoundNegotiationLemmas.IsFit, WholeLemmas.{IsReply, as_chunk, as_extended, as_simple, cookie_read, reply_read}, TidyLemmas.IsTidy}, reading.ReaderLemmas.Later, requests.EachLemmas.{Each, each_entry}}
 
 -- the request that a cookie names
 pub record IsFound (old now : Core) (cookie : ℕ) (e : Operation) : Type 0 where
@@ -31,7 +24,7 @@ simple_sendable bytes e q a l t =
     let p : length (drop 16 bytes) ≡ simple_length e (number_at 4 4 bytes) = omega (arith, length-drop 16 bytes, l) in
     grind (arith, p, length-drop, number_at-lt, AreBytes-drop)
 
-chunk_is : (bytes : List ℕ) → AreBytes bytes → length bytes ≡ 20 + number_at 16 4 bytes → number_at 0 4 bytes ≡ CHUNK_MAGIC → bytes ≡ enc (chunk_of bytes)
+chunk_is : (bytes : List ℕ) → AreBytes bytes → length bytes ≡ 20 + number_at 16 4 bytes → number_at 0 4 bytes ≡ CHUNK_MAGIC → bytes ≡ enc (chunk_of false bytes)
 unfolding enc head tail
 chunk_is bytes a l m =
     let n : number_at 16 4 bytes ≡ length (drop 20 bytes) = omega (arith, length-drop 20 bytes, l) in
@@ -40,11 +33,11 @@ chunk_is bytes a l m =
     (with_number 8 8 bytes (number_at 8 8 bytes) _ a (omega (arith, l, length-drop 8 bytes)) refl
     (with_number 16 4 bytes (length (drop 20 bytes)) (drop 20 bytes) a (omega (arith, l, length-drop 16 bytes)) n refl))))
 
-chunk_sendable : (bytes : List ℕ) → AreBytes bytes → length bytes ≡ 20 + number_at 16 4 bytes → IsSendable (chunk_of bytes)
+chunk_sendable : (bytes : List ℕ) → AreBytes bytes → length bytes ≡ 20 + number_at 16 4 bytes → IsSendable (chunk_of false bytes)
 unfolding IsSendable
 chunk_sendable bytes a l = grind (arith, number_at-lt, length-drop)
 
-extended_chunk_is : (bytes : List ℕ) → AreBytes bytes → length bytes ≡ 32 + number_at 24 8 bytes → number_at 0 4 bytes ≡ EXTENDED_CHUNK_MAGIC → bytes ≡ enc (extended_chunk_of bytes)
+extended_chunk_is : (bytes : List ℕ) → AreBytes bytes → length bytes ≡ 32 + number_at 24 8 bytes → number_at 0 4 bytes ≡ EXTENDED_CHUNK_MAGIC → bytes ≡ enc (chunk_of true bytes)
 unfolding enc head tail
 extended_chunk_is bytes a l m =
     let n : number_at 24 8 bytes ≡ length (drop 32 bytes) = omega (arith, length-drop 32 bytes, l) in
@@ -54,7 +47,7 @@ extended_chunk_is bytes a l m =
     (with_number 16 8 bytes (number_at 16 8 bytes) _ a (omega (arith, l, length-drop 16 bytes)) refl
     (with_number 24 8 bytes (length (drop 32 bytes)) (drop 32 bytes) a (omega (arith, l, length-drop 24 bytes)) n refl)))))
 
-extended_chunk_sendable : (bytes : List ℕ) → AreBytes bytes → length bytes ≡ 32 + number_at 24 8 bytes → is_too_large (number_at 24 8 bytes) ≡ false → IsSendable (extended_chunk_of bytes)
+extended_chunk_sendable : (bytes : List ℕ) → AreBytes bytes → length bytes ≡ 32 + number_at 24 8 bytes → is_too_large (number_at 24 8 bytes) ≡ false → IsSendable (chunk_of true bytes)
 unfolding IsSendable
 extended_chunk_sendable bytes a l small =
     let lt : number_at 24 8 bytes ≤ LONGEST_PAYLOAD = ltb-false LONGEST_PAYLOAD (number_at 24 8 bytes) small in
@@ -78,9 +71,9 @@ reply_sound old now export bytes m l t0 t a e = go (reply_read export (operation
         let f = is_found e is in
         record {
           fit = fit;
-          starts = subst (λ o. IsTrue (is_some o)) (sym (ap (λ c. target_of c old.entries) (cookie_read r).0 ∙ f.was)) refl;
+          starts = subst (λ o. IsTrue (is_some o)) (sym (ap (λ c. option_and_then (λ k. target k old.entries) c) (cookie_read r).0 ∙ f.was)) refl;
           headed = (cookie_read r).1;
-          named = is ∙ sym (ap (λ o. operation_if o now.entries) f.still ∙ f.is);
+          named = is ∙ sym (ap (λ o. option_and_then (λ k. operation k now.entries) o) f.still ∙ f.is);
         }
 
     go : IsReply export (operation_of old now) now bytes m → IsReplying old now export bytes m

@@ -1,11 +1,8 @@
 -- What is decided of a message does not change as its bytes come, nor where the other side's
 -- messages complete meanwhile.
-use Rattle.nbd_laws.proofs.Common.{magic_fault, WireFault, if◌then◌else◌, and_from, ◌≡◌, ℕ, zero, suc, ◌+◌, ◌<◌, ◌≤◌, ◌==◌, List, [], ◌∷◌, ◌++◌, length, refl, sym, ◌∙◌, ap, subst, Option, Some, None, Bool, true, false, ◌&&◌, eq-eqb, nat_le, arith, length-append, le-leb, lt-leb, SIMPLE_MAGIC, CHUNK_MAGIC, EXTENDED_CHUNK_MAGIC, EXTENDED_REQUEST_MAGIC, GREETING_MAGIC, OPTION_MAGIC, ANSWER_MAGIC, REQUEST_MAGIC, Side, Client, Server, number_at-append, is_proper_option, turn, takes_contexts, number_at, Operation, Exporting, has, Phase, Greet, Flags, Choosing, Naming, Aborting, Answering, Transmission, Core, operation, BadMagic, Decision, abort_answer, answer, choice, client_flags, export_answer, greeting, begins, chunk_to, operation_of, no_reply, reply_in, extended_chunk_to, request_by, simple_to, answer_head_fault, abort_fault, answer_fault, client_flags_fault, export_fault, greeting_fault, decision, request_fault, request_payload_length, extended_head_fault, extended_payload_length, extended_request_fault, Selection, Profile}
-use Rattle.nbd_laws.proofs.judge.DecideLemmas.{reply_by, extended_reply_by, short_request, extended_request, request_unless}
+use Rattle.nbd_laws.proofs.Common.{magic_fault, WireFault, if◌then◌else◌, and_from, ◌≡◌, ℕ, zero, suc, ◌+◌, ◌<◌, ◌≤◌, ◌==◌, List, [], ◌∷◌, ◌++◌, length, refl, sym, ◌∙◌, ap, subst, Option, Some, None, Bool, true, false, ◌&&◌, eq-eqb, nat_le, arith, length-append, le-leb, lt-leb, SIMPLE_MAGIC, CHUNK_MAGIC, EXTENDED_CHUNK_MAGIC, EXTENDED_REQUEST_MAGIC, GREETING_MAGIC, OPTION_MAGIC, ANSWER_MAGIC, REQUEST_MAGIC, Side, Client, Server, number_at-append, is_proper_option, turn, takes_contexts, number_at, Operation, Exporting, has, Phase, Greet, Flags, Choosing, Naming, Aborting, Answering, Transmission, Core, operation, BadMagic, Decision, abort_answer, answer, choice, client_flags, export_answer, greeting, begins, chunk_to, operation_of, reply_in, request_by, simple_to, answer_head_fault, abort_fault, answer_fault, client_flags_fault, export_fault, greeting_fault, decision, request_fault, request_payload_length, chunk_head_fault, Selection, Profile}
+use Rattle.nbd_laws.proofs.{judge.{DecideLemmas.{no_reply, reply_by, extended_reply_by, short_request, extended_request, request_unless}, WholeLemmas.magic_of, PhaseLemmas.{IsAppended, Later-appended, Later-extended, Later-disconnected, Later-transmission, Later-turn, target_entry}}, reading.ReaderLemmas.Later}
 use Rattle.nbd_wire.specs.declared.handshake.TheConstants as handshake
-use Rattle.nbd_laws.proofs.reading.ReaderLemmas.{Later}
-use Rattle.nbd_laws.proofs.judge.WholeLemmas.{magic_of}
-use Rattle.nbd_laws.proofs.judge.PhaseLemmas.{IsAppended, Later-appended, Later-extended, Later-disconnected, Later-transmission, Later-turn, target_entry}
 
 -- the same of a message's head and length
 pub record IsSameHead (c d : Decision) : Type 0 where
@@ -71,10 +68,10 @@ answer_same : (profile : Profile) (option : ℕ) (proper takes : Bool) (info : O
 answer_same profile option proper takes info selection bytes more l = same_by _ _ (λ i. (20, magic_fault (at 0 8 20 bytes more l (omega arith) i == ANSWER_MAGIC) (answer_head_fault profile option proper takes info (at 8 4 20 bytes more l (omega arith) i) (at 12 4 20 bytes more l (omega arith) i) (at 16 4 20 bytes more l (omega arith) i)), at 16 4 20 bytes more l (omega arith) i))
 
 request_same : (c d : Core) (bytes more : List ℕ) → 28 ≤ length bytes → IsSameHead (short_request c bytes) (short_request d (bytes ++ more))
-request_same c d bytes more l = same_by _ _ (λ i. (28, magic_fault (at 0 4 28 bytes more l (omega arith) i == REQUEST_MAGIC) (request_fault (at 6 2 28 bytes more l (omega arith) i) (at 16 8 28 bytes more l (omega arith) i) (at 24 4 28 bytes more l (omega arith) i)), request_payload_length (at 6 2 28 bytes more l (omega arith) i) (at 24 4 28 bytes more l (omega arith) i)))
+request_same c d bytes more l = same_by _ _ (λ i. (28, magic_fault (at 0 4 28 bytes more l (omega arith) i == REQUEST_MAGIC) (request_fault false (at 4 2 28 bytes more l (omega arith) i) (at 6 2 28 bytes more l (omega arith) i) (at 16 8 28 bytes more l (omega arith) i) (at 24 4 28 bytes more l (omega arith) i)), request_payload_length false (at 4 2 28 bytes more l (omega arith) i) (at 6 2 28 bytes more l (omega arith) i) (at 24 4 28 bytes more l (omega arith) i)))
 
 extended_same : (c d : Core) (bytes more : List ℕ) → 32 ≤ length bytes → IsSameHead (extended_request c bytes) (extended_request d (bytes ++ more))
-extended_same c d bytes more l = same_by _ _ (λ i. (32, magic_fault (at 0 4 32 bytes more l (omega arith) i == EXTENDED_REQUEST_MAGIC) (extended_request_fault (at 4 2 32 bytes more l (omega arith) i) (at 6 2 32 bytes more l (omega arith) i) (at 16 8 32 bytes more l (omega arith) i) (at 24 8 32 bytes more l (omega arith) i)), extended_payload_length (at 4 2 32 bytes more l (omega arith) i) (at 6 2 32 bytes more l (omega arith) i) (at 24 8 32 bytes more l (omega arith) i)))
+extended_same c d bytes more l = same_by _ _ (λ i. (32, magic_fault (at 0 4 32 bytes more l (omega arith) i == EXTENDED_REQUEST_MAGIC) (request_fault true (at 4 2 32 bytes more l (omega arith) i) (at 6 2 32 bytes more l (omega arith) i) (at 16 8 32 bytes more l (omega arith) i) (at 24 8 32 bytes more l (omega arith) i)), request_payload_length true (at 4 2 32 bytes more l (omega arith) i) (at 6 2 32 bytes more l (omega arith) i) (at 24 8 32 bytes more l (omega arith) i)))
 
 -- where no DISC has come, by whether extended headers are in force
 requests_are : {old now : Core} (export : Exporting) → Later Client old now → old.phase ≡ Transmission export → old.disconnected ≡ false → (bytes : List ℕ) → decision now.phase old now Client bytes ≡ Some (request_by old.extended now bytes)
@@ -124,7 +121,7 @@ abbrev pub short_reply : Exporting → (old now : Core) → List ℕ → Decisio
 short_reply export old now bytes = reply_in false export now (operation_of old now (number_at 8 8 bytes)) bytes
 
 module _ (export : Exporting) (old now : Core) (bytes : List ℕ) where
-  pub is_chunk_reply : begins CHUNK_MAGIC bytes ≡ true → short_reply export old now bytes ≡ chunk_to export now (operation_of old now (number_at 8 8 bytes)) bytes
+  pub is_chunk_reply : begins CHUNK_MAGIC bytes ≡ true → short_reply export old now bytes ≡ chunk_to false export now (operation_of old now (number_at 8 8 bytes)) bytes
   is_chunk_reply c = ap (λ b. reply_by b (begins SIMPLE_MAGIC bytes) export now (operation_of old now (number_at 8 8 bytes)) bytes) c
 
   pub is_simple_reply : begins CHUNK_MAGIC bytes ≡ false → begins SIMPLE_MAGIC bytes ≡ true → short_reply export old now bytes ≡ simple_to export now (operation_of old now (number_at 8 8 bytes)) bytes
@@ -184,7 +181,7 @@ pub extended_or_not : (bytes : List ℕ) → IsExtendedOrNot bytes
 extended_or_not bytes = grind (arith, as_extended, as_other)
 
 module _ (export : Exporting) (old now : Core) (bytes : List ℕ) where
-  pub is_extended_reply : begins EXTENDED_CHUNK_MAGIC bytes ≡ true → long_reply export old now bytes ≡ extended_chunk_to export now (operation_of old now (number_at 8 8 bytes)) bytes
+  pub is_extended_reply : begins EXTENDED_CHUNK_MAGIC bytes ≡ true → long_reply export old now bytes ≡ chunk_to true export now (operation_of old now (number_at 8 8 bytes)) bytes
   is_extended_reply c = ap (λ b. extended_reply_by b export now (operation_of old now (number_at 8 8 bytes)) bytes) c
 
   pub is_no_extended : begins EXTENDED_CHUNK_MAGIC bytes ≡ false → long_reply export old now bytes ≡ no_reply bytes
@@ -200,33 +197,33 @@ module _ (export : Exporting) (old now next : Core) (bytes more : List ℕ) wher
   long_grows : IsExtendedOrNot bytes → (long_reply export old now bytes).head_length ≤ (long_reply export old next (bytes ++ more)).head_length
   long_grows h = grind (arith, is_extended_reply, begun_true, is_no_extended, long_two)
 
-  extended_beyond : (o o' : Option Operation) → ((e : Operation) → o ≡ Some e → o' ≡ Some e) → next.structured ≡ now.structured → 32 ≤ length bytes → extended_head_fault now.structured o (number_at 24 8 bytes) ≡ None →
-      IsSameHead (extended_chunk_to export now o bytes) (extended_chunk_to export next o' (bytes ++ more))
+  extended_beyond : (o o' : Option Operation) → ((e : Operation) → o ≡ Some e → o' ≡ Some e) → next.structured ≡ now.structured → 32 ≤ length bytes → chunk_head_fault true now.structured o (number_at 24 8 bytes) ≡ None →
+      IsSameHead (chunk_to true export now o bytes) (chunk_to true export next o' (bytes ++ more))
   extended_beyond None o' same st l clean = grind arith
   extended_beyond (Some e) o' same st l clean = record {
     head_length_is = refl;
-    head_fault_is = λ i. extended_head_fault (st i) (same e refl i) (at 24 8 32 bytes more l (omega arith) i);
+    head_fault_is = λ i. chunk_head_fault true (st i) (same e refl i) (at 24 8 32 bytes more l (omega arith) i);
     payload_length_is = at 24 8 32 bytes more l (omega arith);
   }
 
   long_beyond : IsAppended now next → IsExtendedOrNot bytes → (long_reply export old now bytes).head_length ≤ length bytes → (long_reply export old now bytes).head_fault ≡ None → IsSameHead (long_reply export old now bytes) (long_reply export old next (bytes ++ more))
   long_beyond a (as_extended c) l clean =
-      let now_is : long_reply export old now bytes ≡ extended_chunk_to export now (operation_of old now (number_at 8 8 bytes)) bytes = is_extended_reply export old now bytes c in
+      let now_is : long_reply export old now bytes ≡ chunk_to true export now (operation_of old now (number_at 8 8 bytes)) bytes = is_extended_reply export old now bytes c in
       let long : 32 ≤ length bytes = subst (λ (d : Decision). d.head_length ≤ length bytes) now_is l in
       subst (λ d. IsSameHead d (long_reply export old next (bytes ++ more))) (sym now_is)
-      (subst (IsSameHead (extended_chunk_to export now (operation_of old now (number_at 8 8 bytes)) bytes)) (sym (is_extended_reply export old next (bytes ++ more) (begun_true EXTENDED_CHUNK_MAGIC bytes more c)))
+      (subst (IsSameHead (chunk_to true export now (operation_of old now (number_at 8 8 bytes)) bytes)) (sym (is_extended_reply export old next (bytes ++ more) (begun_true EXTENDED_CHUNK_MAGIC bytes more c)))
       (extended_beyond (operation_of old now (number_at 8 8 bytes)) (operation_of old next (number_at 8 8 (bytes ++ more))) (same_entry export old now next bytes more a (omega (arith, long))) a.structured_is long (subst (λ (d : Decision). d.head_fault ≡ None) now_is clean)))
   long_beyond a (as_other c) l clean = absurd (let q : Some BadMagic ≡ None = subst (λ (d : Decision). d.head_fault ≡ None) (is_no_extended export old now bytes c) clean in (cc))
 
-  extended_back : (o o' : Option Operation) → ((e : Operation) → o ≡ Some e → o' ≡ Some e) → (o ≡ None → o' ≡ None) → next.structured ≡ now.structured → 32 ≤ length bytes → extended_head_fault next.structured o' (number_at 24 8 (bytes ++ more)) ≡ None →
-      extended_head_fault now.structured o (number_at 24 8 bytes) ≡ None
-  extended_back None o' same none st long clean = (λ i. extended_head_fault (sym st i) (sym (none refl) i) (sym (at 24 8 32 bytes more long (omega arith)) i)) ∙ clean
-  extended_back (Some e) o' same none st long clean = (λ i. extended_head_fault (sym st i) (sym (same e refl) i) (sym (at 24 8 32 bytes more long (omega arith)) i)) ∙ clean
+  extended_back : (o o' : Option Operation) → ((e : Operation) → o ≡ Some e → o' ≡ Some e) → (o ≡ None → o' ≡ None) → next.structured ≡ now.structured → 32 ≤ length bytes → chunk_head_fault true next.structured o' (number_at 24 8 (bytes ++ more)) ≡ None →
+      chunk_head_fault true now.structured o (number_at 24 8 bytes) ≡ None
+  extended_back None o' same none st long clean = (λ i. chunk_head_fault true (sym st i) (sym (none refl) i) (sym (at 24 8 32 bytes more long (omega arith)) i)) ∙ clean
+  extended_back (Some e) o' same none st long clean = (λ i. chunk_head_fault true (sym st i) (sym (same e refl) i) (sym (at 24 8 32 bytes more long (omega arith)) i)) ∙ clean
 
   long_back : IsAppended old now → IsAppended now next → IsExtendedOrNot bytes → (long_reply export old now bytes).head_length ≤ length bytes → (long_reply export old next (bytes ++ more)).head_fault ≡ None → (long_reply export old now bytes).head_fault ≡ None
   long_back a b (as_extended c) l clean =
-      let now_is : long_reply export old now bytes ≡ extended_chunk_to export now (operation_of old now (cookie_now export old now next bytes more)) bytes = is_extended_reply export old now bytes c in
-      let next_is : long_reply export old next (bytes ++ more) ≡ extended_chunk_to export next (operation_of old next (cookie_next export old now next bytes more)) (bytes ++ more) = is_extended_reply export old next (bytes ++ more) (begun_true EXTENDED_CHUNK_MAGIC bytes more c) in
+      let now_is : long_reply export old now bytes ≡ chunk_to true export now (operation_of old now (cookie_now export old now next bytes more)) bytes = is_extended_reply export old now bytes c in
+      let next_is : long_reply export old next (bytes ++ more) ≡ chunk_to true export next (operation_of old next (cookie_next export old now next bytes more)) (bytes ++ more) = is_extended_reply export old next (bytes ++ more) (begun_true EXTENDED_CHUNK_MAGIC bytes more c) in
       let long : 32 ≤ length bytes = subst (λ (d : Decision). d.head_length ≤ length bytes) now_is l in
       let short : 16 ≤ length bytes = omega (arith, long) in
       ap (λ (d : Decision). d.head_fault) now_is

@@ -1,9 +1,6 @@
 -- Where extended headers are not in force, the length of each request fits four bytes.
-use Rattle.nbd_laws.proofs.Common.{or_parts, ◌≡◌, ◌<◌, ◌^◌, false, Bool, arith, Message, Operation, complete, IsSendable, Core, IsReached, at_start, after_message}
-use Rattle.nbd_laws.proofs.judge.WholeLemmas.{allowed}
+use Rattle.nbd_laws.proofs.{Common.{or_parts, ◌≡◌, ◌<◌, ◌^◌, false, Bool, arith, Message, Operation, complete, IsSendable, Core, IsReached, at_start, after_message}, judge.{WholeLemmas.allowed, PhaseLemmas.extended-requested}, requests.EachLemmas.{Each, each_complete, each_weaker}}
 unfoldable use Rattle.nbd_laws.proofs.judge.WholeLemmas.{IsAllowed}
-use Rattle.nbd_laws.proofs.judge.PhaseLemmas.{extended-requested}
-use Rattle.nbd_laws.proofs.requests.EachLemmas.{Each, each_complete, each_weaker}
 
 abbrev pub IsTidy : (extended : Bool) → Operation → Type 0
 IsTidy extended e = extended ≡ false → e.length < 2 ^ 32

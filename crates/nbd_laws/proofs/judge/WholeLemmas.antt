@@ -1,10 +1,9 @@
 -- What a message has that is read to its end: neither of its lists has a hit, and as many bytes came as should.
-use Rattle.nbd_laws.proofs.Common.{and_parts, ◌≡◌, ◌∙◌, reply_in, ℕ, ◌≤◌, ◌+◌, ◌==◌, List, length, drop, refl, sym, ap, subst, Option, Some, None, Bool, true, false, not, nat_le, nat_lt, eqb-true, leb-true, arith, length-drop, Profile, Message, Greeting, ClientFlags, Choice, Answer, Exported, Request, Simple, Chunk, ExtendedRequest, ExtendedChunk, number_at, CHUNK_MAGIC, EXTENDED_CHUNK_MAGIC, SIMPLE_MAGIC, WireFault, BadMagic, OutOfProfile, UnknownCookie, Exporting, Operation, Core, Phase, Greet, Flags, Choosing, Naming, Aborting, Answering, Transmission, Side, Client, Server, has, is_proper_option, takes_contexts, target, operation, with_reply, cookie_of, is_extended, abort_fault, answer_fault, answer_head_fault, answer_last_fault, client_flags_fault, export_fault, greeting_fault, Decision, abort_answer, answer, begins, choice, chunk_to, client_flags, export_answer, extended_chunk_to, greeting, no_reply, operation_if, operation_of, reply_with, request_by, simple_to, judge_in, read_by, reading_by_decision, Whole, chunk_fault, chunk_head_fault, cookie_fault, extended_request_fault, offset_fault, read_as, request_fault, simple_fault, simple_last_fault, simple_length, MayComplete, enc, side}
-use Rattle.nbd_laws.proofs.judge.DecideLemmas.{extended_request, extended_reply_by, reply_by, request_unless, short_request}
+use Rattle.nbd_laws.proofs.Common.{and_parts, ◌≡◌, ◌∙◌, reply_in, ℕ, ◌≤◌, ◌+◌, ◌==◌, List, length, drop, refl, sym, ap, subst, Option, Some, None, Bool, true, false, not, nat_le, nat_lt, eqb-true, leb-true, arith, length-drop, Profile, Message, Greeting, ClientFlags, Choice, Answer, Exported, Request, Simple, Chunk, ExtendedRequest, ExtendedChunk, number_at, CHUNK_MAGIC, EXTENDED_CHUNK_MAGIC, SIMPLE_MAGIC, WireFault, BadMagic, OutOfProfile, UnknownCookie, Exporting, Operation, Core, Phase, Greet, Flags, Choosing, Naming, Aborting, Answering, Transmission, Side, Client, Server, has, is_proper_option, takes_contexts, target, operation, with_reply, cookie_of, is_extended, abort_fault, answer_fault, answer_head_fault, answer_last_fault, client_flags_fault, export_fault, greeting_fault, Decision, abort_answer, answer, begins, choice, chunk_to, client_flags, export_answer, greeting, option_and_then, operation_of, reply_with, request_by, simple_to, judge_in, read_by, reading_by_decision, Whole, chunk_fault, chunk_head_fault, cookie_fault, offset_fault, read_as, request_fault, simple_fault, simple_last_fault, MayComplete, enc, side}
+use Rattle.nbd_laws.proofs.judge.{DecideLemmas.{no_reply, simple_length, extended_request, extended_reply_by, reply_by, request_unless, short_request}, BoolLemmas.{fault_none, ended_whole}}
 use Rattle.nbd_wire.specs.declared.chunks.TheConstants as chunks
 use Rattle.nbd_wire.specs.declared.handshake.TheConstants as handshake
 use Rattle.nbd_wire.specs.declared.options.TheConstants as options
-use Rattle.nbd_laws.proofs.judge.BoolLemmas.{fault_none, ended_whole}
 
 -- what the judge calls whole has no fault
 pub record IsWhole (d : Decision) (bytes : List ℕ) (m : Message) : Type 0 where
@@ -19,8 +18,8 @@ whole d bytes m e = grind (arith, nat_lt, eqb-true, ended_whole)
 -- a reply to this request: as many bytes as it asks for, and nothing is refused at its head or its last byte
 unfoldable pub MayReply : Profile → Bool → Exporting → Operation → Message → Type 0
 MayReply profile structured export e (Simple error cookie payload) = (length payload ≡ simple_length e error) × (simple_fault structured (Some e) error ≡ None) × (simple_last_fault export (Some e) error ≡ None)
-MayReply profile structured export e (Chunk flags kind cookie payload) = (chunk_head_fault structured (Some e) ≡ None) × (chunk_fault false (kind == chunks.NONE) export e (with_reply e (Chunk flags kind cookie payload)) flags (read_as profile kind) payload ≡ None)
-MayReply profile structured export e (ExtendedChunk flags kind cookie offset payload) = (chunk_head_fault structured (Some e) ≡ None) × (chunk_fault true (kind == chunks.NONE) export e (with_reply e (ExtendedChunk flags kind cookie offset payload)) flags (read_as profile kind) payload ≡ None) × (offset ≡ e.offset)
+MayReply profile structured export e (Chunk flags kind cookie payload) = (chunk_head_fault false structured (Some e) 0 ≡ None) × (chunk_fault false (kind == chunks.NONE) export e (with_reply e (Chunk flags kind cookie payload)) flags (read_as profile kind) payload ≡ None)
+MayReply profile structured export e (ExtendedChunk flags kind cookie offset payload) = (chunk_head_fault false structured (Some e) 0 ≡ None) × (chunk_fault true (kind == chunks.NONE) export e (with_reply e (ExtendedChunk flags kind cookie offset payload)) flags (read_as profile kind) payload ≡ None) × (offset ≡ e.offset)
 MayReply profile structured export e _ = ⊥
 
 -- a reply answers the outstanding request with its cookie
@@ -35,10 +34,10 @@ IsAllowed core Choosing (Choice id payload) = Unit {0}
 IsAllowed core Naming (Exported size flags padded) = (padded ≡ not (has core.client_flags handshake.C_NO_ZEROES)) × (export_fault size flags ≡ None)
 IsAllowed core Aborting (Answer option kind payload) = answer_fault options.ABORT option (abort_fault kind (length payload)) ≡ None
 IsAllowed core (Answering asked given info) (Answer option kind payload) = (answer_head_fault core.profile asked (is_proper_option asked given) (takes_contexts asked given) info option kind (length payload) ≡ None) × (answer_last_fault core.profile asked (is_proper_option asked given) core.selection kind payload ≡ None)
-IsAllowed core (Transmission export) (Request flags command cookie offset len payload) = (request_fault command offset len ≡ None) × (cookie_fault command (target cookie core.entries) ≡ None) × (core.extended ≡ false)
+IsAllowed core (Transmission export) (Request flags command cookie offset len payload) = (request_fault false flags command offset len ≡ None) × (cookie_fault command (target cookie core.entries) ≡ None) × (core.extended ≡ false)
 IsAllowed core (Transmission export) (Simple error cookie payload) = AnswersOne core export cookie (Simple error cookie payload)
 IsAllowed core (Transmission export) (Chunk flags kind cookie payload) = AnswersOne core export cookie (Chunk flags kind cookie payload)
-IsAllowed core (Transmission export) (ExtendedRequest flags command cookie offset len payload) = (extended_request_fault flags command offset len ≡ None) × (cookie_fault command (target cookie core.entries) ≡ None) × (core.extended ≡ true)
+IsAllowed core (Transmission export) (ExtendedRequest flags command cookie offset len payload) = (request_fault true flags command offset len ≡ None) × (cookie_fault command (target cookie core.entries) ≡ None) × (core.extended ≡ true)
 IsAllowed core (Transmission export) (ExtendedChunk flags kind cookie offset payload) = AnswersOne core export cookie (ExtendedChunk flags kind cookie offset payload)
 IsAllowed _ _ _ = ⊥
 
@@ -65,8 +64,8 @@ request_read now bytes m e = go now.disconnected refl e
 -- what was read as a reply to the request that its cookie names
 pub data IsReply (export : Exporting) (to : ℕ → Option Operation) (now : Core) (bytes : List ℕ) (m : Message) : Type 0 where
   as_simple : (e : Operation) → to (number_at 8 8 bytes) ≡ Some e → now.extended ≡ false → number_at 0 4 bytes ≡ SIMPLE_MAGIC → IsWhole (simple_to export now (Some e) bytes) bytes m → IsReply export to now bytes m
-  as_chunk : (e : Operation) → to (number_at 8 8 bytes) ≡ Some e → now.extended ≡ false → number_at 0 4 bytes ≡ CHUNK_MAGIC → IsWhole (chunk_to export now (Some e) bytes) bytes m → IsReply export to now bytes m
-  as_extended : (e : Operation) → to (number_at 8 8 bytes) ≡ Some e → now.extended ≡ true → number_at 0 4 bytes ≡ EXTENDED_CHUNK_MAGIC → IsWhole (extended_chunk_to export now (Some e) bytes) bytes m → IsReply export to now bytes m
+  as_chunk : (e : Operation) → to (number_at 8 8 bytes) ≡ Some e → now.extended ≡ false → number_at 0 4 bytes ≡ CHUNK_MAGIC → IsWhole (chunk_to false export now (Some e) bytes) bytes m → IsReply export to now bytes m
+  as_extended : (e : Operation) → to (number_at 8 8 bytes) ≡ Some e → now.extended ≡ true → number_at 0 4 bytes ≡ EXTENDED_CHUNK_MAGIC → IsWhole (chunk_to true export now (Some e) bytes) bytes m → IsReply export to now bytes m
 
 -- what is decided of a reply, by its header and what it begins with
 abbrev reply_as : (x chunk simple long : Bool) → Exporting → Core → Option Operation → List ℕ → Decision
@@ -82,13 +81,13 @@ reply_read export to now bytes m e = by now.extended refl (to (number_at 8 8 byt
 
     by : (x : Bool) → now.extended ≡ x → (o : Option Operation) → to (number_at 8 8 bytes) ≡ o → (chunk : Bool) → begins CHUNK_MAGIC bytes ≡ chunk → (simple : Bool) → begins SIMPLE_MAGIC bytes ≡ simple → (long : Bool) → begins EXTENDED_CHUNK_MAGIC bytes ≡ long →
         read_by (reply_as x chunk simple long export now o bytes) bytes ≡ Whole m → IsReply export to now bytes m
-    by false x (Some o) is true c simple s long l e = as_chunk o is x (magic_of _ bytes c).1 (whole (chunk_to export now (Some o) bytes) bytes m e)
-    by false x None is true c simple s long l e = absurd (let q : Some UnknownCookie ≡ None = (whole (chunk_to export now None bytes) bytes m e).at_head in (cc))
+    by false x (Some o) is true c simple s long l e = as_chunk o is x (magic_of _ bytes c).1 (whole (chunk_to false export now (Some o) bytes) bytes m e)
+    by false x None is true c simple s long l e = absurd (let q : Some UnknownCookie ≡ None = (whole (chunk_to false export now None bytes) bytes m e).at_head in (cc))
     by false x (Some o) is false c true s long l e = as_simple o is x (magic_of _ bytes s).1 (whole (simple_to export now (Some o) bytes) bytes m e)
     by false x None is false c true s long l e = absurd (let q : Some UnknownCookie ≡ None = (whole (simple_to export now None bytes) bytes m e).at_head in (cc))
     by false x o is false c false s long l e = absurd (let q : Some BadMagic ≡ None = (whole (no_reply bytes) bytes m e).at_head in (cc))
-    by true x (Some o) is chunk c simple s true l e = as_extended o is x (magic_of _ bytes l).1 (whole (extended_chunk_to export now (Some o) bytes) bytes m e)
-    by true x None is chunk c simple s true l e = absurd (let q : Some UnknownCookie ≡ None = (fault_none _ OutOfProfile _ (whole (extended_chunk_to export now None bytes) bytes m e).at_head).1 in (cc))
+    by true x (Some o) is chunk c simple s true l e = as_extended o is x (magic_of _ bytes l).1 (whole (chunk_to true export now (Some o) bytes) bytes m e)
+    by true x None is chunk c simple s true l e = absurd (let q : Some UnknownCookie ≡ None = (fault_none _ OutOfProfile _ (whole (chunk_to true export now None bytes) bytes m e).at_head).1 in (cc))
     by true x o is chunk c simple s false l e = absurd (let q : Some BadMagic ≡ None = (whole (no_reply bytes) bytes m e).at_head in (cc))
 
 -- the cookie that it repeats, and its kind of header
@@ -104,7 +103,7 @@ stated h n bytes l = omega (arith, length-drop h bytes, l)
 found : (core : Core) (cookie : ℕ) (e : Operation) → operation_of core core cookie ≡ Some e → (k : ℕ) × (target cookie core.entries ≡ Some k) × (operation k core.entries ≡ Some e)
 found core cookie e h = go (target cookie core.entries) refl h
   where
-    go : (o : Option ℕ) → target cookie core.entries ≡ o → operation_if o core.entries ≡ Some e → (k : ℕ) × (target cookie core.entries ≡ Some k) × (operation k core.entries ≡ Some e)
+    go : (o : Option ℕ) → target cookie core.entries ≡ o → option_and_then (λ k. operation k core.entries) o ≡ Some e → (k : ℕ) × (target cookie core.entries ≡ Some k) × (operation k core.entries ≡ Some e)
     go None t h = absurd (cc)
     go (Some k) t h = (k, t, h)
 

@@ -1,9 +1,7 @@
 -- A run's pairs are read without a fault, and what completes is the run's.
 use Rattle.nbd_laws.proofs.Common.{AreBytes, judge, arith, ◌≡◌, ℕ, ◌<◌, List, [], ◌∷◌, ◌++◌, length, refl, sym, ◌∙◌, ap, subst, Ok, append_assoc, append-nil, Entry, Side, Message, enc, side, Item, pairs, Pair, ArePairs, Core, MayStart, MayComplete, complete, Obeys, within, Both, get, put, IsFilled, Rest, Reader, Reading, More, Whole, Bad, old_of, rest_with, reads, with_message}
-use Rattle.nbd_laws.proofs.judge.SoundLemmas.{sendable_of}
-use Rattle.nbd_laws.proofs.reading.ReaderLemmas.{put_both, IsFilled-snoc, old-empty, old-filled, Kept, AreHeld, kept_next, held_more, held_whole, reached_of, get-put_same, Open, Idle, Busy, Loose, Walk, ended, serving, opening, middle, final, loose, Later, at_once, behind, Later-trans, IsExact}
-use Rattle.nbd_laws.proofs.runs.FollowLemmas.{HasEnd, IsSidedOpen, completes_later, each_with, follows}
-use Rattle.nbd_laws.proofs.runs.TraceLemmas.{IsWithin}
+use Rattle.nbd_laws.proofs.{judge.SoundLemmas.sendable_of, reading.ReaderLemmas.{put_both, IsFilled-snoc, old-empty, old-filled, Kept, AreHeld, kept_next, held_more, held_whole, reached_of, get-put_same, Open, Idle, Busy, Loose, Walk, ended, serving, opening, middle, final, loose, Later, at_once, behind, Later-trans, IsExact}}
+use Rattle.nbd_laws.proofs.runs.{FollowLemmas.{HasEnd, IsSidedOpen, completes_later, each_with, follows}, TraceLemmas.IsWithin}
 
 -- the reader stands where the run stands
 abbrev pub InStep : Core → Rest → Side → Open → Type 0

@@ -1,14 +1,7 @@
 -- What a reader has read states the report of any run with its bytes.
 use Rattle.nbd_laws.proofs.Common.{arith, ◌≡◌, ℕ, suc, List, [], ◌∷◌, length, refl, sym, ◌∙◌, ap, subst, Option, Ok, Some, None, Bool, false, if◌then◌else◌, Profile, Base, Client, Server, Side, Message, Item, Byte, Starts, Completes, Serves, pairs, Pair, ArePairs, Report, report, asked_list, asked_of, known_from, noted, Operation, is_reply_to, is_this, MayComplete, request_of_reply, complete, ends_at, IsRunOf, side, Core, start, start_of, export_in, Both, Reader, Rest, IsFilled, fresh_of, get, put, reads, rest_with, old_of, with_message, with_profile}
-use Rattle.nbd_laws.proofs.judge.SoundLemmas.{sound}
-use Rattle.nbd_laws.proofs.reading.ReaderLemmas.{Busy, Idle, IsFilled-snoc, IsNotBusy, Later, Later-trans, Loose, Open, Walk, at_once, behind, ended, final, led, loose, middle, old-empty, old-filled, opening, put_both, serving, with_byte}
-use Rattle.nbd_laws.proofs.runs.BegunLemmas.{AreBegun, BegunOpen, answers_same, asks_only, begun_completed}
-use Rattle.nbd_laws.proofs.runs.FollowLemmas.{Follows, each_with, follows}
-use Rattle.nbd_laws.proofs.runs.ProfileLemmas.{at_base, known_at_base}
-use Rattle.nbd_laws.proofs.runs.RunLemmas.{core_end-ends_at, run_law, walk_of}
-use Rattle.nbd_laws.proofs.service.DueLemmas.{or_later}
-use Rattle.nbd_laws.proofs.service.InsideLemmas.{core_end}
-use Rattle.nbd_laws.proofs.service.ServiceLemmas.{same_reports}
+use Rattle.nbd_laws.proofs.{judge.SoundLemmas.sound, reading.ReaderLemmas.{Busy, Idle, IsFilled-snoc, IsNotBusy, Later, Later-trans, Loose, Open, Walk, at_once, behind, ended, final, led, loose, middle, old-empty, old-filled, opening, put_both, serving, with_byte}}
+use Rattle.nbd_laws.proofs.{runs.{BegunLemmas.{AreBegun, BegunOpen, answers_same, asks_only, begun_completed}, FollowLemmas.{Follows, each_with, follows}, ProfileLemmas.{at_base, known_at_base}, RunLemmas.{core_end-ends_at, run_law, walk_of}}, service.{DueLemmas.or_later, InsideLemmas.core_end, ServiceLemmas.same_reports}}
 
 -- the count, where the message answers request k, or else what came later
 abbrev known_here : Option ℕ → ℕ → ℕ → Option ℕ → Option ℕ

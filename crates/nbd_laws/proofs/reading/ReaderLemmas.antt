@@ -1,4 +1,4 @@
-use Rattle.nbd_laws.proofs.Common.{judge, arith, ◌≡◌, ℕ, ◌<◌, ◌⊎◌, List, [], ◌∷◌, ◌++◌, refl, sym, ◌∙◌, ap, subst, Ok, Entry, Side, Client, Server, Message, enc, side, Item, Byte, Starts, Completes, Serves, Pair, ArePairs, Core, IsSendable, MayStart, MayComplete, complete, Both, get, put, IsFilled, Rest, Reader, Reading, old_by, old_of, settle, rest_with, on_ok, reads, More, Whole, Bad, IsReached, after_message, with_message}
+use Rattle.nbd_laws.proofs.Common.{judge, arith, ◌≡◌, ℕ, ◌<◌, ◌⊎◌, List, [], ◌∷◌, ◌++◌, refl, sym, ◌∙◌, ap, subst, Ok, Entry, Side, Client, Server, Message, enc, side, Item, Byte, Starts, Completes, Serves, Pair, ArePairs, Core, IsSendable, MayStart, MayComplete, complete, Both, get, put, IsFilled, Rest, Reader, Reading, old_of, settle, rest_with, on_ok, reads, More, Whole, Bad, IsReached, after_message, with_message}
 
 pub get-put_same : {A : Type 0} (p : Both A) (s : Side) (a : A) → get (put p s a) s ≡ a
 get-put_same p s a = grind arith
@@ -107,7 +107,7 @@ pub record IsExact : Type 0 where
       side m ≡ s → MayStart old s m → MayComplete now now.phase m → Kept s old now (enc m) → judge old now s (enc m) ≡ Whole m
 
 pub old-empty : (core : Core) (rest : Rest) → rest.bytes ≡ [] → old_of core rest ≡ core
-old-empty core rest e = ap (λ bs. old_by bs core rest.since) e
+old-empty core rest e = ap (λ bs. old_of core (record rest { bytes = bs })) e
 
 pub old-filled : (core : Core) (rest : Rest) → IsFilled rest.bytes → old_of core rest ≡ rest.since
 old-filled core rest f = grind arith

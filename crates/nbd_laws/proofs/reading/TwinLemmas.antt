@@ -1,7 +1,5 @@
 -- Two runs with the same bytes have the same marks, but for those of service.
-use Rattle.nbd_laws.proofs.Common.{arith, ◌≡◌, ℕ, List, [], ◌∷◌, ◌++◌, refl, sym, ◌∙◌, ap, subst, append_assoc, append-nil, Side, Client, Server, Message, enc, Item, Byte, Starts, Completes, pairs, Pair, MayComplete, complete, side, Core, Both, get, put, IsFilled}
-use Rattle.nbd_laws.proofs.runs.FollowLemmas.{IsBegun, Follows, IsBare, HasEnd, IsSidedOpen, completes_later}
-use Rattle.nbd_laws.proofs.judge.SameLemmas.{same_message}
+use Rattle.nbd_laws.proofs.{Common.{arith, ◌≡◌, ℕ, List, [], ◌∷◌, ◌++◌, refl, sym, ◌∙◌, ap, subst, append_assoc, append-nil, Side, Client, Server, Message, enc, Item, Byte, Starts, Completes, pairs, Pair, MayComplete, complete, side, Core, Both, get, put, IsFilled}, runs.FollowLemmas.{IsBegun, Follows, IsBare, HasEnd, IsSidedOpen, completes_later}, judge.SameLemmas.same_message}
 use Rattle.nbd_laws.proofs.reading.ReaderLemmas.{put_both, get-put_same, Open, Idle, Busy, IsNotBusy, Walk, ended, serving, opening, middle, final, loose, Later, Later-trans, at_once, behind}
 
 -- two messages that a side may be in, of which the same bytes have come

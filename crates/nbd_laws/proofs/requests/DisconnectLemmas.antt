@@ -1,11 +1,8 @@
 -- Nothing of the client comes after a DISC.
 use Rattle.nbd_laws.proofs.Common.{arith, ◌≡◌, ℕ, List, [], ◌∷◌, ◌++◌, ◌∙◌, true, Client, Message, Request, ExtendedRequest, Item, Starts, Completes, Serves, Exporting, MayComplete, MayStartIn, Obeys, after, complete, ends_at, Core, Phase, State, Transmission, start_of, DisconnectsAreEmpty, IsDisconnect, NothingAfterDisconnect}
-use Rattle.nbd_laws.proofs.judge.WholeLemmas.{allowed}
+use Rattle.nbd_laws.proofs.{judge.{WholeLemmas.allowed, AllowLemmas.{MayAsk, ask_allow, extended_ask_allow}}, runs.{PrefixLemmas.{InTransmission, asks, in_transmission, phase-complete}, PartLemmas.{obeys_back, obeys_prefix}}}
 unfoldable use Rattle.nbd_laws.proofs.judge.WholeLemmas.{IsAllowed}
-use Rattle.nbd_laws.proofs.judge.AllowLemmas.{MayAsk, ask_allow, extended_ask_allow}
 use Rattle.nbd_wire.specs.declared.commands.TheConstants as commands
-use Rattle.nbd_laws.proofs.runs.PrefixLemmas.{InTransmission, asks, in_transmission, phase-complete}
-use Rattle.nbd_laws.proofs.runs.PartLemmas.{obeys_back, obeys_prefix}
 
 -- a DISC completes in transmission alone
 record IsAsked (core : Core) (phase : Phase) (cookie offset len : ℕ) : Type 0 where

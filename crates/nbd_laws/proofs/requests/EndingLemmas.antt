@@ -1,13 +1,8 @@
 -- A reply completes for the request for which it started.
-use Rattle.nbd_laws.proofs.Common.{arith, ◌≡◌, ℕ, List, [], ◌∷◌, ◌++◌, refl, sym, ◌∙◌, ap, subst, Option, Some, None, Side, Client, Server, Message, Profile, Item, Byte, Starts, Completes, Serves, Exporting, IsRunOf, MayStartIn, request_of_reply, Obeys, after, cookie_of, ends_at, target_of, side, Core, State, Transmission, start, start_of, RepliesEndAsTheyStart, Both, get}
+use Rattle.nbd_laws.proofs.Common.{arith, ◌≡◌, ℕ, List, [], ◌∷◌, ◌++◌, refl, sym, ◌∙◌, ap, subst, Option, Some, None, Side, Client, Server, Message, Profile, Item, Byte, Starts, Completes, Serves, Exporting, IsRunOf, MayStartIn, request_of_reply, Obeys, after, cookie_of, ends_at, option_and_then, target, side, Core, State, Transmission, start, start_of, RepliesEndAsTheyStart, Both, get}
+use Rattle.nbd_laws.proofs.{runs.{FollowLemmas.{Follows, IsSidedOpen, each_with, follows}, PartLemmas.{StandsAt, obeys_back, start_at}, ProfileLemmas.{phase_at_base, reply_at_base}, RunLemmas.walk_of}, judge.PhaseLemmas.{IsAppended, Later-appended, target-append}}
+use Rattle.nbd_laws.proofs.{reading.ReaderLemmas.{get-put_same, get-put_other, same_or_not, Open, Idle, Busy, Walk, ended, serving, opening, middle, final, loose, Later, at_once, behind}, requests.OutstandingLemmas.in_transmission}
 use Rattle.nbd_laws.specs.Prefixes as prefixes
-use Rattle.nbd_laws.proofs.runs.FollowLemmas.{Follows, IsSidedOpen, each_with, follows}
-use Rattle.nbd_laws.proofs.judge.PhaseLemmas.{IsAppended, Later-appended, target-append}
-use Rattle.nbd_laws.proofs.reading.ReaderLemmas.{get-put_same, get-put_other, same_or_not, Open, Idle, Busy, Walk, ended, serving, opening, middle, final, loose, Later, at_once, behind}
-use Rattle.nbd_laws.proofs.requests.OutstandingLemmas.{in_transmission}
-use Rattle.nbd_laws.proofs.runs.PartLemmas.{StandsAt, obeys_back, start_at}
-use Rattle.nbd_laws.proofs.runs.ProfileLemmas.{phase_at_base, reply_at_base}
-use Rattle.nbd_laws.proofs.runs.RunLemmas.{walk_of}
 
 -- the message that is open is the next of its side to complete
 same_end : {o : Both Open} {items : List Item} → Walk ⊥ o items → (s : Side) (m n : Message) (left : List ℕ) (inner back : List Item) → get o s ≡ Busy m left → items ≡ inner ++ Completes s n ∷ back → prefixes.ended_messages s inner ≡ [] → n ≡ m
@@ -62,7 +57,7 @@ same_answer : (c d : Core) (export : Exporting) (m : Message) (k : ℕ) → Late
 same_answer c d export m k l t a = go (cookie_of m) refl
   where
     go : (o : Option ℕ) → cookie_of m ≡ o → request_of_reply d m ≡ request_of_reply c m
-    go None q = ap (λ o. target_of o d.entries) q ∙ sym (ap (λ o. target_of o c.entries) q)
+    go None q = ap (λ o. option_and_then (λ k. target k d.entries) o) q ∙ sym (ap (λ o. option_and_then (λ k. target k c.entries) o) q)
     go (Some cookie) q =
         let p : IsAppended c d = Later-appended l export t in
         grind (arith, p, Later-appended, target-append)

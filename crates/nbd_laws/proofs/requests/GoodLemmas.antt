@@ -1,12 +1,10 @@
 -- What a request keeps as replies to it complete.
-use Rattle.nbd_laws.proofs.Common.{and_from, and_parts, ◌≡◌, Option, ℕ, ◌≤◌, ◌==◌, List, [], ◌∷◌, ◌++◌, length, refl, sym, ◌∙◌, ap, subst, inl, inr, None, Bool, true, false, ◌&&◌, if◌then◌else◌, eqb-true, eq-eqb, arith, IsTrue, append-nil, nat_le, nat_lt, le_refl, leb-true, ltb-true, Profile, read_as, done_fault, simple_length, Message, Simple, Chunk, ExtendedRequest, ExtendedChunk, Piece, Sizes, Context, length_by, content_of, filter_in, written, Covers, Operation, Exporting, Success, any, ends_reply, has_failed, is_failing, is_finished, is_proper, outcome, pieces, chunk_piece, piece_of, simple_piece, has, IsSendable, with_reply}
+use Rattle.nbd_laws.proofs.Common.{and_from, and_parts, ◌≡◌, Option, ℕ, ◌≤◌, ◌==◌, List, [], ◌∷◌, ◌++◌, length, refl, sym, ◌∙◌, ap, subst, inl, inr, None, Bool, true, false, ◌&&◌, if◌then◌else◌, eqb-true, eq-eqb, arith, IsTrue, append-nil, nat_le, nat_lt, le_refl, leb-true, ltb-true, Profile, read_as, done_fault, Message, Simple, Chunk, ExtendedRequest, ExtendedChunk, Piece, Sizes, Context, length_by, content_of, filter_in, written, Covers, Operation, Exporting, Success, list_any, ends_reply, has_failed, is_failing, is_finished, is_proper, outcome, pieces, option_to_list, piece_of, simple_piece, has, IsSendable, with_reply}
+use Rattle.nbd_laws.proofs.{judge.{DecideLemmas.simple_length, AllowLemmas.{IsChunk, chunk_allow, extended_allow, finish_allow, simple_allow, total_covers}, KindLemmas.{kind_content, no_content, none_content, status_content}}, requests.LaidLemmas.{AreApart, AreInside, apart_snoc, inside_snoc, pieces-snoc}}
 unfoldable use Rattle.nbd_laws.proofs.judge.WholeLemmas.{MayReply}
-use Rattle.nbd_laws.proofs.judge.AllowLemmas.{IsChunk, chunk_allow, extended_allow, finish_allow, simple_allow, total_covers}
-use Rattle.nbd_laws.proofs.judge.KindLemmas.{kind_content, no_content, none_content, status_content}
 use Rattle.nbd_wire.specs.declared.chunks.TheConstants as chunks
 use Rattle.nbd_wire.specs.declared.command_flags.TheConstants as command_flags
 use Rattle.nbd_wire.specs.declared.commands.TheConstants as commands
-use Rattle.nbd_laws.proofs.requests.LaidLemmas.{AreApart, AreInside, apart_snoc, inside_snoc, pieces-snoc}
 
 pub record IsGood (export : Exporting) (e : Operation) : Type 0 where
   pub carried : e.command ≡ commands.WRITE → length e.payload ≡ e.length
@@ -25,7 +23,7 @@ pub record Succeeds (e : Operation) : Type 0 where
 pub succeeds : (e : Operation) → outcome e ≡ Success → Succeeds e
 succeeds e h = grind arith
 
-pub any-last : (p : Message → Bool) (ms : List Message) (m : Message) → any p ms ≡ false → any p (ms ++ m ∷ []) ≡ true → p m ≡ true
+pub any-last : (p : Message → Bool) (ms : List Message) (m : Message) → list_any p ms ≡ false → list_any p (ms ++ m ∷ []) ≡ true → p m ≡ true
 any-last p [] m f h = grind arith
 any-last p (n ∷ ms) m f h = grind (arith, any-last p ms m)
 
@@ -38,10 +36,10 @@ pub record Keeps (export : Exporting) (e : Operation) (ps : List Piece) : Type 0
 
 -- a chunk adds the piece that its payload is
 abbrev AddsPiece : Operation → (kind : ℕ) (payload : List ℕ) → Message → Type 0
-AddsPiece e kind payload m = pieces (with_reply e m) ≡ pieces e ++ chunk_piece (content_of kind payload)
+AddsPiece e kind payload m = pieces (with_reply e m) ≡ pieces e ++ option_to_list (content_of kind payload)
 
 added_none : (e : Operation) (kind : ℕ) (payload : List ℕ) (m : Message) → AddsPiece e kind payload m → content_of kind payload ≡ None → pieces (with_reply e m) ≡ pieces e
-added_none e kind payload m a q = a ∙ ap (λ o. pieces e ++ chunk_piece o) q ∙ append-nil (pieces e)
+added_none e kind payload m a q = a ∙ ap (λ o. pieces e ++ option_to_list o) q ∙ append-nil (pieces e)
 
 pub kept_chunk : (profile : Profile) (extended : Bool) (export : Exporting) (e : Operation) (flags kind : ℕ) (payload : List ℕ) (m : Message) → AddsPiece e kind payload m → IsGood export e → IsChunk profile extended export e flags kind payload →
     Keeps export e (pieces (with_reply e m))
@@ -85,14 +83,14 @@ pub good_chunk : (profile : Profile) (structured : Bool) (export : Exporting) (e
 unfolding ends_reply piece_of
 good_chunk profile structured export e flags kind cookie payload g open_ h =
     let c = chunk_allow profile structured export e flags kind cookie payload h in
-    good_by profile false export e flags kind payload (Chunk flags kind cookie payload) ((grind (arith, pieces-snoc))) refl g open_ c.1 c.2
+    good_by profile false export e flags kind payload (Chunk flags kind cookie payload) (pieces-snoc e.offset e.replies (Chunk flags kind cookie payload)) refl g open_ c.1 c.2
 
 pub good_extended : (profile : Profile) (structured : Bool) (export : Exporting) (e : Operation) (flags kind cookie at : ℕ) (payload : List ℕ) → IsGood export e → is_finished e ≡ false → MayReply profile structured export e (ExtendedChunk flags kind cookie at payload) →
     IsGood export (with_reply e (ExtendedChunk flags kind cookie at payload))
 unfolding ends_reply piece_of
 good_extended profile structured export e flags kind cookie at payload g open_ h =
     let c = extended_allow profile structured export e flags kind cookie at payload h in
-    good_by profile true export e flags kind payload (ExtendedChunk flags kind cookie at payload) ((grind (arith, pieces-snoc))) refl g open_ c.1 c.2
+    good_by profile true export e flags kind payload (ExtendedChunk flags kind cookie at payload) (pieces-snoc e.offset e.replies (ExtendedChunk flags kind cookie at payload)) refl g open_ c.1 c.2
 
 -- a request with one simple reply
 abbrev pub once : Operation → (error cookie : ℕ) (payload : List ℕ) → Operation

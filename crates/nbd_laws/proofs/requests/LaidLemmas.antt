@@ -1,5 +1,5 @@
 -- Pieces that lie in a range and share no offset.
-use Rattle.nbd_laws.proofs.Common.{arith, ◌≡◌, ℕ, suc, ◌+◌, ◌≤◌, List, [], ◌∷◌, ◌++◌, refl, sym, ◌∙◌, ap, Some, None, Bool, true, false, if◌then◌else◌, slice_get, append_assoc, append-nil, Message, Piece, SharesNone, byte_at, holds, piece_byte, piece_of, piece_offset, piece_size, pieces_of, AreLaid}
+use Rattle.nbd_laws.proofs.Common.{arith, ◌≡◌, ℕ, suc, ◌+◌, ◌≤◌, List, [], ◌∷◌, ◌++◌, refl, sym, ◌∙◌, ap, Some, None, Bool, true, false, if◌then◌else◌, slice_get, append_assoc, append-nil, Message, Piece, SharesNone, byte_at, holds, piece_byte, piece_of, piece_offset, piece_size, flat_map, AreLaid}
 
 abbrev pub AreInside : ℕ → ℕ → List Piece → Type 0
 AreInside offset len [] = Unit {0}
@@ -28,9 +28,9 @@ pub apart_snoc : (ps : List Piece) (p : Piece) → AreApart ps → SharesNone p 
 apart_snoc [] p a n = ((λ x h. refl), tt)
 apart_snoc (q ∷ ps) p a n = ((λ x h. shares_snoc q ps p x h (a.0 x h) (λ k. (first_none q ps x (n x k)).0)), apart_snoc ps p a.1 (λ x h. (first_none q ps x (n x h)).1))
 
-pub pieces-snoc : (offset : ℕ) (ms : List Message) (m : Message) → pieces_of offset (ms ++ m ∷ []) ≡ pieces_of offset ms ++ piece_of offset m
+pub pieces-snoc : (offset : ℕ) (ms : List Message) (m : Message) → flat_map (piece_of offset) (ms ++ m ∷ []) ≡ flat_map (piece_of offset) ms ++ piece_of offset m
 pieces-snoc offset [] m = append-nil (piece_of offset m)
-pieces-snoc offset (n ∷ ms) m = ap (λ l. piece_of offset n ++ l) (pieces-snoc offset ms m) ∙ sym (append_assoc (piece_of offset n) (pieces_of offset ms) (piece_of offset m))
+pieces-snoc offset (n ∷ ms) m = ap (λ l. piece_of offset n ++ l) (pieces-snoc offset ms m) ∙ sym (append_assoc (piece_of offset n) (flat_map (piece_of offset) ms) (piece_of offset m))
 
 -- a piece of the list
 inside_at : (offset len : ℕ) (ps : List Piece) → AreInside offset len ps → (i : ℕ) (p : Piece) → slice_get ps i ≡ Some p → (offset ≤ piece_offset p) × (piece_offset p + piece_size p ≤ offset + len)

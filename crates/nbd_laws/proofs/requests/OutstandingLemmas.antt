@@ -1,12 +1,8 @@
 -- The outstanding requests of a core have distinct cookies.
-use Rattle.nbd_laws.proofs.Common.{and_parts, not-true, ◌≡◌, ℕ, zero, suc, ◌==◌, List, [], ◌∷◌, ◌++◌, refl, ◌∙◌, ap, subst, Option, Some, None, Bool, false, arith, eqb-true, eq-eqb, IsTrue, is_some, IsServedAt, Server, Message, Request, ExtendedRequest, Profile, operations_of, report, Item, Starts, Completes, Serves, service_order, Operation, Exporting, any, ends_reply, is_finished, MayComplete, MayStartIn, Obeys, after, request_of_reply, complete, cookie_of, ends_at, inside_at, makes_due, core_with_request, target_of, Core, Phase, State, Transmission, with_reply_at, operation, is_awaiting, start, start_of, target, target_from, export_in, AnswersRequest, CookiesAreDistinct, EachReplyAnswersOne, EmptyIsExplained, ServedOnceAfterCompletion}
-use Rattle.nbd_laws.proofs.judge.WholeLemmas.{allowed}
+use Rattle.nbd_laws.proofs.Common.{and_parts, not-true, ◌≡◌, ℕ, zero, suc, ◌==◌, List, [], ◌∷◌, ◌++◌, refl, ◌∙◌, ap, subst, Option, Some, None, Bool, false, arith, eqb-true, eq-eqb, IsTrue, is_some, IsServedAt, Server, Message, Request, ExtendedRequest, Profile, operations_of, report, Item, Starts, Completes, Serves, service_order, Operation, Exporting, list_any, ends_reply, is_finished, MayComplete, MayStartIn, Obeys, after, request_of_reply, complete, cookie_of, ends_at, inside_at, makes_due, core_with_request, option_and_then, Core, Phase, State, Transmission, with_reply_at, operation, is_awaiting, start, start_of, target, target_from, export_in, AnswersRequest, CookiesAreDistinct, EachReplyAnswersOne, EmptyIsExplained, ServedOnceAfterCompletion}
+use Rattle.nbd_laws.proofs.{judge.{WholeLemmas.allowed, PhaseLemmas.{IsFound, find}, AllowLemmas.{MayAsk, ask_allow, extended_ask_allow}}, runs.{PartLemmas.{obeys_back, obeys_prefix, served_in}, ProfileLemmas.{at_base, phase_at_base}}}
 unfoldable use Rattle.nbd_laws.proofs.judge.WholeLemmas.{IsAllowed}
-use Rattle.nbd_laws.proofs.judge.PhaseLemmas.{IsFound, find}
-use Rattle.nbd_laws.proofs.judge.AllowLemmas.{MayAsk, ask_allow, extended_ask_allow}
 use Rattle.nbd_wire.specs.declared.commands.TheConstants as commands
-use Rattle.nbd_laws.proofs.runs.PartLemmas.{obeys_back, obeys_prefix, served_in}
-use Rattle.nbd_laws.proofs.runs.ProfileLemmas.{at_base, phase_at_base}
 
 -- no outstanding request has this cookie
 abbrev pub Free : ℕ → List Operation → Type 0
@@ -31,7 +27,7 @@ distinct-snoc [] e d f = ((λ u. tt), tt)
 distinct-snoc (x ∷ es) e d f = ((λ u. free-snoc x.cookie es e (d.0 u) ((grind (arith, eqb-true, eq-eqb)))), distinct-snoc es e d.1 f.1)
 
 -- a request with one more reply is finished where it was
-pub any-snoc : (p : Message → Bool) (ms : List Message) (m : Message) → any p (ms ++ m ∷ []) ≡ false → any p ms ≡ false
+pub any-snoc : (p : Message → Bool) (ms : List Message) (m : Message) → list_any p (ms ++ m ∷ []) ≡ false → list_any p ms ≡ false
 any-snoc p [] m h = refl
 any-snoc p (n ∷ ms) m h = grind (arith, any-snoc p ms m)
 
@@ -99,7 +95,7 @@ each_reply_answers_one profile prefix back m export run e = go (cookie_of m) ref
     ob : Obeys (ends_at (start_of profile) prefix) (Starts Server m ∷ back)
     ob = obeys_back (start_of profile) prefix (Starts Server m ∷ back) run.obeys
 
-    some : IsTrue (is_some (target_of (cookie_of m) (operations_of prefix)))
+    some : IsTrue (is_some (option_and_then (λ k. target k (operations_of prefix)) (cookie_of m)))
     some = subst (λ (c : Core). IsTrue (is_some (request_of_reply c m))) (at_base profile prefix)
         (subst (λ phase. MayStartIn phase (ends_at (start_of profile) prefix).core Server m) (phase_at_base profile prefix ∙ in_transmission (ends_at start prefix).core.phase export e) ob.0.2).0
 
@@ -108,7 +104,7 @@ each_reply_answers_one profile prefix back m export run e = go (cookie_of m) ref
         subst (λ js. IsServedAt (inside_at (ends_at start prefix).core k) js k x) (served_in (start_of profile) prefix)
         (subst (λ (c : Core). IsServedAt (inside_at c k) (ends_at (start_of profile) prefix).served k x) (at_base profile prefix) (ob.0.3 k x h))
 
-    go : (c : Option ℕ) → cookie_of m ≡ c → IsTrue (is_some (target_of c (operations_of prefix))) → (k : ℕ) × (e : Operation) × AnswersRequest profile prefix m k e
+    go : (c : Option ℕ) → cookie_of m ≡ c → IsTrue (is_some (option_and_then (λ k. target k (operations_of prefix)) c)) → (k : ℕ) × (e : Operation) × AnswersRequest profile prefix m k e
     go None c h = absurd (cc)
     go (Some cookie) c h = at (target cookie (operations_of prefix)) refl h
       where

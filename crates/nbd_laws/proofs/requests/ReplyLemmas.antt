@@ -1,13 +1,7 @@
 -- The replies to a request are one simple reply, or chunks of which the last and only the last ends the reply.
-use Rattle.nbd_laws.proofs.Common.{and_parts, request_of_reply, target_of, arith, ◌≡◌, ℕ, ◌||◌, List, [], ◌∷◌, ◌++◌, refl, sym, ◌∙◌, ap, subst, Option, Some, None, Bool, false, eqb-true, Message, Request, Simple, Chunk, ExtendedRequest, ExtendedChunk, complete, cookie_of, ends_at, operations_of, Operation, Exporting, any, ends_reply, is_finished, Core, Phase, Transmission, operation, start, target, with_reply, IsReached, at_start, after_message, IsReplyAfter, IsReplyBetween, RepliesAreWhole, Profile}
-use Rattle.nbd_laws.proofs.judge.WholeLemmas.{allowed}
+use Rattle.nbd_laws.proofs.Common.{and_parts, request_of_reply, option_and_then, arith, ◌≡◌, ℕ, ◌||◌, List, [], ◌∷◌, ◌++◌, refl, sym, ◌∙◌, ap, subst, Option, Some, None, Bool, false, eqb-true, Message, Request, Simple, Chunk, ExtendedRequest, ExtendedChunk, complete, cookie_of, ends_at, operations_of, Operation, Exporting, list_any, ends_reply, is_finished, Core, Phase, Transmission, operation, start, target, with_reply, IsReached, at_start, after_message, IsReplyAfter, IsReplyBetween, RepliesAreWhole, Profile}
+use Rattle.nbd_laws.proofs.{judge.{WholeLemmas.allowed, AllowLemmas.{chunk_allow, extended_allow, finish_allow, simple_allow}, PhaseLemmas.{IsFound, find}}, runs.{ProfileLemmas.{at_base, profile_end, profile_stays}, ReachLemmas.run_reaches}, requests.{EachLemmas.{Asks, Each, each_complete, each_entry}, SoundnessLemmas.{InPhase, open_target, sound}}}
 unfoldable use Rattle.nbd_laws.proofs.judge.WholeLemmas.{IsAllowed, MayReply}
-use Rattle.nbd_laws.proofs.judge.AllowLemmas.{chunk_allow, extended_allow, finish_allow, simple_allow}
-use Rattle.nbd_laws.proofs.judge.PhaseLemmas.{IsFound, find}
-use Rattle.nbd_laws.proofs.runs.ProfileLemmas.{at_base, profile_end, profile_stays}
-use Rattle.nbd_laws.proofs.runs.ReachLemmas.{run_reaches}
-use Rattle.nbd_laws.proofs.requests.EachLemmas.{Asks, Each, each_complete, each_entry}
-use Rattle.nbd_laws.proofs.requests.SoundnessLemmas.{InPhase, open_target, sound}
 
 -- each reply fits where it stands
 abbrev AreWhole : Profile → Bool → Operation → List Message → Type 0
@@ -37,14 +31,14 @@ cut_at (n ∷ ms) last (x ∷ prefix) back m e = go (cut_at ms last prefix back 
     go (before_last rest p) = before_last rest (ap (λ l. n ∷ l) p ∙ ap (λ y. y ∷ (prefix ++ m ∷ rest)) nx)
 
 -- nothing in an unfinished reply ends it
-ends_in : (prefix : List Message) (m : Message) (back : List Message) → any ends_reply (prefix ++ m ∷ back) ≡ false → ends_reply m ≡ false
+ends_in : (prefix : List Message) (m : Message) (back : List Message) → list_any ends_reply (prefix ++ m ∷ back) ≡ false → ends_reply m ≡ false
 ends_in [] m back h = go (ends_reply m) h
   where
-    go : (b : Bool) → (b || any ends_reply back) ≡ false → b ≡ false
+    go : (b : Bool) → (b || list_any ends_reply back) ≡ false → b ≡ false
     go b h = grind arith
 ends_in (n ∷ prefix) m back h = go (ends_reply n) h (ends_in prefix m back)
   where
-    go : (b : Bool) → (b || any ends_reply (prefix ++ m ∷ back)) ≡ false → (any ends_reply (prefix ++ m ∷ back) ≡ false → ends_reply m ≡ false) → ends_reply m ≡ false
+    go : (b : Bool) → (b || list_any ends_reply (prefix ++ m ∷ back)) ≡ false → (list_any ends_reply (prefix ++ m ∷ back) ≡ false → ends_reply m ≡ false) → ends_reply m ≡ false
     go b h ih = grind arith
 
 -- one more reply
@@ -77,7 +71,7 @@ whole_asks profile structured core m = grind arith
 -- a reply that may complete fits behind those before it
 behind_it : (profile : Profile) (structured : Bool) (export : Exporting) (e : Operation) (m : Message) → MayReply profile structured export e m → IsReplyAfter profile structured e e.replies m
 unfolding MayReply
-behind_it profile structured export e (Simple error cookie p) h = grind (arith, simple_allow)
+behind_it profile structured export e (Simple error cookie p) h = grind (arith, simple_allow profile structured export e error cookie p h)
 behind_it profile structured export e (Chunk flags kind cookie p) h = chunk_behind profile structured export e flags kind cookie p h
 behind_it profile structured export e (ExtendedChunk flags kind cookie at p) h = extended_behind profile structured export e flags kind cookie at p h
 behind_it profile structured export e m h = absurd h
@@ -85,7 +79,7 @@ behind_it profile structured export e m h = absurd h
 whole_reply : (core : Core) (export : Exporting) (m : Message) (k : ℕ) (e : Operation) → request_of_reply core m ≡ Some k → operation k core.entries ≡ Some e → MayReply core.profile core.structured export e m → IsWhole core.profile core.structured e → IsWhole core.profile core.structured (with_reply e m)
 whole_reply core export m k e q is h w prefix back n at = go (cookie_of m) refl q
   where
-    go : (o : Option ℕ) → cookie_of m ≡ o → target_of o core.entries ≡ Some k → IsReplyBetween core.profile core.structured (with_reply e m) prefix n back
+    go : (o : Option ℕ) → cookie_of m ≡ o → option_and_then (λ k. target k core.entries) o ≡ Some k → IsReplyBetween core.profile core.structured (with_reply e m) prefix n back
     go None c q = absurd (cc)
     go (Some cookie) c q =
         let b = whole_snoc core.profile core.structured e m (open_target core cookie k e q is) w (c ∙ ap Some (sym (found_cookie core cookie k e q is))) (behind_it core.profile core.structured export e m h) prefix back n at in

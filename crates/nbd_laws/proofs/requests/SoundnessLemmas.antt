@@ -1,24 +1,10 @@
 -- What holds of each request of a core that completed messages lead to, and of every report.
 use Rattle.nbd_laws.proofs.Common.{and_parts, not-true, or_cases, Simple, Chunk, ExtendedChunk, request_of_reply, is_error, nat_lt, ltb-false, ◌≡◌, ℕ, ◌≤◌, ◌+◌, List, [], ◌∷◌, length, refl, sym, ◌∙◌, ap, subst, Option, Some, None, false, eqb-true, arith, IsTrue, nat_le, ◌⊎◌, append-nil, leb-true, EXPORT_SIZE, Message, Item, Starts, Completes, Profile, reply_phase, next_phase, Asked, operations_of, export_of, known_count, known_from, report, asked_of, Operation, Exporting, has_range, is_finished, is_outside, is_proper, pieces, has, complete, ends_at, IsSendable, Core, Phase, Answering, Transmission, operation, start, target, with_reply, export_in, IsAfter, IsSoundAsked, IsSoundReport, ReportsAreSound, IsReached, at_start, after_message, Selection, eq-eqb, not-false}
-use Rattle.nbd_laws.proofs.judge.WholeLemmas.{allowed}
+use Rattle.nbd_laws.proofs.{judge.{WholeLemmas.allowed, AllowLemmas.{IsSuccess, answer_allow}, BoolLemmas.fault_none, PhaseLemmas.find}, runs.{PrefixLemmas.{phase-complete, transmission_row}, ProfileLemmas.at_base, ReachLemmas.run_reaches, RunLemmas.core_end-ends_at, TraceLemmas.answered_by-within}}
+use Rattle.nbd_laws.proofs.{requests.{LaidLemmas.are_laid, ZeroLemmas.{no_df, told_of}, ReportLemmas.{asked-report, length-report, stated, told_if}, EachLemmas.{Each, each_complete, each_entry}, GoodLemmas.{IsGood, good_chunk, good_simple, good_asked, good_extended}}, service.{InsideLemmas.{core_end, entries_grow}, SoonerLemmas.{IsSooner, sooner_at_end}}}
 unfoldable use Rattle.nbd_laws.proofs.judge.WholeLemmas.{IsAllowed, MayReply}
-use Rattle.nbd_laws.proofs.judge.AllowLemmas.{IsSuccess, answer_allow}
-use Rattle.nbd_laws.proofs.judge.BoolLemmas.{fault_none}
 use Rattle.nbd_wire.specs.declared.commands.TheConstants as commands
 use Rattle.nbd_wire.specs.declared.transmission.TheConstants as transmission
-use Rattle.nbd_laws.proofs.runs.PrefixLemmas.{phase-complete, transmission_row}
-use Rattle.nbd_laws.proofs.requests.LaidLemmas.{are_laid}
-use Rattle.nbd_laws.proofs.requests.ZeroLemmas.{no_df, told_of}
-use Rattle.nbd_laws.proofs.service.InsideLemmas.{core_end, entries_grow}
-use Rattle.nbd_laws.proofs.judge.PhaseLemmas.{find}
-use Rattle.nbd_laws.proofs.runs.ProfileLemmas.{at_base}
-use Rattle.nbd_laws.proofs.runs.ReachLemmas.{run_reaches}
-use Rattle.nbd_laws.proofs.runs.RunLemmas.{core_end-ends_at}
-use Rattle.nbd_laws.proofs.requests.ReportLemmas.{asked-report, length-report, stated, told_if}
-use Rattle.nbd_laws.proofs.service.SoonerLemmas.{IsSooner, sooner_at_end}
-use Rattle.nbd_laws.proofs.runs.TraceLemmas.{answered_by-within}
-use Rattle.nbd_laws.proofs.requests.EachLemmas.{Each, each_complete, each_entry}
-use Rattle.nbd_laws.proofs.requests.GoodLemmas.{IsGood, good_chunk, good_simple, good_asked, good_extended}
 
 -- what a phase says of its requests
 abbrev pub InPhase : Phase → List Operation → Type 0

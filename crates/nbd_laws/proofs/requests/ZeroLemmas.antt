@@ -1,10 +1,10 @@
 -- What a status calls zero: pieces in its request's range, which share no offset.
 use Rattle.nbd_laws.proofs.Common.{and_parts, ◌≡◌, ℕ, ◌+◌, ◌-◌, ◌<◌, ◌≤◌, ◌==◌, ◌&&◌, List, [], ◌∷◌, ◌++◌, min, refl, sym, ◌∙◌, ap, subst, None, Bool, true, false, not, if◌then◌else◌, nat_le, nat_lt, arith, IsTrue, eqb-true, eq-eqb, ◌||◌, and_assoc, and_zero_r, bit_and, Piece, Hole, Extent, Exporting, Operation, allowed_flags, is_proper, may_carry, has, has_only, byte_at, zeroes, zeroes_in}
+use Rattle.nbd_laws.proofs.requests.LaidLemmas.{AreApart, AreInside}
 use Rattle.std.proofs.Common.{leb-true, leb-false, ltb-true}
 use Rattle.nbd_wire.specs.declared.command_flags.TheConstants as command_flags
 use Rattle.nbd_wire.specs.declared.commands.TheConstants as commands
 use Rattle.nbd_wire.specs.declared.states.TheConstants as states
-use Rattle.nbd_laws.proofs.requests.LaidLemmas.{AreApart, AreInside}
 
 -- the bytes of an extent, if there are some and it calls them zero
 abbrev pub zero_part : (offset size flags : ℕ) → List Piece

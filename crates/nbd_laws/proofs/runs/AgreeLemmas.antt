@@ -1,27 +1,13 @@
 -- What a session that is held to one profile may do, it may do under the other too, but for answers of success to the options on metadata contexts.
-use Rattle.nbd_laws.proofs.Common.{SIMPLE_MAGIC, reply_in, answer_head_fault, ◌&&◌, ne_eqb, enc, or_cases, side, IsTrue, not-false, ◌≡◌, ℕ, ◌==◌, Bool, true, false, List, [], ◌∷◌, length, refl, sym, ◌∙◌, ap, subst, Option, Some, All, not, if◌then◌else◌, Result, Ok, Err, inl, inr, nat_lt, drop, ◌+◌, append_assoc, arith, ◌≢◌, ◌++◌, ◌<◌, None, ◌||◌, eqb-true, All-head, All-tail, eqb-false, ltb-false, DuesAgree, RunsAgree, AnnouncesAllowed, BaseIsWide, IsParting, NothingFrom, NothingParts, PlacesAgree, UnderWayAgrees, with_profile, IsUnderWayOf, ArePairs, Pair, answer, answer_of, begins, chunk_last_fault, chunk_of, chunk_to, extended_chunk_of, extended_chunk_to, extended_last_fault, operation_of, answer_fault, is_wide, earlier_to, is_bad_payload, is_good_info, payload_fault, success_fault, Both, judge, judge_in, read_by, Reader, Reading, Rest, Whole, fresh_of, get, on_ok, reads, rest_with, settle, step, fault_if, IsExplainedOf, pairs, without_service, Item, Byte, Starts, Completes, Serves, completed_messages, report, Passes, Selection, Context, ANSWER_MAGIC, CHUNK_MAGIC, EXTENDED_CHUNK_MAGIC, WireFault, BadMagic, SuccessOfImproper, BadReplyPayload, number_at, info_of, Ended, Core, Phase, Greet, Flags, Choosing, Naming, Aborting, Answering, Transmission, start_of, with_reply, Info, BlockSize, Export, Other, is_proper_option, takes_contexts, is_error, Entry, Message, Answer, Side, Client, Server, Profile, Base, Wide, Exporting, Operation, is_error_chunk, chunk_fault, chunk_head_fault, extended_head_fault, offset_fault, read_as, Sizes, are_allowed, sizes_of, IsRunOf, MayComplete, MayStartIn, Obeys, complete}
-use Rattle.nbd_laws.proofs.judge.DecideLemmas.{extended_reply_by, reply_by, last_reading, staged_reading_by}
+use Rattle.nbd_laws.proofs.Common.{SIMPLE_MAGIC, reply_in, answer_head_fault, ◌&&◌, ne_eqb, enc, or_cases, side, IsTrue, not-false, ◌≡◌, ℕ, ◌==◌, Bool, true, false, List, [], ◌∷◌, length, refl, sym, ◌∙◌, ap, subst, Option, Some, All, not, if◌then◌else◌, Result, Ok, Err, inl, inr, nat_lt, drop, ◌+◌, append_assoc, arith, ◌≢◌, ◌++◌, ◌<◌, None, ◌||◌, eqb-true, All-head, All-tail, eqb-false, ltb-false, DuesAgree, RunsAgree, AnnouncesAllowed, BaseIsWide, IsParting, NothingFrom, NothingParts, PlacesAgree, UnderWayAgrees, with_profile, IsUnderWayOf, ArePairs, Pair, answer, answer_of, begins, chunk_last_fault, chunk_of, chunk_to, operation_of, answer_fault, is_wide, earlier_to, is_bad_payload, is_good_info, payload_fault, success_fault, Both, judge, judge_in, read_by, Reader, Reading, Rest, Whole, fresh_of, get, on_ok, reads, rest_with, settle, step, fault_if, IsExplainedOf, pairs, without_service, Item, Byte, Starts, Completes, Serves, completed_messages, report, Passes, Selection, Context, ANSWER_MAGIC, CHUNK_MAGIC, EXTENDED_CHUNK_MAGIC, WireFault, BadMagic, SuccessOfImproper, BadReplyPayload, number_at, info_of, Ended, Core, Phase, Greet, Flags, Choosing, Naming, Aborting, Answering, Transmission, start_of, with_reply, Info, BlockSize, Export, Other, is_proper_option, takes_contexts, is_error, Entry, Message, Answer, Side, Client, Server, Profile, Base, Wide, Exporting, Operation, is_error_chunk, chunk_fault, chunk_head_fault, offset_fault, read_as, Sizes, are_allowed, sizes_of, IsRunOf, MayComplete, MayStartIn, Obeys, complete}
+use Rattle.nbd_laws.proofs.judge.{DecideLemmas.{extended_reply_by, reply_by, last_reading, staged_reading_by}, BlockLemmas.reads-append, ExactLemmas.exact, SoundLemmas.sound, BoolLemmas.fault_none, WholeLemmas.{IsReply, as_chunk, as_extended, as_simple, magic_of, no_offset_fault, reply_read, whole}, AllowLemmas.{IsChunk, form_of}, KindLemmas.{error_content, failure_kind, no_other, read_kind}}
+use Rattle.nbd_laws.proofs.reading.{ReaderLemmas.{Busy, Open, Walk, ended, final, get-put_same, kept_next, loose, middle, opening, reads_held, serving, with_byte}, MarkLemmas.{AreInStep, InStep, in_step_completed, in_step_sided, in_step_with, judged_more, judged_whole, within_middle, within_opening}}
+use Rattle.nbd_laws.proofs.{runs.{FollowLemmas.{Follows, IsSidedOpen, completes_later, each_with, follows, pairs_unserved}, CanonLemmas.{canon, canonical_run, unserved_canon}, RunLemmas.{fresh_held, walk_of}, ProfileLemmas.complete_with}, service.{DueProfileLemmas.{due_at_once, faultless_wide}, ExplainingLemmas.{explained_passes, passing_is_explained}, ServiceLemmas.reports_ignore_service}}
 use Rattle.std.proofs.lemmas.Bool.{eq-eqb}
-use Rattle.nbd_laws.proofs.judge.BlockLemmas.{reads-append}
-use Rattle.nbd_laws.proofs.judge.ExactLemmas.{exact}
-use Rattle.nbd_laws.proofs.judge.SoundLemmas.{sound}
-use Rattle.nbd_laws.proofs.reading.ReaderLemmas.{Busy, Open, Walk, ended, final, get-put_same, kept_next, loose, middle, opening, reads_held, serving, with_byte}
-use Rattle.nbd_laws.proofs.reading.MarkLemmas.{AreInStep, InStep, in_step_completed, in_step_sided, in_step_with, judged_more, judged_whole, within_middle, within_opening}
-use Rattle.nbd_laws.proofs.runs.FollowLemmas.{Follows, IsSidedOpen, completes_later, each_with, follows, pairs_unserved}
-use Rattle.nbd_laws.proofs.runs.CanonLemmas.{canon, canonical_run, unserved_canon}
-use Rattle.nbd_laws.proofs.service.DueProfileLemmas.{due_at_once, faultless_wide}
-use Rattle.nbd_laws.proofs.service.ExplainingLemmas.{explained_passes, passing_is_explained}
-use Rattle.nbd_laws.proofs.service.ServiceLemmas.{reports_ignore_service}
-use Rattle.nbd_laws.proofs.runs.RunLemmas.{fresh_held, walk_of}
-use Rattle.nbd_laws.proofs.judge.BoolLemmas.{fault_none}
-use Rattle.nbd_laws.proofs.judge.WholeLemmas.{IsReply, as_chunk, as_extended, as_simple, magic_of, no_offset_fault, reply_read, whole}
 use Rattle.nbd_wire.specs.protocol.Negotiation.{extends}
 use Rattle.nbd_laws.specs.Profiles.{IsUnknownError}
 use Rattle.nbd_wire.specs.declared.chunks.TheConstants as chunks
-use Rattle.nbd_laws.proofs.judge.AllowLemmas.{IsChunk, form_of}
-use Rattle.nbd_laws.proofs.judge.KindLemmas.{error_content, failure_kind, no_other, read_kind}
 use Rattle.nbd_wire.specs.declared.answers.TheConstants as answers
-use Rattle.nbd_laws.proofs.runs.ProfileLemmas.{complete_with}
 
 -- an answer that announces block sizes which a server may not announce
 abbrev pub IsFalse : Message → Type 0
@@ -100,42 +86,42 @@ kinds_agree : (kind : ℕ) → (is_error_chunk kind ≡ true → kind ≢ chunks
 kinds_agree kind known p = grind (arith, eqb-true, eqb-false)
 
 module _ (export : Exporting) (now : Core) (q : Profile) (bytes : List ℕ) where
-  chunk_either : (o : Option Operation) → begins CHUNK_MAGIC bytes ≡ true → (IsParting (Transmission export) bytes → ⊥) → read_by (chunk_to export (with_profile q now) o bytes) bytes ≡ read_by (chunk_to export now o bytes) bytes
+  chunk_either : (o : Option Operation) → begins CHUNK_MAGIC bytes ≡ true → (IsParting (Transmission export) bytes → ⊥) → read_by (chunk_to false export (with_profile q now) o bytes) bytes ≡ read_by (chunk_to false export now o bytes) bytes
   chunk_either o magic none = go (nat_lt (length bytes) 20) (length bytes == 20 + number_at 16 4 bytes) refl
     where
       head : Option WireFault
-      head = chunk_head_fault now.structured o
+      head = chunk_head_fault false now.structured o (number_at 16 4 bytes)
 
       end : Profile → Reading
-      end p = last_reading (chunk_last_fault p export o bytes) (chunk_of bytes)
+      end p = last_reading (chunk_last_fault false p export o bytes) (chunk_of false bytes)
 
-      last_same : length bytes ≡ 20 + number_at 16 4 bytes → (o : Option Operation) → chunk_last_fault q export o bytes ≡ chunk_last_fault now.profile export o bytes
+      last_same : length bytes ≡ 20 + number_at 16 4 bytes → (o : Option Operation) → chunk_last_fault false q export o bytes ≡ chunk_last_fault false now.profile export o bytes
       last_same l None = refl
       last_same l (Some e) =
           let known = kinds_agree (number_at 6 2 bytes) (λ is n m. none (inr (inr (inl (magic, l, is, n, m))))) in
-          ap (λ k. chunk_fault false (number_at 6 2 bytes == chunks.NONE) export e (with_reply e (chunk_of bytes)) (number_at 4 2 bytes) k (drop 20 bytes)) (known q ∙ sym (known now.profile))
+          ap (λ k. chunk_fault false (number_at 6 2 bytes == chunks.NONE) export e (with_reply e (chunk_of false bytes)) (number_at 4 2 bytes) k (drop 20 bytes)) (known q ∙ sym (known now.profile))
 
       go : (low whole : Bool) → (length bytes == 20 + number_at 16 4 bytes) ≡ whole → staged_reading_by low head whole (end q) ≡ staged_reading_by low head whole (end now.profile)
       go low w y = grind (arith, head, last_same, eqb-true, staged_end, end)
 
-  extended_either : (o : Option Operation) → begins EXTENDED_CHUNK_MAGIC bytes ≡ true → (IsParting (Transmission export) bytes → ⊥) → read_by (extended_chunk_to export (with_profile q now) o bytes) bytes ≡ read_by (extended_chunk_to export now o bytes) bytes
+  extended_either : (o : Option Operation) → begins EXTENDED_CHUNK_MAGIC bytes ≡ true → (IsParting (Transmission export) bytes → ⊥) → read_by (chunk_to true export (with_profile q now) o bytes) bytes ≡ read_by (chunk_to true export now o bytes) bytes
   extended_either o magic none = go (nat_lt (length bytes) 32) (length bytes == 32 + number_at 24 8 bytes) refl
     where
       head : Option WireFault
-      head = extended_head_fault now.structured o (number_at 24 8 bytes)
+      head = chunk_head_fault true now.structured o (number_at 24 8 bytes)
 
       end : Profile → Reading
-      end p = last_reading (extended_last_fault p export o bytes) (extended_chunk_of bytes)
+      end p = last_reading (chunk_last_fault true p export o bytes) (chunk_of true bytes)
 
-      last_same : length bytes ≡ 32 + number_at 24 8 bytes → (o : Option Operation) → extended_last_fault q export o bytes ≡ extended_last_fault now.profile export o bytes
+      last_same : length bytes ≡ 32 + number_at 24 8 bytes → (o : Option Operation) → chunk_last_fault true q export o bytes ≡ chunk_last_fault true now.profile export o bytes
       last_same l None = refl
       last_same l (Some e) =
           let known = kinds_agree (number_at 6 2 bytes) (λ is n m. none (inr (inr (inr (magic, l, is, n, m))))) in
-          ap (λ k. offset_fault (chunk_fault true (number_at 6 2 bytes == chunks.NONE) export e (with_reply e (extended_chunk_of bytes)) (number_at 4 2 bytes) k (drop 32 bytes)) e (number_at 16 8 bytes)) (known q ∙ sym (known now.profile))
+          ap (λ k. offset_fault (chunk_fault true (number_at 6 2 bytes == chunks.NONE) export e (with_reply e (chunk_of true bytes)) (number_at 4 2 bytes) k (drop 32 bytes)) e (number_at 16 8 bytes)) (known q ∙ sym (known now.profile))
 
       go : (low whole : Bool) → (length bytes == 32 + number_at 24 8 bytes) ≡ whole → staged_reading_by low head whole (end q) ≡ staged_reading_by low head whole (end now.profile)
       go true w y = refl
-      go false true y = ap (λ f. staged_reading_by false head true (last_reading f (extended_chunk_of bytes))) (last_same (eqb-true _ _ y) o)
+      go false true y = ap (λ f. staged_reading_by false head true (last_reading f (chunk_of true bytes))) (last_same (eqb-true _ _ y) o)
       go false false y = staged_end head (end q) (end now.profile)
 
 reading_in : (q : Profile) (phase : Phase) (since now : Core) (s : Side) (bytes : List ℕ) → Quiet phase s bytes → judge_in phase (with_profile q since) (with_profile q now) s bytes ≡ judge_in phase since now s bytes
@@ -173,10 +159,10 @@ unknown_type extended export e f flags kind payload h is n m =
 
 known_chunk : (export : Exporting) (core : Core) (bytes : List ℕ) (m : Message) → core.profile ≡ Base → IsReply export (operation_of core core) core bytes m → IsUnknownError (Transmission export) bytes → ⊥
 known_chunk export core bytes m base (as_chunk e is x mg w) (inl (b, l, err, n, k)) =
-    unknown_type false export e (with_reply e (chunk_of bytes)) (number_at 4 2 bytes) (number_at 6 2 bytes) (drop 20 bytes) (subst (λ p. chunk_last_fault p export (Some e) bytes ≡ None) base w.at_last) err n k
+    unknown_type false export e (with_reply e (chunk_of false bytes)) (number_at 4 2 bytes) (number_at 6 2 bytes) (drop 20 bytes) (subst (λ p. chunk_last_fault false p export (Some e) bytes ≡ None) base w.at_last) err n k
 known_chunk export core bytes m base (as_extended e is x mg w) (inr (b, l, err, n, k)) =
-    unknown_type true export e (with_reply e (extended_chunk_of bytes)) (number_at 4 2 bytes) (number_at 6 2 bytes) (drop 32 bytes)
-    (no_offset_fault _ e (number_at 16 8 bytes) (subst (λ p. extended_last_fault p export (Some e) bytes ≡ None) base w.at_last)).0 err n k
+    unknown_type true export e (with_reply e (chunk_of true bytes)) (number_at 4 2 bytes) (number_at 6 2 bytes) (drop 32 bytes)
+    (no_offset_fault _ e (number_at 16 8 bytes) (subst (λ p. chunk_last_fault true p export (Some e) bytes ≡ None) base w.at_last)).0 err n k
 known_chunk export core bytes m base (as_simple e is x mg w) (inl u) = let q = (magic_of _ bytes u.0).1 in omega (arith, q, mg)
 known_chunk export core bytes m base (as_simple e is x mg w) (inr u) = let q = (magic_of _ bytes u.0).1 in omega (arith, q, mg)
 known_chunk export core bytes m base (as_chunk e is x mg w) (inr u) = let q = (magic_of _ bytes u.0).1 in omega (arith, q, mg)

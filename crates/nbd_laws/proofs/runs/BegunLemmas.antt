@@ -1,15 +1,13 @@
 -- A message answers the same request while its side is in it.
-use Rattle.nbd_laws.proofs.Common.{arith, ◌≡◌, ◌⊎◌, List, ◌++◌, sym, ◌∙◌, ap, inl, inr, Option, Some, None, is_some, IsTrue, ℕ, Side, Client, Server, Message, turn, Operation, MayComplete, MayStartIn, request_of_reply, complete, cookie_of, target_of, side, Core, Phase, Both, get, put}
-use Rattle.nbd_laws.proofs.reading.ReaderLemmas.{put_both, Busy, Idle, Later, Later-trans, Loose, Open, at_once, behind}
-use Rattle.nbd_laws.proofs.runs.FollowLemmas.{IsBegun}
-use Rattle.nbd_laws.proofs.judge.PhaseLemmas.{IsAppended, IsTransmitting, Later-appended, Later-turn, target-append}
+use Rattle.nbd_laws.proofs.{Common.{arith, ◌≡◌, ◌⊎◌, List, ◌++◌, sym, ◌∙◌, ap, inl, inr, Option, Some, None, is_some, IsTrue, ℕ, Side, Client, Server, Message, turn, Operation, MayComplete, MayStartIn, request_of_reply, complete, cookie_of, option_and_then, target, side, Core, Phase, Both, get, put}, reading.ReaderLemmas.{put_both, Busy, Idle, Later, Later-trans, Loose, Open, at_once, behind}}
+use Rattle.nbd_laws.proofs.{runs.FollowLemmas.IsBegun, judge.PhaseLemmas.{IsAppended, IsTransmitting, Later-appended, Later-turn, target-append}}
 
 -- a side's message begins in its turn, or in transmission
 starts_in : (phase : Phase) (core : Core) (s : Side) (m : Message) → MayStartIn phase core s m → (turn phase ≡ Some s) ⊎ IsTransmitting phase
 unfolding MayStartIn
 starts_in phase core s m h = grind arith
 
-target_stays : (c : Option ℕ) (es more : List Operation) → IsTrue (is_some (target_of c es)) → target_of c es ≡ target_of c (es ++ more)
+target_stays : (c : Option ℕ) (es more : List Operation) → IsTrue (is_some (option_and_then (λ k. target k es) c)) → option_and_then (λ k. target k es) c ≡ option_and_then (λ k. target k (es ++ more)) c
 target_stays c es more h = grind (arith, target-append)
 
 -- while the server is in a message, that message answers the same request
@@ -18,7 +16,7 @@ unfolding MayStartIn
 answers_same {old} {now} m l b = elim (starts_in old.phase old Server m b.starts) [
   | inl t ↦ ap (λ (c : Core). request_of_reply c m) (Later-turn l t)
   | inr (export, t) ↦ (let a : IsAppended old now = Later-appended l export t in
-      target_stays (cookie_of m) old.entries a.more ((grind arith)) ∙ ap (target_of (cookie_of m)) (sym a.entries_are))
+      target_stays (cookie_of m) old.entries a.more ((grind arith)) ∙ ap (λ es. option_and_then (λ k. target k es) (cookie_of m)) (sym a.entries_are))
 ]
 
 -- the client's messages answer nothing

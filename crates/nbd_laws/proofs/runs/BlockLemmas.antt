@@ -1,8 +1,6 @@
 -- Marked captures by blocks are those that are read from the left.
-use Rattle.nbd_laws.proofs.Common.{arith, ◌≡◌, ℕ, List, [], ◌∷◌, ◌++◌, map, flat_map, refl, sym, ◌∙◌, ap, subst, inl, inr, append_assoc, whole, Side, Client, Server, Message, enc, Item, Byte, Starts, Completes, Serves, of_side, block, IsByteOf, MayFollow, IsTight, IsMarkedBut, Both, get, put, IsFilled}
-use Rattle.nbd_laws.proofs.reading.ReaderLemmas.{put_both, get-put_same, get-put_other, same_or_not, Open, Idle, Busy, Loose, IsNotBusy, Walk, ended, serving, opening, middle, final, loose}
-use Rattle.nbd_laws.proofs.runs.TraceLemmas.{enc-long}
-use Rattle.nbd_laws.proofs.runs.FollowLemmas.{each_with}
+use Rattle.nbd_laws.proofs.Common.{arith, ◌≡◌, ℕ, List, [], ◌∷◌, ◌++◌, map, flat_map, refl, sym, ◌∙◌, ap, subst, inl, inr, append_assoc, whole, Side, Client, Server, Message, enc, Item, Byte, Starts, Completes, Serves, of_side, block, MayFollow, IsTight, IsMarkedBut, Both, get, put, IsFilled}
+use Rattle.nbd_laws.proofs.{reading.ReaderLemmas.{put_both, get-put_same, get-put_other, same_or_not, Open, Idle, Busy, Loose, IsNotBusy, Walk, ended, serving, opening, middle, final, loose}, runs.{TraceLemmas.enc-long, FollowLemmas.each_with}}
 
 pub byte_same : (s : Side) (b : ℕ) (items : List Item) → of_side s (Byte s b ∷ items) ≡ Byte s b ∷ of_side s items
 byte_same s b items = grind arith
@@ -183,7 +181,7 @@ nothing_in s (Busy n []) ms rest e = absurd (cc)
 nothing_in s x ms rest e = grind arith
 
 -- the last byte's message completes at once
-ends_now : (s : Side) (m : Message) (items : List Item) (y : List Item) (x : Item) → (IsByteOf s x → ⊥) → IsTight (x ∷ items) → of_side s items ≡ Completes s m ∷ y → ⊥
+ends_now : (s : Side) (m : Message) (items : List Item) (y : List Item) (x : Item) → (MayFollow (Starts s m) x → ⊥) → IsTight (x ∷ items) → of_side s items ≡ Completes s m ∷ y → ⊥
 ends_now s m (Byte u b ∷ items) y x nb t e = elim (same_or_not u s) [
   | inl q ↦ (let e' : of_side s (Byte s b ∷ items) ≡ Completes s m ∷ y = subst (λ v. of_side s (Byte v b ∷ items) ≡ Completes s m ∷ y) q e in
       let c : Byte s b ∷ of_side s items ≡ Completes s m ∷ y = sym (byte_same s b items) ∙ e' in (cc))

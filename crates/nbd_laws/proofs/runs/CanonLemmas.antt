@@ -1,10 +1,6 @@
 -- A run may have each request served atomically where it completes.
-use Rattle.nbd_laws.proofs.Common.{arith, ◌≡◌, List, [], ◌∷◌, ◌++◌, refl, ◌∙◌, ap, Entry, Profile, Item, Byte, Starts, Completes, Serves, without_service, Both, IsRunOf, Obeys, complete, Core, start_of}
-use Rattle.nbd_laws.proofs.reading.ReaderLemmas.{Open, Walk, ended, final, loose, middle, opening, serving}
-use Rattle.nbd_laws.proofs.runs.BlockLemmas.{Idles}
-use Rattle.nbd_laws.proofs.runs.FollowLemmas.{Follows}
-use Rattle.nbd_laws.proofs.runs.RunLemmas.{fresh_canonical, run_of}
-use Rattle.nbd_laws.proofs.runs.TraceLemmas.{IsCanonical, IsGrown, canonical_serviced, canonical_serves, length-complete, obeys_service, service, serviced, walk_service}
+use Rattle.nbd_laws.proofs.{Common.{arith, ◌≡◌, List, [], ◌∷◌, ◌++◌, refl, ◌∙◌, ap, Entry, Profile, Item, Byte, Starts, Completes, Serves, without_service, Both, IsRunOf, Obeys, complete, Core, start_of}, reading.ReaderLemmas.{Open, Walk, ended, final, loose, middle, opening, serving}}
+use Rattle.nbd_laws.proofs.runs.{BlockLemmas.Idles, FollowLemmas.Follows, RunLemmas.{fresh_canonical, run_of}, TraceLemmas.{IsCanonical, IsGrown, canonical_serviced, canonical_serves, length-complete, obeys_service, service, serviced, walk_service}}
 
 -- the same marks, with that service
 abbrev pub canon : Core → List Item → List Item

@@ -1,6 +1,5 @@
 -- Extended headers are in force behind an ACK to their option.
-use Rattle.nbd_laws.proofs.Common.{arith, ◌≡◌, ◌||◌, List, [], ◌∷◌, sym, or-false, Message, Item, Completes, Serves, completed_messages, Side, Exporting, MayStartIn, after, complete, ends_at, is_extended, Core, State, Transmission, start_of, HeadersAreGranted, HeadsAreInForce, any_grant, is_grant}
-use Rattle.nbd_laws.proofs.runs.PartLemmas.{obeys_back}
+use Rattle.nbd_laws.proofs.{Common.{arith, ◌≡◌, ◌||◌, List, [], ◌∷◌, sym, or-false, Message, Item, Completes, Serves, completed_messages, Side, Exporting, MayStartIn, after, complete, ends_at, is_extended, Core, State, Transmission, start_of, HeadersAreGranted, HeadsAreInForce, any_grant, is_grant}, runs.PartLemmas.obeys_back}
 
 granted : (core : Core) (m : Message) → (complete core m).extended ≡ (core.extended || is_grant m)
 unfolding complete

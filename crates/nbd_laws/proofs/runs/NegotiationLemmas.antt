@@ -1,16 +1,11 @@
 -- A session begins with a greeting and flags, and each answer follows a choice.
-use Rattle.nbd_laws.proofs.Common.{and_parts, not-false, not-true, or_cases, or_parts, client_flags_fault, is_error, eq-eqb, ◌≡◌, ℕ, zero, suc, ◌⊎◌, ◌==◌, List, [], ◌∷◌, refl, sym, ◌∙◌, ap, subst, inl, Option, Some, None, if◌then◌else◌, IsTrue, arith, eqb-true, and_le_r, Server, Message, Greeting, ClientFlags, Choice, Answer, Exported, Completes, completed_messages, selection_after, is_proper_option, last_info, next_phase, info_of, context_of, Exporting, has, has_only, complete, Core, Phase, Greet, Flags, Choosing, Naming, Aborting, Answering, Transmission, start_of, AnswersFollowChoices, AreFairFlags, BeginsWithFlags, Chosen, HandshakesAreFair, IsAnswer, choice_after, contexts_after, contexts_with, info_after, Context, Selection, Profile, eqb-false}
-use Rattle.nbd_laws.proofs.judge.WholeLemmas.{allowed}
+use Rattle.nbd_laws.proofs.Common.{append-nil, and_parts, not-false, not-true, or_cases, or_parts, client_flags_fault, is_error, eq-eqb, ◌≡◌, ℕ, zero, suc, ◌⊎◌, ◌==◌, List, [], ◌∷◌, refl, sym, ◌∙◌, ap, subst, inl, Option, Some, None, if◌then◌else◌, IsTrue, arith, eqb-true, and_le_r, Server, Message, Greeting, ClientFlags, Choice, Answer, Exported, Completes, completed_messages, selection_after, is_proper_option, last_info, next_phase, info_of, context_of, Exporting, has, has_only, complete, Core, Phase, Greet, Flags, Choosing, Naming, Aborting, Answering, Transmission, start_of, AnswersFollowChoices, AreFairFlags, BeginsWithFlags, Chosen, HandshakesAreFair, IsAnswer, choice_after, contexts_after, contexts_with, info_after, Context, Selection, Profile, eqb-false}
+use Rattle.nbd_laws.proofs.{judge.{WholeLemmas.allowed, AllowLemmas.{IsSuccess, abort_allow, answer_allow, greeting_allow}, BoolLemmas.fault_none}, runs.{PrefixLemmas.{phase-complete, transmission_row}, ProfileLemmas.profile_end, ReachLemmas.{Passes, led, parts_pass, run_leads, run_passes}}}
 unfoldable use Rattle.nbd_laws.proofs.judge.WholeLemmas.{IsAllowed}
 use Rattle.std.proofs.Common.{bit_and}
-use Rattle.nbd_laws.proofs.judge.AllowLemmas.{IsSuccess, abort_allow, answer_allow, greeting_allow}
 use Rattle.nbd_wire.specs.declared.answers.TheConstants as answers
 use Rattle.nbd_wire.specs.declared.handshake.TheConstants as handshake
 use Rattle.nbd_wire.specs.declared.options.TheConstants as options
-use Rattle.nbd_laws.proofs.runs.PrefixLemmas.{phase-complete, transmission_row}
-use Rattle.nbd_laws.proofs.runs.ProfileLemmas.{profile_end}
-use Rattle.nbd_laws.proofs.runs.ReachLemmas.{Passes, led, parts_pass, run_leads, run_passes}
-use Rattle.nbd_laws.proofs.judge.BoolLemmas.{fault_none}
 
 fair : (offered flags : ℕ) → client_flags_fault offered flags ≡ None → AreFairFlags offered flags
 unfolding has has_only
@@ -68,6 +63,12 @@ told_step told (Choice id p) = []
 told_step told (Answer option kind p) = told_then kind p told
 told_step told m = told
 
+knows_answered : (core : Core) (asked : ℕ) (asked_with : List ℕ) (info : Option Exporting) (option kind : ℕ) (p : List ℕ) (choice : Option Chosen) (last : Option Exporting) (told : List Context) → core.phase ≡ Answering asked asked_with info →
+    Knows (Answering asked asked_with info) core.selection choice last told →
+    Knows (complete core (Answer option kind p)).phase (complete core (Answer option kind p)).selection (choice_step choice (Answer option kind p)) (info_step last (Answer option kind p)) (told_step told (Answer option kind p))
+unfolding complete next_phase
+knows_answered core asked asked_with info option kind p choice last told q k = grind (arith, eqb-true, or_cases, eqb-false, append-nil)
+
 knows_complete : (core : Core) (phase : Phase) (m : Message) (choice : Option Chosen) (last : Option Exporting) (told : List Context) → core.phase ≡ phase → IsAllowed core phase m → Knows phase core.selection choice last told →
     Knows (complete core m).phase (complete core m).selection (choice_step choice m) (info_step last m) (told_step told m)
 unfolding IsAllowed complete next_phase
@@ -77,7 +78,7 @@ knows_complete core Flags (ClientFlags flags) choice last told q ok k = subst (�
 knows_complete core Choosing (Choice id p) choice last told q ok k = grind (arith, eqb-false, eqb-true)
 knows_complete core Naming (Exported size flags padded) choice last told q ok k = subst (λ phase. Knows (next_phase phase (Exported size flags padded)) core.selection choice last told) (sym q) tt
 knows_complete core Aborting (Answer option kind p) choice last told q ok k = grind arith
-knows_complete core (Answering asked asked_with info) (Answer option kind p) choice last told q ok k = grind (arith, eqb-true, or_cases, eqb-false)
+knows_complete core (Answering asked asked_with info) (Answer option kind p) choice last told q ok k = knows_answered core asked asked_with info option kind p choice last told q k
 knows_complete core phase m choice last told q ok k = absurd ok
 
 -- after messages that may complete

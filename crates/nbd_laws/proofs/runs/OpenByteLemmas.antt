@@ -1,9 +1,6 @@
 -- A run but for open bytes without them is a run.
 use Rattle.nbd_laws.proofs.Common.{◌≡◌, ℕ, List, [], ◌∷◌, length, refl, sym, ◌∙◌, ap, subst, append-nil, arith, lt-ltb, Side, Client, Server, Item, Byte, Starts, Completes, Serves, completed_messages, pairs, Pair, OpenBytesEndRuns, first_bytes, bytes_from, IsRunOf, Obeys, State, start_of, Both, get, put}
-use Rattle.nbd_laws.proofs.reading.ReaderLemmas.{Busy, Idle, IsNotBusy, Loose, Open, Walk, ended, final, get-put_same, loose, middle, opening, serving}
-use Rattle.nbd_laws.proofs.runs.BlockLemmas.{Idles, marked_is_walk}
-use Rattle.nbd_laws.proofs.runs.RunLemmas.{run_of}
-use Rattle.nbd_laws.proofs.runs.RunByteLemmas.{AreBytesOf, run_bytes}
+use Rattle.nbd_laws.proofs.{reading.ReaderLemmas.{Busy, Idle, IsNotBusy, Loose, Open, Walk, ended, final, get-put_same, loose, middle, opening, serving}, runs.{BlockLemmas.{Idles, marked_is_walk}, RunLemmas.run_of, RunByteLemmas.{AreBytesOf, run_bytes}}}
 
 -- all items but the bytes of no completed message
 abbrev kept : {P : Type 0} {o : Both Open} {items : List Item} → Walk P o items → List Item

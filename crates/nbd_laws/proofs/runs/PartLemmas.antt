@@ -1,8 +1,6 @@
 -- A run in two parts.
 use Rattle.nbd_laws.proofs.Common.{◌≡◌, ℕ, ◌+◌, List, [], ◌∷◌, ◌++◌, length, refl, sym, ◌∙◌, ap, subst, append_assoc, append-nil, arith, Side, Client, Server, Message, enc, Item, Byte, Starts, Completes, Serves, service_order, Obeys, after, ends_at, State, start_of, Both, get, put, CompletionsStandAfterBytes, PrefixesAreRuns, StartsStandBeforeBytes, started_messages}
-use Rattle.nbd_laws.proofs.reading.ReaderLemmas.{get-put_same, put_both, Open, Idle, Busy, Loose, IsNotBusy, Walk, ended, serving, opening, middle, final, loose}
-use Rattle.nbd_laws.proofs.runs.BlockLemmas.{Idles}
-use Rattle.nbd_laws.proofs.runs.RunLemmas.{run_of, walk_of}
+use Rattle.nbd_laws.proofs.{reading.ReaderLemmas.{get-put_same, put_both, Open, Idle, Busy, Loose, IsNotBusy, Walk, ended, serving, opening, middle, final, loose}, runs.{BlockLemmas.Idles, RunLemmas.{run_of, walk_of}}}
 use Rattle.nbd_laws.specs.Prefixes as prefixes
 
 pub obeys_prefix : (state : State) (prefix back : List Item) → Obeys state (prefix ++ back) → Obeys state prefix

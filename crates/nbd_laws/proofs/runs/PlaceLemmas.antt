@@ -1,8 +1,5 @@
 -- Reading is a function, and takes what a run begins with: so bytes have one place at most, and no run begins with it.
-use Rattle.nbd_laws.proofs.Common.{arith, ◌≡◌, List, [], ◌∷◌, ◌++◌, length, refl, sym, ◌∙◌, ap, Ok, Err, append_assoc, WireFault, Message, Profile, Pair, Reader, fresh_of, reads, IsPlaceOf, within, BeginningsAreUnderWay, HaveOnePlace, PlacesBeginNoRun, PrefixesHaveNoPlace, UnderWayAgree}
-use Rattle.nbd_laws.proofs.judge.BlockLemmas.{reads-append}
-use Rattle.nbd_laws.proofs.judge.ExactLemmas.{exact, none_refused}
-use Rattle.nbd_laws.proofs.reading.MarkLemmas.{IsRead}
+use Rattle.nbd_laws.proofs.{Common.{arith, ◌≡◌, List, [], ◌∷◌, ◌++◌, length, refl, sym, ◌∙◌, ap, Ok, Err, append_assoc, WireFault, Message, Profile, Pair, Reader, fresh_of, reads, IsPlaceOf, within, BeginningsAreUnderWay, HaveOnePlace, PlacesBeginNoRun, PrefixesHaveNoPlace, UnderWayAgree}, judge.{BlockLemmas.reads-append, ExactLemmas.{exact, none_refused}}, reading.MarkLemmas.IsRead}
 use Rattle.nbd_laws.proofs.runs.RunLemmas.{marks_law}
 
 pub but_last : (ps qs : List Pair) (p q : Pair) → ps ++ p ∷ [] ≡ qs ++ q ∷ [] → (ps ≡ qs) × (p ≡ q)

@@ -1,10 +1,7 @@
 -- What completes in transmission is a request, a simple reply or a chunk, and transmission goes on.
-use Rattle.nbd_laws.proofs.Common.{arith, ◌≡◌, ℕ, ◌==◌, List, subst, Message, Request, Simple, Chunk, ExtendedRequest, ExtendedChunk, Exporting, MayComplete, complete, Core, Transmission}
-use Rattle.nbd_laws.proofs.judge.WholeLemmas.{AnswersOne, allowed}
+use Rattle.nbd_laws.proofs.{Common.{arith, ◌≡◌, ℕ, ◌==◌, List, subst, Message, Request, Simple, Chunk, ExtendedRequest, ExtendedChunk, Exporting, MayComplete, complete, Core, Transmission}, judge.{WholeLemmas.{AnswersOne, allowed}, AllowLemmas.{MayAsk, ask_allow, extended_ask_allow}, PhaseLemmas.phase-requested}}
 unfoldable use Rattle.nbd_laws.proofs.judge.WholeLemmas.{IsAllowed}
-use Rattle.nbd_laws.proofs.judge.AllowLemmas.{MayAsk, ask_allow, extended_ask_allow}
 use Rattle.nbd_wire.specs.declared.commands.TheConstants as commands
-use Rattle.nbd_laws.proofs.judge.PhaseLemmas.{phase-requested}
 
 -- in transmission a request, a simple reply or a chunk may complete
 pub data InTransmission (core : Core) (export : Exporting) : Message → Type 0 where

@@ -1,10 +1,6 @@
 -- What a run leads to is reached by messages that may complete and have an encoding.
-use Rattle.nbd_laws.proofs.Common.{enc, AreBytes, ◌≡◌, List, [], ◌∷◌, ◌++◌, refl, sym, ◌∙◌, ap, subst, Message, Profile, Side, Client, Server, Item, Completes, completed_messages, IsRunOf, MayComplete, complete, ends_at, IsSendable, Core, start_of, Both, get, IsReached, at_start, after_message}
-use Rattle.nbd_laws.proofs.judge.SoundLemmas.{sendable_of}
-use Rattle.nbd_laws.proofs.runs.FollowLemmas.{Follows, each_with, follows}
-use Rattle.nbd_laws.proofs.service.InsideLemmas.{core_end}
-use Rattle.nbd_laws.proofs.reading.ReaderLemmas.{Open, Idle, Busy, Loose, Walk, ended, serving, opening, middle, final, loose}
-use Rattle.nbd_laws.proofs.runs.RunLemmas.{core_end-ends_at, walk_of}
+use Rattle.nbd_laws.proofs.{Common.{enc, AreBytes, ◌≡◌, List, [], ◌∷◌, ◌++◌, refl, sym, ◌∙◌, ap, subst, Message, Profile, Side, Client, Server, Item, Completes, completed_messages, IsRunOf, MayComplete, complete, ends_at, IsSendable, Core, start_of, Both, get, IsReached, at_start, after_message}, judge.SoundLemmas.sendable_of}
+use Rattle.nbd_laws.proofs.{runs.{FollowLemmas.{Follows, each_with, follows}, RunLemmas.{core_end-ends_at, walk_of}}, service.InsideLemmas.core_end, reading.ReaderLemmas.{Open, Idle, Busy, Loose, Walk, ended, serving, opening, middle, final, loose}}
 
 -- an open message is of bytes
 abbrev pub IsSentOpen : Side → Open → Type 0

@@ -1,8 +1,6 @@
 -- The bytes of a run but for open bytes: each side's are its completed messages' encodings and the open ones.
 use Rattle.nbd_laws.proofs.Common.{arith, ◌≡◌, ℕ, List, [], ◌∷◌, ◌++◌, map, flat_map, refl, sym, ◌∙◌, ap, subst, Bool, true, false, if◌then◌else◌, append_assoc, append-nil, Profile, Side, Client, Server, Message, enc, Item, Byte, Starts, Completes, Serves, IsSided, block, completed_messages, of_side, pairs, Pair, bytes_of, RunsHoldEachSide, bytes_from, IsRunBut, complete, side, same_side, Core, start_of, Both, get}
-use Rattle.nbd_laws.proofs.reading.ReaderLemmas.{Busy, Idle, Loose, Open, Walk, ended, final, loose, middle, opening, serving}
-use Rattle.nbd_laws.proofs.runs.BlockLemmas.{marked_is_walk}
-use Rattle.nbd_laws.proofs.runs.FollowLemmas.{Follows, IsSidedOpen, each_with, follows}
+use Rattle.nbd_laws.proofs.{reading.ReaderLemmas.{Busy, Idle, Loose, Open, Walk, ended, final, loose, middle, opening, serving}, runs.{BlockLemmas.marked_is_walk, FollowLemmas.{Follows, IsSidedOpen, each_with, follows}}}
 
 abbrev pub byte_from : Side → Side → ℕ → List ℕ
 byte_from s t b = if same_side s t then b ∷ [] else []

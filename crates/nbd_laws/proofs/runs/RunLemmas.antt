@@ -1,14 +1,7 @@
 -- The laws over runs.
 use Rattle.nbd_laws.proofs.Common.{◌≡◌, ℕ, List, [], ◌∷◌, ◌++◌, length, refl, sym, subst, inr, Option, Ok, Err, arith, Profile, Entry, Side, Client, Server, Item, Completes, Serves, pairs, completed_messages, service_order, Pair, ArePairs, Core, start, start_of, IsRunOf, IsRunBut, Obeys, complete, ends_at, inside_at, operations_of, WireFault, fresh_of, Both, get, IsFilled, Rest, Reader, reads, at_start, within}
-use Rattle.nbd_laws.proofs.service.DueLemmas.{due_from}
-use Rattle.nbd_laws.proofs.service.EntryLemmas.{HasNoFault}
-use Rattle.nbd_laws.proofs.reading.ReaderLemmas.{AreHeld, none_held, Walk, Open, Idle, IsSound, IsExact, led}
-use Rattle.nbd_laws.proofs.runs.TraceLemmas.{trace, IsTrace, IsCanonical, IsStray, Guess, not_empty}
-use Rattle.nbd_laws.proofs.reading.MarkLemmas.{marks, IsRead}
-use Rattle.nbd_laws.proofs.runs.ProfileLemmas.{at_base}
-use Rattle.nbd_laws.proofs.runs.BlockLemmas.{walk_is_marked, marked_is_walk, Idles}
-use Rattle.nbd_laws.proofs.service.InsideLemmas.{core_end}
-use Rattle.nbd_laws.proofs.service.PlacingLemmas.{IsDeep, placed, walk_placed, served_placed, pairs_placed, Fits, obeys_placed}
+use Rattle.nbd_laws.proofs.{service.{DueLemmas.due_from, EntryLemmas.HasNoFault, InsideLemmas.core_end, PlacingLemmas.{IsDeep, placed, walk_placed, served_placed, pairs_placed, Fits, obeys_placed}}, reading.{ReaderLemmas.{AreHeld, none_held, Walk, Open, Idle, IsSound, IsExact, led}, MarkLemmas.{marks, IsRead}}}
+use Rattle.nbd_laws.proofs.runs.{TraceLemmas.{trace, IsTrace, IsCanonical, IsStray, Guess, not_empty}, ProfileLemmas.at_base, BlockLemmas.{walk_is_marked, marked_is_walk, Idles}}
 
 pub core_end-ends_at : (core : Core) (js : List Entry) (items : List Item) → core_end core items ≡ (ends_at (record { core = core; served = js }) items).core
 core_end-ends_at core js [] = refl

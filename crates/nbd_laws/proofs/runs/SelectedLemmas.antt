@@ -1,15 +1,12 @@
 -- The contexts in force are those that one sees looking back over the completed messages.
-use Rattle.nbd_laws.proofs.Common.{and_parts, or_cases, ◌≡◌, ◌≢◌, ℕ, ◌⊎◌, ◌<◌, ◌^◌, ◌==◌, ◌&&◌, ◌||◌, List, [], ◌∷◌, ◌++◌, map, refl, sym, ◌∙◌, ap, subst, inl, inr, Option, Some, None, Bool, true, false, if◌then◌else◌, IsTrue, arith, append_assoc, append-nil, eqb-true, list_any, big_bytes, Message, Choice, Answer, Context, Selection, AreBytes, has, HasContextForm, HasGoForm, completed_messages, Exporting, ack_phase, agrees, choice_phase, is_error, is_proper_option, last_info, next_phase, reply_phase, selection_after, selection_at, selection_told, with_context, context_of, info_of, is_go, name_in, queries_of, MayComplete, complete, ends_at, grants_structured, IsSendable, Core, Phase, Choosing, Aborting, Answering, Transmission, in_force, start_of, go-only, is_go-exact, context-long, context-reads, name_is, queries_of-form, queries_of-found, AreSelected, ChooseNone, ChooseNoOther, ContextsAreSelected, telling, eqb-false, All-cons, All-head, All-nil, All-tail, All-weaker, list_any-append, or-false, bytes_eq-Decides}
-use Rattle.nbd_laws.proofs.judge.WholeLemmas.{allowed}
+use Rattle.nbd_laws.proofs.Common.{option_to_list, and_parts, or_cases, ◌≡◌, ◌≢◌, ℕ, ◌⊎◌, ◌<◌, ◌^◌, ◌==◌, ◌&&◌, ◌||◌, List, [], ◌∷◌, ◌++◌, map, refl, sym, ◌∙◌, ap, subst, inl, inr, Option, Some, None, Bool, true, false, if◌then◌else◌, IsTrue, arith, append_assoc, append-nil, eqb-true, list_any, big_bytes, Message, Choice, Answer, Context, Selection, AreBytes, has, HasContextForm, HasGoForm, completed_messages, Exporting, ack_phase, agrees, choice_phase, is_error, is_proper_option, last_info, next_phase, reply_phase, selection_after, selection_at, selection_told, context_of, info_of, is_go, name_in, queries_of, MayComplete, complete, ends_at, grants_structured, IsSendable, Core, Phase, Choosing, Aborting, Answering, Transmission, in_force, start_of, go-only, is_go-exact, context-long, context-reads, name_is, queries_of-form, queries_of-found, AreSelected, ChooseNone, ChooseNoOther, ContextsAreSelected, telling, eqb-false, All-cons, All-head, All-nil, All-tail, All-weaker, list_any-append, or-false, bytes_eq-Decides}
+use Rattle.nbd_laws.proofs.{judge.{WholeLemmas.allowed, AllowLemmas.{abort_allow, answer_allow}}, runs.{PrefixLemmas.{phase-complete, transmission_row}, ReachLemmas.{Passes, led, led-append, passes-append, run_leads, run_passes}}}
 unfoldable use Rattle.nbd_laws.proofs.judge.WholeLemmas.{IsAllowed}
 use Rattle.std.proofs.Common.{ne_eqb}
 use Rattle.std.specs.Prelude.{All}
-use Rattle.nbd_laws.proofs.judge.AllowLemmas.{abort_allow, answer_allow}
 use Rattle.nbd_wire.specs.declared.answers.TheConstants as answers
 use Rattle.nbd_wire.specs.declared.options.TheConstants as options
 use Rattle.nbd_laws.specs.Selecting.{Names}
-use Rattle.nbd_laws.proofs.runs.PrefixLemmas.{phase-complete, transmission_row}
-use Rattle.nbd_laws.proofs.runs.ReachLemmas.{Passes, led, led-append, passes-append, run_leads, run_passes}
 
 -- an option is chosen in one phase alone
 chosen_in : (phase : Phase) (core : Core) (id : ℕ) (p : List ℕ) → MayComplete core phase (Choice id p) → phase ≡ Choosing
@@ -59,7 +56,7 @@ telling-selection : (core : Core) (asked : List ℕ) (info : Option Exporting) (
     (complete core (telling context)).selection ≡ one_more core.selection context
 telling-selection core asked info context at l =
     answer-selection core options.SET_META_CONTEXT asked info options.SET_META_CONTEXT answers.META_CONTEXT (big_bytes 4 context.id ++ context.name) at
-    ∙ ap (λ o. with_context o core.selection) (context_back context l)
+    ∙ ap (λ o. record core.selection { contexts = core.selection.contexts ++ option_to_list o }) (context_back context l)
 
 -- the answer that grants what SET_META_CONTEXT selected, and the one that puts structured replies in force
 abbrev granting : Message

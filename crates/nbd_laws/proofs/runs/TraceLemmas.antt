@@ -1,7 +1,6 @@
 -- What a reader read is a run with exactly the pairs that it read.
 use Rattle.nbd_laws.proofs.Common.{AreBytes, judge, and_parts, ◌≡◌, ℕ, suc, zero, ◌+◌, ◌<◌, ◌≤◌, ◌⊎◌, List, [], ◌∷◌, ◌++◌, length, refl, sym, ◌∙◌, ap, subst, inl, inr, Ok, Some, append_assoc, append-nil, arith, true, Bool, not, ◌==◌, ◌&&◌, if◌then◌else◌, length-append, add-one, le_refl, eq-or-lt_of_le, eqb-true, IsTrue, Names, NamesWhole, whole, Entry, Side, Client, Server, Message, enc, head, side, Item, Byte, Starts, Completes, Serves, pairs, completed_messages, Pair, ArePairs, Operation, is_finished, Core, State, target, target_from, with_reply_at, MayStart, complete, is_reply_to, makes_due, Obeys, request_of_reply, IsServedFor, Both, get, put, IsFilled, Rest, Reader, Reading, More, Whole, Bad, settle, rest_with, reads, on_ok, with_message}
-use Rattle.nbd_laws.proofs.judge.SentLemmas.{message_bytes}
-use Rattle.nbd_laws.proofs.service.EntryLemmas.{Names-push_cases, NamesWhole-left, NamesWhole-push, served_atomically}
+use Rattle.nbd_laws.proofs.{judge.SentLemmas.message_bytes, service.EntryLemmas.{Names-push_cases, NamesWhole-left, NamesWhole-push, served_atomically}}
 use Rattle.nbd_laws.proofs.reading.ReaderLemmas.{old-empty, old-filled, IsFilled-snoc, IsMoreAt, AreHeld, kept_next, held_more, held_whole, led, with_byte, IsMore, Tracks, get-put_same, put-put, Open, Idle, Busy, Loose, IsNotBusy, Walk, ended, serving, opening, middle, final, loose, IsSoundAt, IsSound}
 
 -- each request that has completed was served atomically, and no other

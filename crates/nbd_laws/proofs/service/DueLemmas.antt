@@ -1,9 +1,7 @@
 -- When requests have to be served in a run, walking from a moment on.
 use Rattle.nbd_laws.proofs.Common.{◌≡◌, ℕ, ◌<◌, ◌≤◌, ◌⊎◌, ◌||◌, ◌&&◌, not, List, [], ◌∷◌, ◌++◌, length, map, is_some, refl, sym, ◌∙◌, ap, inl, inr, Option, Some, None, Bool, true, false, arith, nat_le, if◌then◌else◌, leb-true, le-leb, Entry, Message, Profile, Item, Byte, Starts, Completes, Serves, Operation, ends_reply, first_shown, known_from, lesser_of, Obeys, complete, core_with_request, gives, inside_at, is_by_chunk, is_reply_to, is_this, makes_due, noted, reply_to, shown_with, Core, Shown, operation, Piece, byte_at, piece_offset, piece_size}
+use Rattle.nbd_laws.proofs.{service.InsideLemmas.{IsSettled, chunk_end, core_end, entries_grow, inside_end, settled_complete}, runs.{ProfileLemmas.profile_stays, TraceLemmas.{answering, length-complete}}}
 use Rattle.std.proofs.lemmas.Bool.{eqb-true}
-use Rattle.nbd_laws.proofs.service.InsideLemmas.{IsSettled, chunk_end, core_end, entries_grow, inside_end, settled_complete}
-use Rattle.nbd_laws.proofs.runs.ProfileLemmas.{profile_stays}
-use Rattle.nbd_laws.proofs.runs.TraceLemmas.{answering, length-complete}
 
 -- the count of requests here where the condition holds, or else what came later
 abbrev pub known_if : Bool → Core → Option ℕ → Option ℕ

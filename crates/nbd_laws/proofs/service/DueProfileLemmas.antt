@@ -1,8 +1,6 @@
 -- What is due in the one profile, and in the other.
-use Rattle.nbd_laws.proofs.Common.{◌≡◌, ℕ, ◌≤◌, List, Option, Some, Bool, arith, nat_le, eqb-true, leb-true, Entry, Profile, Base, Wide, Item, Operation, due_in, due_of, report, IsRunOf, Core, IsFaultless, AnswersAtOnce}
+use Rattle.nbd_laws.proofs.{Common.{◌≡◌, ℕ, ◌≤◌, List, Option, Some, Bool, arith, nat_le, eqb-true, leb-true, Entry, Profile, Base, Wide, Item, Operation, due_in, due_of, report, IsRunOf, Core, IsFaultless, AnswersAtOnce}, requests.ReportLemmas.{asked-report, stated, told_if}, service.SoonerLemmas.{IsSooner, sooner_at_end}}
 use Rattle.nbd_wire.specs.declared.commands.TheConstants as commands
-use Rattle.nbd_laws.proofs.requests.ReportLemmas.{asked-report, stated, told_if}
-use Rattle.nbd_laws.proofs.service.SoonerLemmas.{IsSooner, sooner_at_end}
 
 -- a count, and no more than another
 abbrev Sooner : Option ℕ → ℕ → Type 0

@@ -1,7 +1,6 @@
 -- A capture is explained exactly where a run with its bytes passes the tests.
 use Rattle.nbd_laws.proofs.Common.{◌≡◌, ℕ, List, sym, ◌∙◌, ap, subst, Profile, Entry, IsExplainedOf, FitsImage, HasNoWrongByte, Start, Item, pairs, service_order, Pair, Report, report, IsRunOf, IsFaultless, Passes, answered_count, improper_count, request_count, ExplainedPasses, HasCountsOf, IsNoOf, PassingIsExplained}
-use Rattle.nbd_laws.proofs.service.MomentLemmas.{latest_moments, orders_are_faultless}
-use Rattle.nbd_laws.proofs.service.ServiceLemmas.{same_reports}
+use Rattle.nbd_laws.proofs.service.{MomentLemmas.{latest_moments, orders_are_faultless}, ServiceLemmas.same_reports}
 
 pub passing_is_explained : PassingIsExplained
 passing_is_explained profile items order initial run p =

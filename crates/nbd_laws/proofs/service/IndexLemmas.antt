@@ -1,6 +1,5 @@
 -- The faults of an order by index are those entry by entry.
-use Rattle.nbd_laws.proofs.Common.{◌≡◌, ℕ, suc, ◌<◌, ◌≤◌, ◌==◌, inl, inr, List, [], ◌∷◌, ◌++◌, refl, sym, subst, Option, Some, arith, slice_get, take, IsTrue, Bool, true, false, nat_le, eqb-true, append_assoc, append-nil, eqb-false, leb-true, leb-false, Entry, is_served, HasNoOrderFault, IsBad, IsLate}
-use Rattle.nbd_laws.proofs.service.EntryLemmas.{AreFine, HasNoFault, IsFine, IsInTime}
+use Rattle.nbd_laws.proofs.{Common.{◌≡◌, ℕ, suc, ◌<◌, ◌≤◌, ◌==◌, inl, inr, List, [], ◌∷◌, ◌++◌, refl, sym, subst, Option, Some, arith, slice_get, take, IsTrue, Bool, true, false, nat_le, eqb-true, append_assoc, append-nil, eqb-false, leb-true, leb-false, Entry, is_served, HasNoOrderFault, IsBad, IsLate}, service.EntryLemmas.{AreFine, HasNoFault, IsFine, IsInTime}}
 
 module _ (count : ℕ) (inside : ℕ → ℕ → Bool) where
   abbrev FineByIndex : List Entry → List Entry → Type 0

@@ -1,9 +1,7 @@
 -- What lies inside a request does not change while messages complete.
 use Rattle.nbd_laws.proofs.Common.{◌≡◌, ℕ, zero, suc, ◌<◌, ◌≤◌, List, [], ◌∷◌, ◌++◌, length, refl, sym, ◌∙◌, inl, inr, Option, arith, le_refl, Entry, Message, Greeting, ClientFlags, Choice, Answer, Exported, Profile, Base, Wide, Item, Byte, Starts, Completes, Serves, Exporting, Operation, is_proper, MayComplete, Obeys, complete, inside_at, inside_operation, is_by_chunk, Core, Phase, Greet, Flags, Choosing, Naming, Aborting, Answering, Transmission, operation, with_reply_at}
-use Rattle.nbd_laws.proofs.judge.WholeLemmas.{allowed}
+use Rattle.nbd_laws.proofs.{judge.WholeLemmas.allowed, runs.{PrefixLemmas.{InTransmission, asks, in_transmission, phase-complete, transmission_row}, TraceLemmas.length-complete}}
 unfoldable use Rattle.nbd_laws.proofs.judge.WholeLemmas.{IsAllowed}
-use Rattle.nbd_laws.proofs.runs.PrefixLemmas.{InTransmission, asks, in_transmission, phase-complete, transmission_row}
-use Rattle.nbd_laws.proofs.runs.TraceLemmas.{length-complete}
 
 -- the core after the items
 abbrev pub core_end : Core → List Item → Core

@@ -1,15 +1,8 @@
 -- The moments of service of the runs with given bytes are the orders without a fault.
 use Rattle.nbd_laws.proofs.Common.{◌≡◌, ℕ, ◌≤◌, ◌==◌, List, [], length, refl, sym, ◌∙◌, ap, subst, Option, Some, None, Bool, true, false, arith, if◌then◌else◌, nat_le, leb-true, Entry, Profile, Base, Wide, Item, service_order, HasNoOrderFault, Asked, asked_at, known_from, due_by_chunk, due_in, due_of, first_shown, inside_in, known_count, lesser_of, operations_of, report, IsRunOf, ends_at, inside_at, is_by_chunk, Core, operation, start, start_of, LatestMoments, OrdersAreFaultless, with_profile}
-use Rattle.nbd_wire.specs.declared.commands.TheConstants as commands
-use Rattle.nbd_laws.proofs.service.IndexLemmas.{by_entries, by_index}
-use Rattle.nbd_laws.proofs.service.DueLemmas.{by_chunk, due_chunk, due_from, due_known, known_within, shown_at}
-use Rattle.nbd_laws.proofs.service.EntryLemmas.{HasNoFault}
-use Rattle.nbd_laws.proofs.service.InsideLemmas.{core_end}
-use Rattle.nbd_laws.proofs.service.OrderLemmas.{order_of_run, start_settled}
-use Rattle.nbd_laws.proofs.service.PlacingLemmas.{IsDeep}
-use Rattle.nbd_laws.proofs.runs.ProfileLemmas.{at_base, known_at_base}
-use Rattle.nbd_laws.proofs.runs.RunLemmas.{core_end-ends_at, latest}
+use Rattle.nbd_laws.proofs.{service.{IndexLemmas.{by_entries, by_index}, DueLemmas.{by_chunk, due_chunk, due_from, due_known, known_within, shown_at}, EntryLemmas.HasNoFault, InsideLemmas.core_end, OrderLemmas.{order_of_run, start_settled}, PlacingLemmas.IsDeep}, runs.{ProfileLemmas.{at_base, known_at_base}, RunLemmas.{core_end-ends_at, latest}}}
 use Rattle.nbd_laws.proofs.requests.ReportLemmas.{asked-report, entry_within, length-report, stated, told_if}
+use Rattle.nbd_wire.specs.declared.commands.TheConstants as commands
 
 pub inside-report : (items : List Item) → inside_in (report items) ≡ inside_at (ends_at start items).core
 unfolding report

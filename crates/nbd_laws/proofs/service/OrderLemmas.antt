@@ -1,11 +1,6 @@
 -- The service of a run is an order without a fault.
 use Rattle.nbd_laws.proofs.Common.{◌≡◌, ℕ, ◌<◌, ◌≤◌, List, [], ◌∷◌, ◌++◌, length, refl, sym, ◌∙◌, ap, subst, inl, inr, Option, Some, Bool, true, false, IsTrue, append_assoc, arith, Entry, Profile, Base, IsServedAt, MayServe, is_served, Item, Byte, Starts, Completes, Serves, service_order, Core, start, start_of, IsRunOf, IsServedFor, Obeys, complete, ends_at, inside_at, makes_due, operations_of, with_profile}
-use Rattle.nbd_laws.proofs.service.DueLemmas.{known_if, due_from}
-use Rattle.nbd_laws.proofs.service.EntryLemmas.{AreFine, HasNoFault, IsInTime, closed_unserved, served_at-left, served_behind}
-use Rattle.nbd_laws.proofs.runs.TraceLemmas.{due_within, length-complete}
-use Rattle.nbd_laws.proofs.service.InsideLemmas.{IsSettled, core_end, entries_grow, inside_end, settled_complete}
-use Rattle.nbd_laws.proofs.runs.ProfileLemmas.{at_base}
-use Rattle.nbd_laws.proofs.runs.RunLemmas.{core_end-ends_at}
+use Rattle.nbd_laws.proofs.{service.{DueLemmas.{known_if, due_from}, EntryLemmas.{AreFine, HasNoFault, IsInTime, closed_unserved, served_at-left, served_behind}, InsideLemmas.{IsSettled, core_end, entries_grow, inside_end, settled_complete}}, runs.{TraceLemmas.{due_within, length-complete}, ProfileLemmas.at_base, RunLemmas.core_end-ends_at}}
 
 pub record IsOrdered (core : Core) (js : List Entry) (items : List Item) : Type 0 where
   pub fine : AreFine (length (core_end core items).entries) (inside_at (core_end core items)) js (service_order items)

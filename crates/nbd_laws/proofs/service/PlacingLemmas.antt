@@ -1,10 +1,7 @@
 -- Where the order has no fault, a run with the same pairs serves in that order: each entry as soon as its request, and those of the
 -- entries before it, have completed.
 use Rattle.nbd_laws.proofs.Common.{or_cases, ◌≡◌, ℕ, zero, suc, ◌+◌, ◌<◌, ◌≤◌, ◌⊎◌, ◌||◌, ◌&&◌, List, [], ◌∷◌, ◌++◌, length, refl, sym, ◌∙◌, ap, subst, inl, inr, Option, Some, None, Bool, true, false, IsTrue, append_assoc, append-nil, arith, eq-eqb, nat_le, nat_lt, if◌then◌else◌, le_refl, leb-true, leb-false, le-leb, lt-ltb, Entry, Part, IsServedAt, MayServe, Names, in_part, is_served, Item, Byte, Starts, Completes, Serves, pairs, service_order, is_in, Core, IsServedFor, Obeys, complete, inside_at, makes_due, Both}
-use Rattle.nbd_laws.proofs.service.DueLemmas.{known_if, due_from}
-use Rattle.nbd_laws.proofs.service.EntryLemmas.{AreFine, AreFine-as, AreFine-left, AreFine-right, IsInTime, IsInTime-right, Names-append_cases, names_served, served-append, served_at-left}
-use Rattle.nbd_laws.proofs.service.InsideLemmas.{IsSettled, core_end, entries_grow, inside_end, settled_complete}
-use Rattle.nbd_laws.proofs.reading.ReaderLemmas.{Open, Walk, ended, serving, opening, middle, final, loose}
+use Rattle.nbd_laws.proofs.{service.{DueLemmas.{known_if, due_from}, EntryLemmas.{AreFine, AreFine-as, AreFine-left, AreFine-right, IsInTime, IsInTime-right, Names-append_cases, names_served, served-append, served_at-left}, InsideLemmas.{IsSettled, core_end, entries_grow, inside_end, settled_complete}}, reading.ReaderLemmas.{Open, Walk, ended, serving, opening, middle, final, loose}}
 use Rattle.nbd_laws.proofs.runs.TraceLemmas.{due_within}
 
 -- of an order the entries at the front that name requests up to n, and those from the first other one on

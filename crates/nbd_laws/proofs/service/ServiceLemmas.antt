@@ -1,9 +1,6 @@
 -- What a run leads to and states does not depend on the moments of service.
 use Rattle.nbd_laws.proofs.Common.{arith, ◌≡◌, ℕ, List, [], ◌∷◌, refl, ap, Option, Report, known_from, report, asked_list, Item, Starts, Completes, without_service, complete, Core, export_in, SameMarks, SameReports, ReportsIgnoreService, if◌then◌else◌, is_reply_to, Some, length}
-use Rattle.nbd_laws.proofs.runs.FollowLemmas.{bare, follows, follows_unserved, pairs_unserved, walk_unserved}
-use Rattle.nbd_laws.proofs.service.InsideLemmas.{core_end}
-use Rattle.nbd_laws.proofs.runs.RunLemmas.{core_end-ends_at, walk_of}
-use Rattle.nbd_laws.proofs.reading.TwinLemmas.{twins}
+use Rattle.nbd_laws.proofs.{runs.{FollowLemmas.{bare, follows, follows_unserved, pairs_unserved, walk_unserved}, RunLemmas.{core_end-ends_at, walk_of}}, service.InsideLemmas.core_end, reading.TwinLemmas.twins}
 
 core_end_unserved : (core : Core) (items : List Item) → core_end core items ≡ core_end core (without_service items)
 core_end_unserved core [] = refl

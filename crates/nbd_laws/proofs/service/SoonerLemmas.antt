@@ -1,12 +1,6 @@
 -- A reply starts before it shows or ends anything.
 use Rattle.nbd_laws.proofs.Common.{and_parts, ◌≡◌, ℕ, ◌≤◌, ◌&&◌, List, [], ◌∷◌, length, refl, sym, ◌∙◌, ap, subst, inl, inr, Option, Some, None, true, arith, Message, Side, Client, Server, Profile, Base, Item, Byte, Starts, Completes, Serves, ends_reply, Both, Reader, Rest, get, put, fresh_of, with_message, known_count, known_from, noted, IsRunOf, complete, ends_at, is_reply_to, Core, start, start_of, with_profile}
-use Rattle.nbd_laws.proofs.reading.NotedLemmas.{core_led, known_of_run}
-use Rattle.nbd_laws.proofs.reading.ReaderLemmas.{led, with_byte}
-use Rattle.nbd_laws.proofs.runs.ProfileLemmas.{at_base, known_at_base}
-use Rattle.nbd_laws.proofs.runs.RunLemmas.{core_end-ends_at}
-use Rattle.nbd_laws.proofs.runs.TraceLemmas.{length-complete}
-use Rattle.nbd_laws.proofs.service.DueLemmas.{ended_complete, noted_cases, shown_at, shown_complete, shows_at}
-use Rattle.nbd_laws.proofs.service.InsideLemmas.{core_end}
+use Rattle.nbd_laws.proofs.{reading.{NotedLemmas.{core_led, known_of_run}, ReaderLemmas.{led, with_byte}}, runs.{ProfileLemmas.{at_base, known_at_base}, RunLemmas.core_end-ends_at, TraceLemmas.length-complete}, service.{DueLemmas.{ended_complete, noted_cases, shown_at, shown_complete, shows_at}, InsideLemmas.core_end}}
 
 -- so many requests had completed when the first reply to request k started, and no fewer when it showed or ended something
 pub record IsSooner (k : ℕ) (κ : Option ℕ) (core : Core) : Type 0 where

@@ -1,8 +1,6 @@
 -- The answer to the bytes of given items, by tests that compute.
 use Rattle.nbd_laws.proofs.Common.{◌≡◌, ℕ, ◌++◌, List, [], IsTrue, flat_map, slice_get, Entry, Client, Server, Profile, Pair, enc, head, tail, FitsImage, Start, start_byte, byte_before, effects, has, has_only, Item, block, of_side, pairs, service_order, ends_reply, is_failing, is_proper, is_proper_option, next_phase, content_of, context_of, failure_of, info_of, is_go, is_listed, queries_of, piece_of, report, IsRunOf, complete, start_of, target, answered_count, improper_count, request_count, IsNoOf, IsYesOf, ended_messages}
-use Rattle.nbd_laws.proofs.service.ExplainingLemmas.{counts_of, failing_is_no}
-use Rattle.nbd_laws.proofs.worked.DecidingReadLemmas.{all_right, is_wrong_at, none_wrong, wrong}
-use Rattle.nbd_laws.proofs.worked.DecidingRunLemmas.{is_run_of, is_tight, obeys}
+use Rattle.nbd_laws.proofs.{service.ExplainingLemmas.{counts_of, failing_is_no}, worked.{DecidingReadLemmas.{all_right, is_wrong_at, none_wrong, wrong}, DecidingRunLemmas.{is_run_of, is_tight, obeys}}}
 
 -- what unfolds where a run is checked
 unfoldable pub computing : Unit {0}

@@ -1,7 +1,7 @@
 -- Tests that decide by computing whether a byte is wrong.
 use Rattle.nbd_laws.proofs.Common.{arith, and_parts, ◌≡◌, ℕ, ◌==◌, ◌&&◌, ◌||◌, not, List, [], ◌∷◌, sym, ◌∙◌, ap, subst, Option, Some, None, Bool, true, false, IsTrue, eqb-true, eq-eqb, zero, suc, ◌++◌, take, slice_get, append_assoc, append-nil, inl, inr, eqb-false, Entry, Part, in_part, Differs, GivesByte, Effect, IsWrong, IsWrongIn, IsWrongOf, byte_before, byte_or_start, last_touch, serves, is_in}
-use Rattle.nbd_wire.specs.declared.commands.TheConstants as commands
 use Rattle.nbd_laws.proofs.worked.DecidingLemmas.{all_at, all_in, in_range, then_too}
+use Rattle.nbd_wire.specs.declared.commands.TheConstants as commands
 
 -- the read gives the known byte
 abbrev pub agrees : (byte read : Option ℕ) → Bool

@@ -1,7 +1,7 @@
 -- Tests that decide by computing whether items are a run.
 use Rattle.nbd_laws.proofs.Common.{ap, arith, and_parts, ◌≡◌, ◌&&◌, ◌==◌, nat_le, nat_lt, refl, List, [], ◌∷◌, ◌++◌, length, Bool, true, false, IsTrue, flat_map, eqb-true, bytes_eq-Decides, leb-true, ltb-true, Side, Client, Server, Message, Greeting, ClientFlags, Choice, Answer, Exported, Request, Simple, Chunk, enc, Item, Byte, Starts, Completes, Serves, IsTight, block, of_side, Allows, IsRunOf, MayComplete, Obeys, after, inside_at, same_side, side, Profile, Base, ended_messages, Core, Phase, State, start, start_of, Bad, More, Reading, Whole, judge_in}
-use Rattle.std.specs.Str.{bytes_eq}
 use Rattle.nbd_laws.proofs.worked.DecidingLemmas.{are_bytes, bytes_are, is_fresh, is_served_for, may_start_in, same_sides, serves_end, serves_start, starts_in, true_is_fresh}
+use Rattle.std.specs.Str.{bytes_eq}
 
 -- the same message
 abbrev pub is_same : Message → Message → Bool

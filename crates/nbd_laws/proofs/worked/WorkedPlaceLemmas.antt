@@ -1,7 +1,7 @@
 -- Captures whose bytes the reader reads up to the last one, which it refuses.
 use Rattle.nbd_laws.proofs.Common.{arith, and_parts, ◌≡◌, ℕ, List, [], ◌∷◌, ◌++◌, take, refl, sym, ◌∙◌, ap, subst, Option, Some, None, Result, Ok, Err, Bool, true, ◌&&◌, nat_lt, ltb-true, WireFault, BadMagic, NotFixedNewstyle, BadClientFlags, OutOfTurn, OutOfProfile, UnknownCookie, BadDisconnect, IncompleteStatus, Message, Greeting, Client, Server, Profile, Base, Wide, ArePairs, Pair, flat, is_proper_option, next_phase, content_of, context_of, failure_of, queries_of, info_of, is_go, is_listed, status_of, ends_reply, is_failing, is_proper, has, has_only, piece_of, complete, IsPlace, IsPlaceOf, target, hasty_client, Reader, fresh_of, on_ok, reads, context_messages, opening_messages, status_asked_messages}
-use Rattle.nbd_laws.specs.captures.Refused as refused
 use Rattle.nbd_laws.proofs.judge.BlockLemmas.{reads-append}
+use Rattle.nbd_laws.specs.captures.Refused as refused
 
 abbrev are_bytes : List Pair → Bool
 are_bytes [] = true

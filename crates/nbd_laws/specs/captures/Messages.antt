@@ -3,8 +3,7 @@ use Rattle.std.specs.Prelude.{◌∷◌, ◌++◌, [], List}
 use Rattle.byteorder.specs.Endian.{big_bytes}
 use Rattle.nbd_wire.specs.declared.answers.TheConstants as answers
 use Rattle.nbd_wire.specs.declared.commands.TheConstants as commands
-use Rattle.nbd_wire.specs.declared.message.Message.{Message}
-use Rattle.nbd_wire.specs.declared.message.Message.TheVariants.{Answer, Choice, ClientFlags, Greeting, Request}
+use Rattle.nbd_wire.specs.declared.message.Message.{Message, TheVariants.{Answer, Choice, ClientFlags, Greeting, Request}}
 use Rattle.nbd_wire.specs.declared.options.TheConstants as options
 
 -- a negotiation by GO of an export of 8 bytes

@@ -2,8 +2,7 @@
 -- beginnings that several captures share, and one that goes wrong.
 use Rattle.std.specs.Prelude.{ℕ, List, [], ◌∷◌, ◌++◌}
 use Rattle.byteorder.specs.Endian.{big_bytes}
-use Rattle.nbd_wire.specs.declared.message.Side.{Side}
-use Rattle.nbd_wire.specs.declared.message.Side.TheVariants.{Client, Server}
+use Rattle.nbd_wire.specs.declared.message.Side.{Side, TheVariants.{Client, Server}}
 
 abbrev pub Chunks : Type 0
 Chunks = List (Side × List ℕ)

@@ -1,7 +1,6 @@
 -- Captures of small sessions that are refused.
 use Rattle.std.specs.Prelude.{◌∷◌, ◌++◌, []}
-use Rattle.nbd_laws.specs.captures.Options.{context_asked, context_selected}
-use Rattle.nbd_laws.specs.captures.Openings.{Chunks, ask, chunk, client, done, opening, server}
+use Rattle.nbd_laws.specs.captures.{Options.{context_asked, context_selected}, Openings.{Chunks, ask, chunk, client, done, opening, server}}
 
 -- a greeting whose second number ends in X
 abbrev pub wrong_greeting : Chunks

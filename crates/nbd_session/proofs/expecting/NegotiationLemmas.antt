@@ -1,10 +1,9 @@
 -- The messages before the options whose heads have come, and the answer to EXPORT_NAME.
 use Rattle.nbd_session.proofs.Common.{◌≡◌, ℕ, ◌==◌, ◌&&◌, not, List, ◌++◌, length, refl, sym, ◌∙◌, ap, Some, None, Bool, true, false, nat_lt, arith, BadMagic, NotFixedNewstyle, BadClientFlags, BadExport, ExportTooLarge, WireFault, EXPORT_SIZE, GREETING_MAGIC, OPTION_MAGIC, has, number_at, Core, client_flags, export_answer, greeting, client_flags_fault, export_fault, padding_fault, sets_more, fault_if, Greeting, ClientFlags, Exported, expected_decision, some_if}
+use Rattle.nbd_session.proofs.{parsing.LeadingLemmas.begins_well, expecting.HeadLemmas.{after_head, fields_stay, none_read, some_read}}
 use Rattle.nbd_wire.specs.declared.handshake.TheConstants as handshake
 use Rattle.nbd_wire.specs.declared.message.Message.TheVariants as messages
 use Rattle.nbd_wire.specs.declared.transmission.TheConstants as transmission
-use Rattle.nbd_session.proofs.parsing.LeadingLemmas.{begins_well}
-use Rattle.nbd_session.proofs.expecting.HeadLemmas.{after_head, fields_stay, none_read, some_read}
 
 -- at a greeting's head, by whether it begins well and has fixed newstyle
 greeting_by : (well fixed : Bool) (head : List ℕ) → begins_well head ≡ well → has (number_at 16 2 head) handshake.FIXED_NEWSTYLE ≡ fixed →

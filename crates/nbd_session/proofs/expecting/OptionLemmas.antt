@@ -1,9 +1,8 @@
 -- An option, or an option reply, whose head has come.
 use Rattle.nbd_session.proofs.Common.{◌≡◌, ℕ, ◌==◌, not, List, ◌++◌, length, refl, sym, ◌∙◌, ap, Option, Some, None, Bool, true, false, eqb-true, arith, if◌then◌else◌, WireFault, BadMagic, AnswerHead, ChoiceHead, ANSWER_MAGIC, OPTION_MAGIC, Profile, Exporting, is_error, number_at, Core, abort_answer, answer, choice, abort_fault, answer_fault, answer_head_fault, answer_last_fault, earlier_to, magic_fault, payload_fault, fault_if, Answer, Choice, expected_decision, some_if, success_fault_if, then_some}
+use Rattle.nbd_session.proofs.{parsing.LeadingLemmas.{answer_fields, choice_fields}, expecting.HeadLemmas.{after_head, fields_stay, none_read, some_read}}
 use Rattle.nbd_wire.specs.declared.message.Message.TheVariants as messages
 use Rattle.nbd_wire.specs.declared.options.TheConstants as options
-use Rattle.nbd_session.proofs.parsing.LeadingLemmas.{answer_fields, choice_fields}
-use Rattle.nbd_session.proofs.expecting.HeadLemmas.{after_head, fields_stay, none_read, some_read}
 
 pub no_choice : (head : List ℕ) → None ≡ some_if (number_at 0 8 head == OPTION_MAGIC) (choice_fields head) → (choice head).head_fault ≡ Some BadMagic
 no_choice head e = ap (λ b. fault_if (not b) BadMagic None) (none_read (number_at 0 8 head == OPTION_MAGIC) (choice_fields head) e)

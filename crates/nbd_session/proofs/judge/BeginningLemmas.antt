@@ -1,6 +1,5 @@
 -- A session before its first byte.
-use Rattle.nbd_session.proofs.Common.{arith, ◌≡◌, List, [], ◌∷◌, Option, Some, AreShown, export_in, Exchange, Exporting, refl, sym, ap, subst, None, Profile, Side, Client, Server, start_of, Monitor, Past, Follows, fresh_of, holding_of, incoming_of, bytes_come, nothing_come, IsKnown, decided, empty_session_of, known_if, slice_get, Shows, Holding, IsReadTo, Stands}
-use Rattle.nbd_session.proofs.judge.PieceLemmas.{kept}
+use Rattle.nbd_session.proofs.{Common.{arith, ◌≡◌, List, [], ◌∷◌, Option, Some, AreShown, export_in, Exchange, Exporting, refl, sym, ap, subst, None, Profile, Side, Client, Server, start_of, Monitor, Past, Follows, fresh_of, holding_of, incoming_of, bytes_come, nothing_come, IsKnown, decided, empty_session_of, known_if, slice_get, Shows, Holding, IsReadTo, Stands}, judge.PieceLemmas.kept}
 use Rattle.nbd_session.proofs.steps.KnownLemmas.{nothing_known}
 
 abbrev nothing : Past

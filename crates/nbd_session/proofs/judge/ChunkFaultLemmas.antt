@@ -1,5 +1,5 @@
 -- What a chunk and the end of its reply are refused for, by the sizes of pieces.
-use Rattle.nbd_session.proofs.Common.{and_parts, ◌≡◌, ◌⊎◌, ℕ, ◌+◌, ◌≤◌, ◌==◌, if◌then◌else◌, eqb-true, List, [], ◌∷◌, ◌++◌, length, min, refl, sym, ◌∙◌, ap, arith, Bool, true, false, not, ◌||◌, nat_le, Option, Some, None, fold, subst, add_assoc, zero-add, is_some, Message, Failure, Piece, content_of, failure_of, status_of, Operation, Exporting, has_failed, is_error_chunk, is_failing, is_proper, pieces, has, piece_size, chunk_piece, with_reply, WireFault, BadChunk, BadContent, option_to_list, Status, chunk_with, chunk_fails, chunk_gives, is_settled, status_in, done_by, elsewhere_fault, finish_by, is_status, lacks_by, chunk_fault_by, fault_if, chunk_fault, content_fault, done_fault, finish_fault, fits_failure, fits_read, fits_status, read_as, status_if, status_kind, total, any-snoc, or-false, proper-same, kind_content, kind_error, kind_status, no_other, Profile, pieces-snoc, failure_kind, no_content, none_content, status_content}
+use Rattle.nbd_session.proofs.Common.{and_parts, ◌≡◌, ◌⊎◌, ℕ, ◌+◌, ◌≤◌, ◌==◌, if◌then◌else◌, eqb-true, List, [], ◌∷◌, ◌++◌, length, min, refl, sym, ◌∙◌, ap, arith, Bool, true, false, not, ◌||◌, nat_le, Option, Some, None, fold, subst, add_assoc, zero-add, is_some, Message, Failure, Piece, content_of, failure_of, status_of, Operation, Exporting, has_failed, is_error_chunk, is_failing, is_proper, pieces, has, piece_size, with_reply, WireFault, BadChunk, BadContent, option_to_list, Status, chunk_with, chunk_fails, chunk_gives, is_settled, status_in, done_by, elsewhere_fault, finish_by, is_status, lacks_by, chunk_fault_by, fault_if, chunk_fault, content_fault, done_fault, finish_fault, fits_failure, fits_read, fits_status, read_as, status_if, status_kind, total, any-snoc, or-false, proper-same, kind_content, kind_error, kind_status, no_other, Profile, pieces-snoc, failure_kind, no_content, none_content, status_content}
 use Rattle.std.proofs.Common.{ne_eqb}
 use Rattle.nbd_wire.specs.declared.chunks.TheConstants as chunks
 
@@ -24,7 +24,7 @@ module _ (at : Option ℕ) (export : Exporting) (e : Operation) (flags kind cook
   abbrev with_this : Operation
   with_this = with_reply e this
 
-  total-more : (o : Option Piece) → content_of kind payload ≡ o → total (pieces with_this) ≡ total (pieces e) + total (chunk_piece o)
+  total-more : (o : Option Piece) → content_of kind payload ≡ o → total (pieces with_this) ≡ total (pieces e) + total (option_to_list o)
   total-more o q = grind (arith, pieces-snoc, total-append, chunk_gives)
 
   failed-more : has_failed with_this ≡ (has_failed e || is_error_chunk kind)
@@ -32,7 +32,7 @@ module _ (at : Option ℕ) (export : Exporting) (e : Operation) (flags kind cook
 
   -- the end of a reply after one more chunk without an error
   done-more : (o : Option Piece) → content_of kind payload ≡ o → is_error_chunk kind ≡ false → (done : Bool) →
-      done_fault done export with_this ≡ done_by done (finish_by e.command e.length (is_proper export e) (has_failed e) (total (pieces e) + total (chunk_piece o)) (lacks with_this))
+      done_fault done export with_this ≡ done_by done (finish_by e.command e.length (is_proper export e) (has_failed e) (total (pieces e) + total (option_to_list o)) (lacks with_this))
   done-more o q k done = grind (arith, proper-same, failed-more, or-false, total-more)
 
 -- a chunk of type NONE

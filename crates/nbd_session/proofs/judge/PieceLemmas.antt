@@ -1,11 +1,6 @@
 -- A piece of a side's bytes: how far it is taken at once, and what it adds.
 use Rattle.nbd_session.proofs.Common.{◌≡◌, ℕ, suc, ◌+◌, ◌<◌, ◌≤◌, List, [], ◌∷◌, ◌++◌, length, refl, sym, ◌∙◌, ap, subst, arith, append_assoc, append-nil, length-append, take, slice_index_or, Fits, w8, length-map, length-take-le, Message, Side, Client, Server, AreBytes, Pair, side_pairs, Stretch, mixture, SessionFault, Memory, Monitor, Past, min, count_at_server, with_incoming, sent, holding_of, incoming_of, incoming_with, IsCome, IsKnown, awaited, decided, IsFilled, Option, Some, None, Reader, get, Adds, AreKnown, Shows, AreStretchesOf, Holding, IsReadTo, rest_of, stretch_bytes, with_bytes, HoldsRun, IsKept, IsKeptBy, IsTaken, Stands, held_short, shown_length}
-use Rattle.nbd_session.proofs.steps.KnownLemmas.{come_with}
-use Rattle.nbd_session.proofs.steps.HoldingLemmas.{rest_is}
-use Rattle.nbd_session.proofs.steps.TakenLemmas.{taken_count, taken_here, taken_holding, taken_open, taken_other, taken_state}
-use Rattle.nbd_session.proofs.pushed.OpenByteLemmas.{read_is_run_but}
-use Rattle.nbd_session.proofs.pushed.PushLemmas.{first_fits, left_stretches, sent-append}
-use Rattle.nbd_session.proofs.steps.StepLemmas.{held_of}
+use Rattle.nbd_session.proofs.{steps.{KnownLemmas.come_with, HoldingLemmas.rest_is, TakenLemmas.{taken_count, taken_here, taken_holding, taken_open, taken_other, taken_state}, StepLemmas.held_of}, pushed.{OpenByteLemmas.read_is_run_but, PushLemmas.{first_fits, left_stretches, sent-append}}}
 
 -- the stretches' bytes are those of both sides
 pub length-mixed : (stretches : List Stretch) (client server : List ℕ) → AreStretchesOf stretches client server → length (mixture stretches client server) ≡ stretch_bytes Client stretches + stretch_bytes Server stretches

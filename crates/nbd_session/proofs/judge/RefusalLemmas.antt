@@ -1,10 +1,7 @@
 -- What a refusal says of the runs with a session's bytes.
-use Rattle.nbd_session.proofs.Common.{◌≡◌, ℕ, ◌+◌, ◌<◌, ◌≤◌, List, [], ◌∷◌, ◌++◌, length, refl, sym, ◌∙◌, ap, subst, arith, append_assoc, append-nil, length-append, inl, inr, Option, Some, None, Result, Ok, Err, Profile, Client, Server, Side, Message, Item, Completes, completed_messages, pairs, Pair, ArePairs, side_pairs, bytes_of, bytes_from, CompletesExactlyOf, IsOfNoRunOf, WireFault, Unfinished, AreHeld, awaited_length, IsFilled, Reader, fresh_of, get, old_of, on_ok, reads, step, IsRead, marks_law, SessionFault, Memory, Wire, Monitor, Past, Follows, past_of, IsUnderWayOf, read_no_place, EndsIn, IsAcceptedOf, IsComplete, IsOpenEndOf, IsRefusalOf, IsWireFaultOf, LeavesOpen, Refuses, IsCompleteBy, HasRunOf, IsOfRun, SessionView, bytes_taken, end_by, fault_at_end, pairs_of, open_end_fault, Holding, IsReadTo, with_bytes, IsKeptBy, Stands, bytes_come, reads_below, extended, reads-append, with_rest, exact, none_refused, AreBytesOf, run_bytes}
+use Rattle.nbd_session.proofs.Common.{◌⊎◌, ◌≡◌, ℕ, ◌+◌, ◌<◌, ◌≤◌, List, [], ◌∷◌, ◌++◌, length, refl, sym, ◌∙◌, ap, subst, arith, append_assoc, append-nil, length-append, inl, inr, Option, Some, None, Result, Ok, Err, Profile, Client, Server, Side, Message, Item, Completes, completed_messages, pairs, Pair, ArePairs, side_pairs, bytes_of, bytes_from, CompletesExactlyOf, IsOfNoRunOf, WireFault, Unfinished, AreHeld, awaited_length, IsFilled, Reader, fresh_of, get, old_of, on_ok, reads, step, IsRead, marks_law, SessionFault, Memory, Wire, Monitor, Past, Follows, past_of, IsUnderWayOf, read_no_place, EndsIn, IsAcceptedOf, IsComplete, IsOpenEndOf, IsRefusalOf, IsWireFaultOf, Refuses, IsCompleteBy, HasRunOf, IsOfRun, SessionView, bytes_taken, end_by, fault_at_end, pairs_of, open_end_fault, Holding, IsReadTo, with_bytes, IsKeptBy, Stands, bytes_come, reads_below, extended, reads-append, with_rest, exact, none_refused, AreBytesOf, run_bytes}
+use Rattle.nbd_session.proofs.{judge.PieceLemmas.kept_run, pushed.{OpenByteLemmas.{loose_is, read_holds}, PushLemmas.sent-append}, steps.StepLemmas.held_of}
 use Rattle.nbd_wire.specs.Prelude.{within, IsPlaceOf}
-use Rattle.nbd_session.proofs.judge.PieceLemmas.{kept_run}
-use Rattle.nbd_session.proofs.pushed.OpenByteLemmas.{loose_is, read_holds}
-use Rattle.nbd_session.proofs.pushed.PushLemmas.{sent-append}
-use Rattle.nbd_session.proofs.steps.StepLemmas.{held_of}
 
 -- the last of some bytes, and those before it
 record HasLast (bytes : List ℕ) : Type 0 where
@@ -124,7 +121,7 @@ opens {profile} ps messages client server u has =
     let holds = read_holds profile ps u.end messages u.end.rests.client.bytes u.end.rests.server.bytes u.are_pairs u.reads_it u.has_messages refl refl in
     (sym (loose_is Client has.items ps messages client _ has.has_pairs has.has_messages there.of_client (holds Client)), sym (loose_is Server has.items ps messages server _ has.has_pairs has.has_messages there.of_server (holds Server)))
 
-some_open : {profile : Profile} (ps : List Pair) (messages : List Message) (client server : List ℕ) → (u : IsUnderWayOf profile ps messages) → HasRunOf profile ps messages client server → ((client ≡ []) × (server ≡ []) → ⊥) → LeavesOpen u.end
+some_open : {profile : Profile} (ps : List Pair) (messages : List Message) (client server : List ℕ) → (u : IsUnderWayOf profile ps messages) → HasRunOf profile ps messages client server → ((client ≡ []) × (server ≡ []) → ⊥) → (u.end.rests.client.bytes ≡ [] → ⊥) ⊎ (u.end.rests.server.bytes ≡ [] → ⊥)
 some_open ps messages [] [] u has some = absurd (some (refl, refl))
 some_open ps messages (b ∷ client) server u has some = inl (λ e. (let q : b ∷ client ≡ [] = sym (opens ps messages (b ∷ client) server u has).0 ∙ e in cc))
 some_open ps messages [] (b ∷ server) u has some = inr (λ e. (let q : b ∷ server ≡ [] = sym (opens ps messages [] (b ∷ server) u has).1 ∙ e in cc))
@@ -179,7 +176,7 @@ ends held r f fault e = go r.closed refl (is_complete held r f)
   where
     refused : (other : SessionFault) → Refuses r other → EndsIn r other
     refused Memory why = tt
-    refused (Wire at fault) why = inl (record { prefix = pairs_of r; rest = []; parts = append-nil (pairs_of r); at_is = why.0; refusal = why.1 })
+    refused (Wire at fault) why = inl (pairs_of r, [], append-nil (pairs_of r), why.0, why.1)
 
     go : (c : Option SessionFault) → r.closed ≡ c → IsCompleteBy c r → EndsIn r fault
     go None unclosed accepted = unfinished_end r (is_of_run held r f) accepted fault (sym (ap (λ c. end_by c (open_end_fault r.client r.server (bytes_taken r))) unclosed) ∙ e)

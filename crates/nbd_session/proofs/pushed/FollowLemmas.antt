@@ -1,8 +1,6 @@
 -- A session that a monitor follows after a push.
 use Rattle.nbd_session.proofs.Common.{◌≡◌, ℕ, List, [], ◌∷◌, ◌++◌, refl, sym, ◌∙◌, ap, subst, append-nil, option_to_list, take, drop, take-append-drop, Option, Some, None, Result, Ok, Err, Message, Monitor, Past, Stretch, Side, Client, Server, SessionFault, Adds, Follows, IsComplete, IsCompleteBy, IsKept, IsPushed, Pair, side_pairs, bytes_come, bytes_from, completed, fault_of, mixture, pairs_of, sent, SessionView}
-use Rattle.nbd_session.proofs.judge.PieceLemmas.{kept_run}
-use Rattle.nbd_session.proofs.judge.RefusalLemmas.{is_complete}
-use Rattle.nbd_session.proofs.pushed.LogLemmas.{adds_nothing, messages_completed, pairs_completed, run_holds}
+use Rattle.nbd_session.proofs.{judge.{PieceLemmas.kept_run, RefusalLemmas.is_complete}, pushed.LogLemmas.{adds_nothing, messages_completed, pairs_completed, run_holds}}
 
 -- each byte is a stretch of its own
 abbrev singles : List Pair → List Stretch

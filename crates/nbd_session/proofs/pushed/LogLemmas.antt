@@ -1,9 +1,7 @@
 -- A session's log grows with what its monitor took.
 use Rattle.nbd_session.proofs.Common.{arith, ◌≡◌, ℕ, suc, ◌+◌, ◌-◌, ◌<◌, ◌≤◌, List, [], length-append, length-drop, SessionFault, ◌++◌, length, take, drop, refl, sym, ◌∙◌, ap, subst, append_assoc, append-nil, option_to_list, length-take-le, Option, Some, None, Memory, Message, Monitor, Past, Profile, Log, Side, Client, Server, Adds, AreStretchesOf, HasRunOf, HasStretches, IsKept, IsLogged, Pair, side_pairs, bytes_come, bytes_from, bytes_of, of_two, bytes_taken, completed, mixture, past_of, pairs_of, run_bytes, sent, session_view, stretch_bytes, stretches_of, stretches_with, with_more, SessionView}
+use Rattle.nbd_session.proofs.{judge.PieceLemmas.{closed_memory, kept_run, length-mixed, length-sent, stands_open}, pushed.{OpenByteLemmas.from_more, PushLemmas.{mixed-noted, stretches-noted}}}
 use Rattle.nbd_session.specs.declared.stretches.Stretch as program
-use Rattle.nbd_session.proofs.judge.PieceLemmas.{closed_memory, kept_run, length-mixed, length-sent, stands_open}
-use Rattle.nbd_session.proofs.pushed.OpenByteLemmas.{from_more}
-use Rattle.nbd_session.proofs.pushed.PushLemmas.{mixed-noted, stretches-noted}
 
 -- a side has no more bytes in the stretches than were taken
 pub stretches_within : (s : Side) (r : SessionView) → HasStretches r → stretch_bytes s r.stretches ≤ bytes_taken r

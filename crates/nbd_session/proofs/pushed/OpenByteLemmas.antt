@@ -1,8 +1,7 @@
 -- The bytes that belong to no completed message are the rests, and more of them may come.
 use Rattle.nbd_session.proofs.Common.{arith, ◌≡◌, ℕ, List, [], ◌∷◌, ◌++◌, map, refl, sym, ◌∙◌, ap, subst, Ok, append_assoc, append-nil, append_cancel_left, Profile, Side, Client, Server, Message, enc, Item, Byte, Completes, completed_messages, pairs, Pair, ArePairs, side_pairs, bytes_of, bytes_from, IsRunBut, Obeys, after, side, start_of, judge, Bad, Both, Reader, More, Reading, Rest, Whole, fresh_of, get, rest_with, on_ok, put, reads, settle, AreHeld, IsSound, IsSoundAt, Open, Walk, ended, final, held_more, held_whole, kept_next, loose, middle, opening, serving, with_byte, marked_is_walk, with_more, fresh_held, run_but_law, AreBytesOf, byte_from, bytes_from-cons, run_bytes, sound, IsNotBusy, walk_is_marked, of_two}
+use Rattle.nbd_session.proofs.pushed.{HoldingLemmas.{from-append, from-client_sent, from-sent_same, from-server_sent}, PushLemmas.bytes_of-snoc}
 use Rattle.nbd_wire.specs.Prelude.{with_message, State}
-use Rattle.nbd_session.proofs.pushed.HoldingLemmas.{from-append, from-client_sent, from-sent_same, from-server_sent}
-use Rattle.nbd_session.proofs.pushed.PushLemmas.{bytes_of-snoc}
 
 -- what a reader holds of a side's bytes
 abbrev pub held_bytes : Side → Reader → List ℕ

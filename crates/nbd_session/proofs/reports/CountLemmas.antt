@@ -1,5 +1,5 @@
 -- The request that a reply answers, by how many requests had completed when the reply started.
-use Rattle.nbd_session.proofs.Common.{◌≡◌, ℕ, suc, ◌+◌, ◌<◌, List, [], ◌∷◌, ◌++◌, length, refl, sym, subst, inl, inr, Option, Some, None, arith, append-nil, le-leb, lt-leb, Side, Server, Operation, Exporting, Core, Phase, Transmission, target, target_from, decision_by_count, operation_counted, within, operation_of, decision, decision_with, judge, More, Rest, old_of, Kept, Later, Later-trans, old-empty, old-filled, IsAppended, Later-appended, Later-turn, kept_later, turn_of_reading}
+use Rattle.nbd_session.proofs.Common.{Client, some_held, none_held, ◌≡◌, ℕ, suc, ◌+◌, ◌<◌, List, [], ◌∷◌, ◌++◌, length, refl, sym, subst, inl, inr, Option, Some, None, arith, append-nil, le-leb, lt-leb, Side, Server, Operation, Exporting, Core, Phase, Transmission, target, target_from, decision_by_count, operation_counted, within, operation_of, decision, decision_with, judge, More, Rest, old_of, Kept, Later, Later-trans, old-empty, old-filled, IsAppended, Later-appended, Later-turn, kept_later, turn_of_reading}
 use Rattle.nbd_laws.proofs.reading.ReaderLemmas.{Held}
 
 above : (n cookie : ℕ) (es : List Operation) (j : ℕ) → target_from n cookie es ≡ Some j → n < j
@@ -39,6 +39,11 @@ kept_appended {old} {now} {next} k m l =
 abbrev pub count_of : Core → Rest → ℕ
 count_of core rest = length (old_of core rest).entries
 
+held_appended : {core : Core} {s : Side} {rest : Rest} → Held core s rest → s ≡ Server → IsAppended (old_of core rest) core
+held_appended {s = Client} h q = absurd (cc)
+held_appended {core} {s = Server} {rest = rest} (none_held r e) q = subst (λ old. IsAppended old core) (sym (old-empty core rest e)) (none_added core)
+held_appended {core} {s = Server} {rest = rest} (some_held r now f k m l) q = subst (λ old. IsAppended old core) (sym (old-filled core rest f)) (kept_appended k m l)
+
 -- what is decided of a reader's rest, by the count
 pub held_counted : {core : Core} {s : Side} {rest : Rest} → Held core s rest → (bytes : List ℕ) → decision core.phase (old_of core rest) core s bytes ≡ decision_by_count (count_of core rest) core s bytes
-held_counted {core} {s} {rest} h bytes = grind (arith, decided_is_counted, old-empty, none_added, old-filled, kept_appended)
+held_counted {core} {s} {rest} h bytes = decided_is_counted core.phase (old_of core rest) core s bytes (λ export p q. held_appended h q)

@@ -1,7 +1,7 @@
 -- What a session that ends states is the report of the runs with its bytes.
 use Rattle.nbd_session.proofs.Common.{◌≡◌, ℕ, suc, ◌+◌, List, [], ◌∷◌, map, refl, sym, ◌∙◌, ap, subst, arith, Option, Some, None, slice_get, Item, pairs, report, asked_of, asked_list, Operation, Exporting, IsRunOf, IsRunBut, Core, Shown, export_in, Exchange, Follows, Monitor, State, past_of, IsOfRun, IsReported, SessionView, pairs_of, IsShown, AreKnown, AreShown, known_if, Shows, ended_if, shown_if, shown_in, IsSoundReport, Stands, report_of_request, export_of, transcript_report, reports_are_sound}
-use Rattle.nbd_laws.proofs.reading.NotedLemmas.{read_report, report_by}
 use Rattle.nbd_session.proofs.judge.RefusalLemmas.{is_of_run}
+use Rattle.nbd_laws.proofs.reading.NotedLemmas.{read_report, report_by}
 
 one_told : (export : Exporting) (e : Operation) (x : Exchange) (known : Option ℕ) (shown : List Shown) (ended : Option ℕ) → IsShown export e x → x.asked.known_at ≡ known → shown_in x.asked ≡ shown → x.asked.ended_at ≡ ended →
     report_of_request x.asked ≡ asked_of (Some export) known shown ended e

@@ -1,11 +1,6 @@
 -- A whole message is accepted.
 use Rattle.nbd_session.proofs.Common.{◌≡◌, List, [], length, refl, sym, ◌∙◌, ap, subst, inl, inr, Some, None, Message, Side, Client, Server, MayComplete, complete, IsSendable, Memory, Monitor, Past, Exchange, decision, Reader, Rest, Whole, get, old_of, State, MayTake, bytes_come, nothing_come, holding_of, incoming_of, IsKnown, decided, IsReached, at_once, behind, get-put_other, get-put_same, reached_of, same_or_not, AreKnown, Shows, Holding, IsReadTo, completed, count_at_server, rest_of, with_bytes, HoldsRun, IsShut, IsTaken, Stands, asks_only, noted, is_reply_to, is_this, suc, unnoted}
-use Rattle.nbd_session.proofs.judge.PieceLemmas.{read_run}
-use Rattle.nbd_session.proofs.reports.CountLemmas.{count_of}
-use Rattle.nbd_session.proofs.steps.HoldingLemmas.{rest_is}
-use Rattle.nbd_session.proofs.steps.KnownLemmas.{known_stays, nothing_known}
-use Rattle.nbd_session.proofs.steps.SettleLemmas.{IsRead, says_so}
-use Rattle.nbd_session.proofs.steps.StepLemmas.{IsWholeTaken, count_at, reader_behind, held_of, whole_taken, with_message}
+use Rattle.nbd_session.proofs.{judge.PieceLemmas.read_run, reports.CountLemmas.count_of, steps.{HoldingLemmas.rest_is, KnownLemmas.{known_stays, nothing_known}, SettleLemmas.{IsRead, says_so}, StepLemmas.{IsWholeTaken, count_at, reader_behind, held_of, whole_taken, with_message}}}
 
 module _ (held : Monitor) (s : Side) (past : Past) (t : IsTaken held s past) (m : Message) (whole : IsRead held s past t (Whole m)) where
   abbrev after : Holding

@@ -1,10 +1,6 @@
 -- What is decided of a side's bytes once they were taken.
 use Rattle.nbd_session.proofs.Common.{le-ltb, nat_lt, ◌≡◌, ℕ, ◌<◌, ◌≤◌, List, [], ◌∷◌, ◌++◌, length, sym, ◌∙◌, ap, subst, Option, Some, None, Bool, append-nil, arith, Result, Ok, Err, OnOk, false, is_err, same_Some, WireFault, Side, RequestHead, cookie_of, Core, chunk_cookie, shown_length, Answers, Shows, State, decision_by_count, Decision, reading_by_decision, Bad, IsFilled, More, Whole, Expected, SessionFault, Wire, Monitor, Past, IncomingView, bytes_come, HasHeadLength, IsExpectedOf, IsPlaced, IsRefusedHead, IsWholeHead, StandsIn, last_fault_by, message_of, payload_length_of, place_answered, request_with, incoming_of, with_expected, IsExpected, decided, is_come_by, Holding, count_at_server, IsExpecting, IsHeadRefused, IsShut, IsTaken, IsWhole, Knows, Stands, knows_by}
-use Rattle.nbd_session.proofs.expecting.ReplyLemmas.{placed_within}
-use Rattle.nbd_session.proofs.expecting.KnownLemmas.{expected_bad, expected_more, expected_whole, short_more}
-use Rattle.nbd_session.proofs.steps.HoldingLemmas.{holding_expected, incoming_here, incoming_other, rest_is, same_but}
-use Rattle.nbd_session.proofs.steps.SettleLemmas.{IsRead, settled_more, shut_wire}
-use Rattle.nbd_session.proofs.steps.StepLemmas.{decided_held}
+use Rattle.nbd_session.proofs.{expecting.{ReplyLemmas.placed_within, KnownLemmas.{expected_bad, expected_more, expected_whole, short_more}}, steps.{HoldingLemmas.{holding_expected, incoming_here, incoming_other, rest_is, same_but}, SettleLemmas.{IsRead, settled_more, shut_wire}, StepLemmas.decided_held}}
 
 -- the request that a reply answers has its exchange
 pub stands_in : (state : State) (core : Core) → Shows state core → (x : Expected) → IsPlaced core x → StandsIn state x

@@ -1,11 +1,6 @@
 -- A whole message was taken out of what has come of its side, and accepted.
-use Rattle.nbd_session.proofs.Common.{arith, ◌≡◌, ℕ, ◌∙◌, ap, refl, sym, subst, Option, Some, Memory, Whole, Message, Monitor, Past, Side, Core, Expected, Answers, AreKnown, IsKept, IsReached, IsSendable, IsWhole, MayComplete, MayTake, Shows, State, complete, completed, holding_of, incoming_of, is_reply_to, message_of, noted, nothing_come, place_answered, with_incoming}
-use Rattle.nbd_session.proofs.judge.PieceLemmas.{kept}
-use Rattle.nbd_session.proofs.steps.AcceptLemmas.{accepted_holding, accepted_shut, accepted_stands, may_take}
-use Rattle.nbd_session.proofs.steps.ConcludeLemmas.{answers_at, whole_read}
-use Rattle.nbd_session.proofs.steps.HoldingLemmas.{incoming_here, incoming_other, same_but}
-use Rattle.nbd_session.proofs.steps.SettleLemmas.{IsRead}
-use Rattle.nbd_session.proofs.steps.StepLemmas.{with_message}
+use Rattle.nbd_session.proofs.{Common.{arith, ◌≡◌, ℕ, ◌∙◌, ap, refl, sym, subst, Option, Some, Memory, Whole, Message, Monitor, Past, Side, Core, Expected, Answers, AreKnown, IsKept, IsReached, IsSendable, IsWhole, MayComplete, MayTake, Shows, State, complete, completed, holding_of, incoming_of, is_reply_to, message_of, noted, nothing_come, place_answered, with_incoming}, judge.PieceLemmas.kept}
+use Rattle.nbd_session.proofs.steps.{AcceptLemmas.{accepted_holding, accepted_shut, accepted_stands, may_take}, ConcludeLemmas.{answers_at, whole_read}, HoldingLemmas.{incoming_here, incoming_other, same_but}, SettleLemmas.IsRead, StepLemmas.with_message}
 
 same_incoming : (mid new : Monitor) → new.client ≡ mid.client → new.server ≡ mid.server → (u : Side) → incoming_of new u ≡ incoming_of mid u
 same_incoming mid new c v u = grind arith

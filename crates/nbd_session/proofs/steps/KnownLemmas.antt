@@ -1,11 +1,9 @@
 -- What is known of a side's bytes stays, where the other side's messages complete meanwhile.
-use Rattle.nbd_session.proofs.Common.{◌≡◌, ℕ, suc, ◌+◌, ◌<◌, ◌≤◌, List, [], ◌∷◌, ◌++◌, length, refl, sym, ◌∙◌, ap, subst, inl, inr, Option, Some, None, zero, Bool, true, false, arith, add-one, append-nil, length-append, lt-ltb, same_Some, Message, Side, Client, Server, Exporting, Operation, number_at, Core, Transmission, operation, awaited_length_by, awaited_length, Decision, operation_of, reply, reply_in, request, decision, request_unless, IsFilled, More, Rest, old_of, simple_fault, decision_of, IsAppended, Later-appended, Later-disconnected, Later-extended, Later-transmission, Later-turn, target-append, kept_later, turn_of_reading, IsDeciding, IsExtendedOrNot, bytes_are_begun, deciding, entry-append, extended_or_not, is_chunk_reply, is_extended_reply, is_no_extended, is_no_reply, is_simple_reply, long_reply, short_reply, Later, Later-trans, at_once, none_held, old-empty, old-filled, some_held, RequestHead, Expected, IsPlaced, chunk_fault_to, expected_decision, last_fault_by, message_of, payload_length_of, IncomingView, bytes_come, incoming_with, incoming_with_by, nothing_come, IsCome, IsExpected, IsKnown, IsShort, is_known_by}
+use Rattle.nbd_session.proofs.Common.{◌≡◌, ℕ, suc, ◌+◌, ◌<◌, ◌≤◌, List, [], ◌∷◌, ◌++◌, length, refl, sym, ◌∙◌, ap, subst, inl, inr, Option, Some, None, zero, Bool, true, false, arith, add-one, append-nil, length-append, lt-ltb, same_Some, Message, Side, Client, Server, Exporting, Operation, number_at, Core, Transmission, operation, awaited_length_by, awaited_length, Decision, operation_of, reply, reply_in, request_by, decision, request_unless, IsFilled, More, Rest, old_of, simple_fault, decision_of, IsAppended, Later-appended, Later-disconnected, Later-extended, Later-transmission, Later-turn, target-append, kept_later, turn_of_reading, IsDeciding, IsExtendedOrNot, bytes_are_begun, deciding, entry-append, extended_or_not, is_chunk_reply, is_extended_reply, is_no_extended, is_no_reply, is_simple_reply, long_reply, short_reply, Later, Later-trans, at_once, none_held, old-empty, old-filled, some_held, RequestHead, Expected, IsPlaced, chunk_fault_to, expected_decision, last_fault_by, message_of, payload_length_of, IncomingView, bytes_come, incoming_with, incoming_with_by, nothing_come, IsCome, IsExpected, IsKnown, IsShort, is_known_by}
+use Rattle.nbd_session.proofs.expecting.{KnownLemmas.expected_awaited, ReplyLemmas.placed_within}
 use Rattle.nbd_wire.specs.declared.message.Message.TheVariants as messages
-use Rattle.nbd_laws.proofs.judge.SteadyLemmas.{IsBegun}
-use Rattle.nbd_laws.proofs.reading.ReaderLemmas.{Held}
+use Rattle.nbd_laws.proofs.{judge.SteadyLemmas.IsBegun, reading.ReaderLemmas.Held}
 use Rattle.nbd_session.specs.declared.expected.Expected.TheVariants as expectations
-use Rattle.nbd_session.proofs.expecting.KnownLemmas.{expected_awaited}
-use Rattle.nbd_session.proofs.expecting.ReplyLemmas.{placed_within}
 
 -- where something is decided of a rest, it goes on as it began
 pub deciding_rest : {core : Core} {s : Side} {rest : Rest} → Held core s rest → (bytes : List ℕ) (d : Decision) → decision core.phase (old_of core rest) core s bytes ≡ Some d →
@@ -53,7 +51,7 @@ request_only : (x : Expected) (payload : List ℕ) (s : ℕ × ℕ) → sent (me
 request_only x payload s e = grind arith
 
 -- what is decided of a request is so of a request alone
-module _ (core : Core) (bytes payload : List ℕ) (h : ℕ) (x : Expected) (e : request core bytes ≡ expected_decision core x h payload) where
+module _ (core : Core) (bytes payload : List ℕ) (h : ℕ) (x : Expected) (e : request_by core.extended core bytes ≡ expected_decision core x h payload) where
   sent_here : sent (message_of x payload) ≡ Some (number_at 6 2 bytes, number_at 8 8 bytes)
   sent_here = grind arith
 

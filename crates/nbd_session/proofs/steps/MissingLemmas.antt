@@ -1,9 +1,7 @@
 -- How many bytes of a side are missing until something is decided of them.
 use Rattle.nbd_session.proofs.Common.{◌≡◌, ◌⊎◌, ℕ, ◌+◌, ◌<◌, List, [], ◌++◌, length, sym, ◌∙◌, ap, subst, inl, Option, Some, None, append-nil, arith, length-append, Bool, if◌then◌else◌, lt-ltb, Side, WireFault, Core, awaited_length_by, awaited_length, decision_by_count, Decision, judge, reading_by_decision, decision, Bad, IsFilled, More, Rest, get, old_of, held_short, in_head, deciding, at_once, none_held, old-empty, some_held, Shows, Expected, Monitor, Past, bytes_come, HasHeadLength, payload_length_of, holding_of, incoming_of, awaited, decided, is_known_by, count_at_server, Stands}
+use Rattle.nbd_session.proofs.{expecting.KnownLemmas.expected_awaited, steps.{HoldingLemmas.rest_is, StepLemmas.{decided_held, held_of}}}
 use Rattle.nbd_laws.proofs.reading.ReaderLemmas.{Held}
-use Rattle.nbd_session.proofs.expecting.KnownLemmas.{expected_awaited}
-use Rattle.nbd_session.proofs.steps.HoldingLemmas.{rest_is}
-use Rattle.nbd_session.proofs.steps.StepLemmas.{decided_held, held_of}
 
 -- bytes are judged to go on, or there are none and the side may not send
 abbrev IsOpen : Option Decision → List ℕ → Type 0

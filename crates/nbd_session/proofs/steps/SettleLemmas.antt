@@ -1,10 +1,7 @@
 -- What was taken of a side is judged.
 use Rattle.nbd_session.proofs.Common.{◌≡◌, length, refl, sym, subst, Option, Result, IfErr, IsErrAnd, arith, same_Some, Side, Client, Server, Memory, Wire, WireFault, SessionFault, Monitor, Past, judge, reading_by_decision, Bad, Reader, More, Reading, get, old_of, put, holding_of, incoming_of, Expected, bytes_come, IsKnown, decided, get-put_other, get-put_same, old-filled, same_or_not, Holding, IsReadTo, rest_of, with_bytes, HoldsRun, IsShut, IsTaken, Stands, knows_by, extended}
+use Rattle.nbd_session.proofs.{pushed.OpenByteLemmas.more_is_run_but, judge.RefusalLemmas.stopped, steps.{HoldingLemmas.rest_is, StepLemmas.{more_taken, pairs_taken, refused_taken}}}
 use Rattle.nbd_wire.specs.Prelude.{IsPlaceOf}
-use Rattle.nbd_session.proofs.pushed.OpenByteLemmas.{more_is_run_but}
-use Rattle.nbd_session.proofs.judge.RefusalLemmas.{stopped}
-use Rattle.nbd_session.proofs.steps.HoldingLemmas.{rest_is}
-use Rattle.nbd_session.proofs.steps.StepLemmas.{more_taken, pairs_taken, refused_taken}
 
 -- the judge's word on what was taken
 abbrev pub IsRead : (held : Monitor) (s : Side) (past : Past) → IsTaken held s past → Reading → Type 0

@@ -1,7 +1,6 @@
 -- What a session holds after one more piece, and after one more message.
 use Rattle.nbd_session.proofs.Common.{arith, ◌≡◌, ℕ, ◌≤◌, List, [], ◌∷◌, ◌++◌, length, refl, sym, ◌∙◌, ap, subst, Err, Some, Side, Client, Server, Message, AreBytes, Pair, ArePairs, side_pairs, Core, WireFault, awaited_length, decision_by_count, judge, decision, Reader, Rest, Reading, More, Whole, Bad, get, put, reads, fresh_of, old_of, settle, on_ok, IsFilled, IsSoundAt, AreHeld, reads_held, old-empty, old-filled, Holding, IsReadTo, Past, completed, rest_of, with_more, with_bytes, count_at_server, reads_up_to, judged_at_once, extended, reads-append, fresh_held, sound}
-use Rattle.nbd_session.proofs.reports.CountLemmas.{held_counted, count_of}
-use Rattle.nbd_session.proofs.steps.TakeLemmas.{kept_more}
+use Rattle.nbd_session.proofs.{reports.CountLemmas.{held_counted, count_of}, steps.TakeLemmas.kept_more}
 use Rattle.nbd_wire.specs.Prelude.{with_message as read_with}
 
 -- with a message of a side whose bytes were its rest

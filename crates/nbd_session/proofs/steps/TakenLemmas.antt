@@ -1,7 +1,6 @@
 -- What is held once more bytes of a side were taken.
 use Rattle.nbd_session.proofs.Common.{arith, ◌⊎◌, inl, inr, refl, ◌∷◌, ◌++◌, false, Some, Wire, Unfinished, open_end_fault, ◌==◌, ◌≡◌, ℕ, ◌+◌, List, [], length, sym, ◌∙◌, ap, Option, Bool, true, append_assoc, append-nil, Side, Server, Core, Decision, IncomingView, Monitor, Past, bytes_come, incoming_with, holding_of, incoming_of, with_incoming, sent, IsKnown, decided, count_at_server, with_bytes, Stands}
-use Rattle.nbd_session.proofs.steps.HoldingLemmas.{incoming_here, incoming_other, same_but}
-use Rattle.nbd_session.proofs.steps.IncomingLemmas.{none_of_known}
+use Rattle.nbd_session.proofs.steps.{HoldingLemmas.{incoming_here, incoming_other, same_but}, IncomingLemmas.none_of_known}
 
 module _ (decided : List ℕ → Option Decision) (core : Core) (v : IncomingView) (known : IsKnown decided core v) where
   pub count_same : (counted n : ℕ) → count_at_server Server v.head counted n ≡ count_at_server Server (bytes_come v) counted n

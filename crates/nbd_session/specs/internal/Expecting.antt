@@ -1,33 +1,16 @@
 -- What is expected of a message whose head has come: which message it is with the bytes after its head, how many those
 -- are, and what its last byte shows to be wrong.
-use Rattle.std.specs.Prelude.{◌≡◌, ◌⊎◌, ◌<◌, ◌≤◌, ◌+◌, ◌==◌, ◌++◌, ℕ, suc, List, Bool, true, false, Option, Some, None, length, if◌then◌else◌, min, slice_get}
-use Rattle.nbd_state.specs.Places.{place_at}
+use Rattle.std.specs.Prelude.{◌≡◌, ◌⊎◌, ◌<◌, ◌≤◌, ◌+◌, ◌==◌, ◌++◌, ℕ, suc, List, Bool, true, false, Option, Some, None, length, if◌then◌else◌, min, slice_get, not, ◌&&◌, ◌||◌}
+use Rattle.nbd_state.specs.{Places.{place_at, chunk_of, chunk_with}, Showing.IsShown, declared.{state.{Phase.Phase, State.State}, asked.Exchange.Exchange}, Shows.Shows}
 use Rattle.nbd_wire.specs.declared.chunks.TheConstants as chunks
-use Rattle.nbd_wire.specs.declared.fault.WireFault.{WireFault}
-use Rattle.nbd_wire.specs.declared.fault.WireFault.TheVariants.{BadMagic, OutOfProfile}
+use Rattle.nbd_wire.specs.declared.{fault.WireFault.{WireFault, TheVariants.{BadMagic, OutOfProfile}}, magics.TheConstants.{CHUNK_MAGIC, EXTENDED_CHUNK_MAGIC, SIMPLE_MAGIC}, message.{Message.Message, Side.{Side, TheVariants.{Client, Server}}}, profile.Profile.Profile, heads.transmission.{ChunkHead.ChunkHead, RequestHead.RequestHead}}
+use Rattle.nbd_wire.specs.{protocol.{Flags.{has, has_only}, Transmission.{chunk_head_fault, offset_fault, request_payload_length, simple_payload_length}}, Prelude.{Context, Exporting, Operation, Core, Transmission, operation, target, with_reply, Decision, begins, earlier_to, padding_fault, payload_fault, fault_if, chunk_fault, cookie_fault, is_too_large, read_as, simple_fault, simple_last_fault}}
+use Rattle.nbd_wire.specs.declared.handshake.TheConstants as handshake
 use Rattle.nbd_wire.specs.declared.head_lengths.TheConstants as head_lengths
-use Rattle.nbd_wire.specs.declared.magics.TheConstants.{CHUNK_MAGIC, EXTENDED_CHUNK_MAGIC, SIMPLE_MAGIC}
-use Rattle.nbd_wire.specs.declared.message.Message.{Message}
 use Rattle.nbd_wire.specs.declared.message.Message.TheVariants as messages
-use Rattle.nbd_wire.specs.declared.message.Side.{Side}
-use Rattle.nbd_wire.specs.declared.profile.Profile.{Profile}
-use Rattle.nbd_wire.specs.Prelude.{Context, Exporting, Operation, Core, Transmission, operation, target, with_reply, Decision, begins, earlier_to, padding_fault, payload_fault, fault_if, chunk_fault, cookie_fault, is_too_large, read_as, simple_fault, simple_last_fault}
 use Rattle.nbd_wire.specs.protocol.States as definitions
-use Rattle.nbd_session.specs.internal.Counted.{decision_by_count, operation_counted}
-use Rattle.nbd_wire.specs.protocol.Transmission.{chunk_head_fault, extended_payload_length, offset_fault, request_payload_length, simple_payload_length}
-use Rattle.nbd_wire.specs.declared.message.Side.TheVariants.{Client, Server}
-use Rattle.nbd_session.specs.internal.Leading.{request_head_length}
-use Rattle.nbd_state.specs.Heads.{chunk_of, chunk_with}
-use Rattle.nbd_state.specs.Showing.{IsShown}
-use Rattle.nbd_state.specs.declared.state.Phase.{Phase}
+use Rattle.nbd_session.specs.{internal.{decision_by_count, operation_counted, Leading.request_head_length}, declared.expected.Expected.{Expected, TheVariants.{Greeting, ClientFlags, Choice, Answer, Exported, Request, Simple, Chunk}}}
 use Rattle.nbd_state.specs.declared.state.Phase.TheVariants as program
-use Rattle.nbd_state.specs.declared.state.State.{State}
-use Rattle.nbd_state.specs.Shows.{Shows}
-use Rattle.nbd_state.specs.declared.asked.Exchange.{Exchange}
-use Rattle.nbd_wire.specs.declared.heads.transmission.ChunkHead.{ChunkHead}
-use Rattle.nbd_wire.specs.declared.heads.transmission.RequestHead.{RequestHead}
-use Rattle.nbd_session.specs.declared.expected.Expected.{Expected}
-use Rattle.nbd_session.specs.declared.expected.Expected.TheVariants.{Greeting, ClientFlags, Choice, Answer, Exported, Request, Simple, Chunk}
 
 -- a request; the length of one without an extended header has 32 bits
 abbrev pub request_with : (extended : Bool) → RequestHead → List ℕ → Message
@@ -47,11 +30,6 @@ message_of (Request head) payload = request_with head.extended head payload
 message_of (Simple head place len) payload = messages.Simple head.error head.cookie payload
 message_of (Chunk head place) payload = chunk_of head payload
 
--- how many bytes come after the head of a request
-abbrev pub request_length : (extended : Bool) → (flags command len : ℕ) → ℕ
-request_length false flags command len = request_payload_length command len
-request_length true flags command len = extended_payload_length flags command len
-
 -- how many bytes come after its head
 abbrev pub payload_length_of : Expected → ℕ
 payload_length_of (Greeting flags) = 0
@@ -59,9 +37,15 @@ payload_length_of (ClientFlags flags) = 0
 payload_length_of (Choice head) = head.length
 payload_length_of (Answer head proper) = head.length
 payload_length_of (Exported size flags padded) = if padded then head_lengths.PADDING else 0
-payload_length_of (Request head) = request_length head.extended head.flags head.command head.length
+payload_length_of (Request head) = request_payload_length head.extended head.flags head.command head.length
 payload_length_of (Simple head place len) = len
 payload_length_of (Chunk head place) = head.length
+
+-- the client's flags have one that is unknown, or that the server did not offer
+abbrev pub sets_more : (offered flags : ℕ) → Bool
+sets_more offered flags =
+    not (has_only flags (handshake.C_FIXED_NEWSTYLE + handshake.C_NO_ZEROES))
+    || (has flags handshake.C_NO_ZEROES && not (has offered handshake.NO_ZEROES))
 
 abbrev pub success_fault_if : Profile → List Context → Option Bool → (kind : ℕ) → List ℕ → Option WireFault
 success_fault_if profile earlier (Some proper) kind payload = payload_fault profile earlier proper kind payload
@@ -94,7 +78,8 @@ is_too_long (Some offset) len = is_too_large len
 
 -- what the head of a chunk shows to be wrong
 abbrev pub head_fault_by : (at : Option ℕ) → (structured : Bool) → Option Operation → (len : ℕ) → Option WireFault
-head_fault_by at structured to len = fault_if (is_too_long at len) OutOfProfile (chunk_head_fault structured to)
+head_fault_by at structured to len =
+    fault_if (is_too_long at len) OutOfProfile (chunk_head_fault false structured to len)
 
 -- what its last byte shows to be wrong, where so much has completed
 abbrev pub last_fault_by : definitions.Phase → Core → Expected → List ℕ → Option WireFault
@@ -142,8 +127,7 @@ abbrev pub IsExpectedOf : (counted : ℕ) → Core → Side → (head : List ℕ
 IsExpectedOf counted core s head expected = (payload : List ℕ) →
     decision_by_count counted core s (head ++ payload) ≡ Some (expected_decision core expected (length head) payload)
 
--- the place of the request that a cookie names, of those up to the count, where an exchange shows it; none where it
--- names none
+-- the place of the request that a cookie names, of those up to the count, where an exchange shows it; none for no name
 abbrev pub IsPlaceOf : Exporting → Core → (counted cookie : ℕ) → List Exchange → Option ℕ → Type 0
 IsPlaceOf export core counted cookie exchanges None = operation_counted counted core cookie ≡ None
 IsPlaceOf export core counted cookie exchanges (Some place) =

@@ -1,11 +1,8 @@
 -- What is known of the bytes that have come of a side, by what its head says.
 use Rattle.std.specs.Prelude.{◌≡◌, ◌<◌, ◌≤◌, ◌++◌, ℕ, List, [], Option, Some, None, length}
-use Rattle.nbd_wire.specs.declared.message.Side.{Side}
-use Rattle.nbd_wire.specs.Prelude.{Core, Decision, decision, IsFilled, Reader, get, old_of}
-use Rattle.nbd_laws.specs.Awaited.{awaited_length}
-use Rattle.nbd_session.specs.declared.expected.Expected.{Expected}
-use Rattle.nbd_session.specs.Incoming.{IncomingView}
-use Rattle.nbd_session.specs.internal.Expecting.{IsPlaced, expected_decision, payload_length_of}
+use Rattle.nbd_wire.specs.{declared.message.Side.{Side, TheVariants.{Client, Server}}, Prelude.{Core, Decision, IsFilled, Reader, get, old_of}}
+use Rattle.nbd_laws.specs.Reached.{decision, awaited_length}
+use Rattle.nbd_session.specs.{declared.{expected.Expected.Expected, monitor.Monitor.Monitor}, Incoming.{IncomingView, bytes_come}, internal.{Expecting.{IsPlaced, expected_decision, payload_length_of}, Standing.{Holding, Past}}}
 
 -- what is decided of these bytes of a side, where the reader stands
 abbrev pub decided : Reader → Side → List ℕ → Option Decision
@@ -43,3 +40,26 @@ is_come_by decided core head payload None = (payload ≡ [])
 -- where bytes were taken up to the awaited length
 abbrev pub IsCome : (decided : List ℕ → Option Decision) → Core → IncomingView → Type 0
 IsCome decided core v = is_come_by decided core v.head v.payload v.expected
+
+abbrev pub holding_of : Monitor → Past → Holding
+holding_of held past = record {
+  profile = held.state.profile;
+  past = past;
+  client = bytes_come held.client;
+  server = bytes_come held.server;
+  counted = held.counted;
+}
+
+-- what has come of a side after its messages
+abbrev pub incoming_of : Monitor → Side → IncomingView
+incoming_of held Client = held.client
+incoming_of held Server = held.server
+
+-- a side's replaced
+abbrev pub with_incoming : Monitor → Side → IncomingView → Monitor
+with_incoming held Client v = record held { client = v }
+with_incoming held Server v = record held { server = v }
+
+-- where a side's head says this
+abbrev pub with_expected : Monitor → Side → Option Expected → Monitor
+with_expected held s expected = with_incoming held s (record (incoming_of held s) { expected = expected })

@@ -1,9 +1,6 @@
 -- What a side's bytes state once they are as long as a head.
 use Rattle.std.specs.Prelude.{ℕ, List, Bool, true, false, ◌==◌, Option, Some, None}
-use Rattle.nbd_wire.specs.declared.magics.TheConstants.{REQUEST_MAGIC, CHUNK_MAGIC, EXTENDED_REQUEST_MAGIC, EXTENDED_CHUNK_MAGIC}
-use Rattle.nbd_wire.specs.declared.heads.transmission.RequestHead.{RequestHead}
-use Rattle.nbd_wire.specs.declared.heads.transmission.ChunkHead.{ChunkHead}
-use Rattle.nbd_wire.specs.Prelude.{number_at}
+use Rattle.nbd_wire.specs.{declared.{magics.TheConstants.{REQUEST_MAGIC, CHUNK_MAGIC, EXTENDED_REQUEST_MAGIC, EXTENDED_CHUNK_MAGIC}, heads.transmission.{RequestHead.RequestHead, ChunkHead.ChunkHead}}, Prelude.number_at}
 
 -- this value where the condition holds
 abbrev pub some_if : {A : Type 0} → Bool → A → Option A

@@ -1,10 +1,6 @@
 -- What a monitor of a session under way holds, and what the reading reader has read of it.
 use Rattle.std.specs.Prelude.{◌≡◌, ℕ, List, [], ◌∷◌, ◌++◌, if◌then◌else◌, length, Ok, Option, Some, None}
-use Rattle.nbd_wire.specs.declared.profile.Profile.{Profile}
-use Rattle.nbd_wire.specs.declared.message.Side.{Side}
-use Rattle.nbd_wire.specs.declared.message.Side.TheVariants.{Client, Server}
-use Rattle.nbd_wire.specs.declared.message.Message.{Message}
-use Rattle.nbd_wire.specs.Prelude.{Pair, ArePairs, side_pairs, same_side, Reader, get, reads, fresh_of, IsFilled}
+use Rattle.nbd_wire.specs.{declared.{profile.Profile.Profile, message.{Side.{Side, TheVariants.{Client, Server}}, Message.Message}}, Prelude.{Pair, ArePairs, side_pairs, same_side, Reader, get, reads, fresh_of, IsFilled}}
 
 -- what was given so far: the bytes with their senders, and the messages that completed
 pub record Past : Type 0 where

@@ -1,18 +1,8 @@
 -- What holds of a monitor and the past between two steps, and of one that is closed.
 use Rattle.std.specs.Prelude.{◌≡◌, ◌<◌, ◌≤◌, ◌++◌, ℕ, List, [], length, Option, Some, None}
-use Rattle.nbd_wire.specs.declared.fault.WireFault.{WireFault}
-use Rattle.nbd_wire.specs.Prelude.{Core, AreBytes, Decision, reading_by_decision, Bad, IsPlaceOf, IsFilled, Reader, get}
-use Rattle.nbd_session.specs.declared.expected.Expected.{Expected}
-use Rattle.nbd_wire.specs.declared.message.Side.{Side}
-use Rattle.nbd_session.specs.declared.fault.SessionFault.{SessionFault}
-use Rattle.nbd_session.specs.declared.fault.SessionFault.TheVariants.{Memory, Wire}
-use Rattle.nbd_session.specs.declared.monitor.Monitor.{Monitor}
-use Rattle.nbd_session.specs.internal.Holdings.{holding_of, incoming_of}
-use Rattle.nbd_session.specs.internal.Known.{IsCome, IsExpected, IsKnown, awaited, decided}
-use Rattle.nbd_session.specs.internal.Expecting.{last_fault_by, payload_length_of}
-use Rattle.nbd_session.specs.Sessions.{HasRunOf}
+use Rattle.nbd_wire.specs.{declared.{fault.WireFault.WireFault, message.Side.Side}, Prelude.{Core, AreBytes, Decision, reading_by_decision, Bad, IsPlaceOf, IsFilled, Reader, get}}
+use Rattle.nbd_session.specs.{declared.{expected.Expected.Expected, fault.SessionFault.{SessionFault, TheVariants.{Memory, Wire}}, monitor.Monitor.Monitor}, internal.{Known.{holding_of, incoming_of, IsCome, IsExpected, IsKnown, awaited, decided}, Expecting.{last_fault_by, payload_length_of}, Standing.{Holding, IsReadTo, Past, with_bytes}}, Sessions.HasRunOf}
 use Rattle.nbd_state.specs.Shows.{AreKnown, Shows}
-use Rattle.nbd_session.specs.internal.Standing.{Holding, IsReadTo, Past, with_bytes}
 
 -- under way
 pub record Stands (held : Monitor) (past : Past) : Type 0 where

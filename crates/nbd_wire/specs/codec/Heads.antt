@@ -2,7 +2,7 @@
 -- which is read as the message's own fields, and after it what follows.
 use Rattle.std.specs.Prelude.{◌≡◌, ℕ, ◌<◌, ◌^◌, List, true, false, Some, None, length}
 use Rattle.nbd_wire.specs.declared.{heads.{negotiation.{ChoiceHead.ChoiceHead, AnswerHead.AnswerHead}, transmission.{RequestHead.RequestHead, SimpleHead.SimpleHead, ChunkHead.ChunkHead}}, message.Message.{Message, TheVariants.{Greeting, ClientFlags, Choice, Answer, Exported, Request, Simple, Chunk, ExtendedRequest, ExtendedChunk}}, head_lengths.TheConstants.{GREETING, CLIENT_FLAGS, CHOICE, ANSWER, EXPORT, REQUEST, SIMPLE, CHUNK, EXTENDED_REQUEST, EXTENDED_CHUNK}}
-use Rattle.nbd_wire.specs.protocol.Layouts.{greeting_bytes, client_flags_bytes, choice_bytes, answer_bytes, export_bytes, request_bytes, simple_bytes, chunk_bytes, extended_request_bytes, extended_chunk_bytes}
+use Rattle.nbd_wire.specs.codec.Layouts.{greeting_bytes, client_flags_bytes, choice_bytes, answer_bytes, export_bytes, request_bytes, simple_bytes, chunk_bytes, extended_request_bytes, extended_chunk_bytes}
 
 -- a greeting (proto.md, "Newstyle negotiation")
 unfoldable pub IsGreetingHead : ℕ → List ℕ → Type 0

@@ -1,22 +1,32 @@
 -- The bytes of a message.
 use Rattle.std.specs.Prelude.{ℕ, List, ◌++◌, ◌<◌, ◌∷◌, [], replicate, if◌then◌else◌, length}
-use Rattle.nbd_wire.specs.protocol.Layouts.{greeting_bytes, client_flags_bytes, choice_bytes, answer_bytes, export_bytes, request_bytes, simple_bytes, chunk_bytes, extended_request_bytes, extended_chunk_bytes}
-use Rattle.nbd_wire.specs.declared.{head_lengths.TheConstants.PADDING, message.Message.{Message, TheVariants.{Greeting, ClientFlags, Choice, Answer, Exported, Request, Simple, Chunk, ExtendedRequest, ExtendedChunk}}}
+use Rattle.nbd_wire.specs.declared.{head_lengths.TheConstants.PADDING, message.Message.{Message, TheVariants.{Greeting, ClientFlags, Choice, Answer, Exported, Request, Simple, Chunk, ExtendedRequest, ExtendedChunk}}, magics.TheConstants.{GREETING_MAGIC, OPTION_MAGIC, ANSWER_MAGIC, REQUEST_MAGIC, SIMPLE_MAGIC, CHUNK_MAGIC, EXTENDED_REQUEST_MAGIC, EXTENDED_CHUNK_MAGIC}}
+use Rattle.byteorder.specs.Endian.{big_bytes}
 
--- the fixed part of a message (proto.md, "Newstyle negotiation", "Request message", "Simple reply message",
--- "Structured reply chunk message")
+-- the fixed part of a message, from the numbers in it to its bytes; numbers are big-endian (proto.md, "Newstyle
+-- negotiation", "Fixed newstyle negotiation", "Request message", "Simple reply message", "Structured reply chunk
+-- message"; of extended headers it has the magic numbers, "Reserved Magic values", and the layout is that which libnbd
+-- and qemu have)
 unfoldable pub head : Message → List ℕ
-head (Greeting flags) = greeting_bytes flags
-head (ClientFlags flags) = client_flags_bytes flags
-head (Choice id payload) = choice_bytes id (length payload)
-head (Answer option kind payload) = answer_bytes option kind (length payload)
-head (Exported size flags padded) = export_bytes size flags
-head (Request flags command cookie offset len payload) = request_bytes flags command cookie offset len
-head (Simple error cookie payload) = simple_bytes error cookie
-head (Chunk flags kind cookie payload) = chunk_bytes flags kind cookie (length payload)
-head (ExtendedRequest flags command cookie offset len payload) = extended_request_bytes flags command cookie offset len
+head (Greeting flags) = big_bytes 8 GREETING_MAGIC ++ big_bytes 8 OPTION_MAGIC ++ big_bytes 2 flags
+head (ClientFlags flags) = big_bytes 4 flags
+head (Choice id payload) = big_bytes 8 OPTION_MAGIC ++ big_bytes 4 id ++ big_bytes 4 (length payload)
+head (Answer option kind payload) =
+    big_bytes 8 ANSWER_MAGIC ++ big_bytes 4 option ++ big_bytes 4 kind ++ big_bytes 4 (length payload)
+head (Exported size flags padded) = big_bytes 8 size ++ big_bytes 2 flags
+head (Request flags command cookie offset len payload) =
+    big_bytes 4 REQUEST_MAGIC ++ big_bytes 2 flags ++ big_bytes 2 command ++ big_bytes 8 cookie ++ big_bytes 8 offset
+    ++ big_bytes 4 len
+head (Simple error cookie payload) = big_bytes 4 SIMPLE_MAGIC ++ big_bytes 4 error ++ big_bytes 8 cookie
+head (Chunk flags kind cookie payload) =
+    big_bytes 4 CHUNK_MAGIC ++ big_bytes 2 flags ++ big_bytes 2 kind ++ big_bytes 8 cookie
+    ++ big_bytes 4 (length payload)
+head (ExtendedRequest flags command cookie offset len payload) =
+    big_bytes 4 EXTENDED_REQUEST_MAGIC ++ big_bytes 2 flags ++ big_bytes 2 command ++ big_bytes 8 cookie
+    ++ big_bytes 8 offset ++ big_bytes 8 len
 head (ExtendedChunk flags kind cookie offset payload) =
-    extended_chunk_bytes flags kind cookie offset (length payload)
+    big_bytes 4 EXTENDED_CHUNK_MAGIC ++ big_bytes 2 flags ++ big_bytes 2 kind ++ big_bytes 8 cookie
+    ++ big_bytes 8 offset ++ big_bytes 8 (length payload)
 
 -- what follows the fixed part: a payload, or the 124 zeroes (proto.md, "Newstyle negotiation")
 unfoldable pub tail : Message → List ℕ

@@ -59,14 +59,7 @@ IsMisplaced within before k (Some p) =
     ⊎ ((x : ℕ) × IsTrue (is_in p.offset p.length x) × (within x ≡ false))
     ⊎ ((x : ℕ) × IsTrue (is_in p.offset p.length x) × IsTrue (is_served before k x))
 
--- the entry repeats one of those before it
-abbrev pub IsTwice : List Entry → Entry → Type 0
-IsTwice before e = IsAgain before e.request e.part
-
--- the entry has a part that may not be served after the entries before it
-abbrev pub HasBadPart : (within : ℕ → Bool) → List Entry → Entry → Type 0
-HasBadPart within before e = IsMisplaced within before e.request e.part
-
 -- the entry may be served after those before it
 abbrev pub MayServe : (within : ℕ → Bool) → List Entry → Entry → Type 0
-MayServe within before e = (IsTwice before e → ⊥) × (HasBadPart within before e → ⊥)
+MayServe within before e =
+    (IsAgain before e.request e.part → ⊥) × (IsMisplaced within before e.request e.part → ⊥)

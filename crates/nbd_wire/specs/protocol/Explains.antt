@@ -1,5 +1,5 @@
 -- What it means that an order of service explains a capture.
-use Rattle.std.specs.Prelude.{ℕ, List, ◌≡◌, Option, Some, None, length, map, slice_get}
+use Rattle.std.specs.Prelude.{ℕ, List, ◌≡◌, Option, Some, None, length, map, slice_get, unwrap_or}
 use Rattle.nbd_wire.specs.{declared.{entry.Entry.Entry, profile.Profile.Profile}, protocol.{ExportBytes.{IsWrong, effects}, Marks.{Item, pairs, service_order}, Captures.Pair, Reports.{Report, report}, Operations.Exporting, Rules.IsRunOf}}
 
 -- what the export held at first: unknown bytes, zeroes, or each of its bytes in order, None where it is unknown
@@ -12,16 +12,11 @@ pub data Start : Type 0 where
 abbrev pub image : List ℕ → Start
 image bytes = Held (map Some bytes)
 
--- what is known of a byte, where there is one
-abbrev pub known : Option (Option ℕ) → Option ℕ
-known (Some byte) = byte
-known None = None
-
 -- the byte at x of the start, if it is known
 abbrev pub start_byte : Start → ℕ → Option ℕ
 start_byte Unknown x = None
 start_byte Zeroes x = Some 0
-start_byte (Held bytes) x = known (slice_get bytes x)
+start_byte (Held bytes) x = unwrap_or (slice_get bytes x) None
 
 -- bytes that are given have the size of the export; nothing is asked where there is no export or no bytes are given
 abbrev pub FitsImage : Option Exporting → Start → Type 0

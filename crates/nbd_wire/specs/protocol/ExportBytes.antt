@@ -1,5 +1,5 @@
 -- The export's bytes, looked up backwards from an entry of the order of service.
-use Rattle.std.specs.Prelude.{ℕ, List, [], ◌∷◌, ◌≡◌, ◌⊎◌, ◌-◌, ◌==◌, ◌&&◌, Bool, true, false, if◌then◌else◌, Option, Some, None, slice_get, take, IsTrue, is_some}
+use Rattle.std.specs.Prelude.{ℕ, List, [], ◌∷◌, ◌≡◌, ◌⊎◌, ◌-◌, ◌==◌, ◌&&◌, Bool, true, false, if◌then◌else◌, Option, Some, None, slice_get, take, IsTrue, is_some, option_map}
 use Rattle.nbd_wire.specs.declared.commands.TheConstants as commands
 use Rattle.nbd_wire.specs.{declared.entry.{Entry.Entry, Part.Part}, protocol.{Entries.in_part, Reports.{Asked, Report, asked_at}, Operations.{Outcome, Success, is_change}, Pieces.{byte_at, is_in}}}
 
@@ -28,14 +28,9 @@ effect a = record {
   read = byte_at a.pieces;
 }
 
--- the same, of a request if there is one
-abbrev pub effect_if : Option Asked → Option Effect
-effect_if (Some a) = Some (effect a)
-effect_if None = None
-
 -- the requests of a report, by number
 abbrev pub effects : Report → ℕ → Option Effect
-effects r k = effect_if (asked_at k r.asked)
+effects r k = option_map effect (asked_at k r.asked)
 
 -- the request has x in its range, and an entry with this part serves x of it
 abbrev pub serves : Option Part → Effect → ℕ → Bool
@@ -45,16 +40,12 @@ serves p e x = is_in e.offset e.length x && in_part p x
 abbrev pub touches : Option Part → Effect → ℕ → Bool
 touches p e x = is_change e.command && serves p e x
 
--- a successful WRITE leaves its byte, a successful WRITE_ZEROES a zero, and all else an unknown one
-abbrev pub new_byte : (succeeded : Bool) (command offset : ℕ) (payload : List ℕ) → ℕ → Option ℕ
-new_byte true command offset payload x =
-    if command == commands.WRITE then slice_get payload
-    (x - offset) else if command == commands.WRITE_ZEROES then Some 0 else None
-new_byte false command offset payload x = None
-
--- the byte that a change leaves at an offset that it touches
+-- the byte that a change leaves at an offset that it touches: a successful WRITE its byte, a successful WRITE_ZEROES a
+-- zero, and all else an unknown one
 abbrev pub effect_byte : Effect → ℕ → Option ℕ
-effect_byte e x = new_byte e.succeeded e.command e.offset e.payload x
+effect_byte e x =
+    if e.succeeded && (e.command == commands.WRITE) then slice_get e.payload (x - e.offset)
+    else if e.succeeded && (e.command == commands.WRITE_ZEROES) then Some 0 else None
 
 -- the request, where an entry with this part touches x
 abbrev pub touch_of : Option Part → Option Effect → ℕ → Option Effect

@@ -52,14 +52,10 @@ pub record IsSided (s : Side) (items : List Item) (rest : List ℕ) : Type 0 whe
   pub messages : List Message
   pub blocks : of_side s items ≡ flat_map (block s) messages ++ map (λ b. Byte s b) rest
 
--- the item is a byte of this side
-abbrev pub IsByteOf : Side → Item → Type 0
-IsByteOf s (Byte t b) = s ≡ t
-IsByteOf s _ = ⊥
-
 -- which items may stand side by side: a message starts just before its first byte and completes just after its last
 abbrev pub MayFollow : Item → Item → Type 0
-MayFollow (Starts s m) next = IsByteOf s next
+MayFollow (Starts s m) (Byte t b) = s ≡ t
+MayFollow (Starts s m) next = ⊥
 MayFollow (Byte s b) (Completes t m) = s ≡ t
 MayFollow item (Completes t m) = ⊥
 MayFollow item _ = Unit {0}

@@ -1,24 +1,11 @@
 -- What is refused of a message of the negotiation, in lists of tests (`Tests`), each with its section of proto.md.
-use Rattle.std.specs.Prelude.{ℕ, List, [], ◌+◌, Bool, true, false, not, ◌&&◌, ◌||◌, ◌==◌, if◌then◌else◌, nat_lt, Option, Some, None}
-use Rattle.std.specs.List.{list_all}
+use Rattle.std.specs.{Prelude.{ℕ, List, [], ◌+◌, Bool, true, false, not, ◌&&◌, ◌||◌, ◌==◌, if◌then◌else◌, nat_lt, Option, Some, None}, List.list_all}
 use Rattle.nbd_wire.specs.declared.answers.TheConstants as answers
 use Rattle.nbd_wire.specs.declared.handshake.TheConstants as handshake
-use Rattle.nbd_wire.specs.declared.limits.TheConstants.{EXPORT_SIZE}
+use Rattle.nbd_wire.specs.declared.{limits.TheConstants.EXPORT_SIZE, payloads.Info.{Info, TheVariants.{Export, BlockSize, Other}}, profile.Profile.{Profile, TheVariants.{Base, Wide}}, fault.WireFault.{WireFault, TheVariants.{NotFixedNewstyle, BadClientFlags, WrongOption, BadReplyKind, OutOfProfile, BadReplyPayload, MissingExportInfo, BadExport, ExportTooLarge, SuccessOfImproper}}}
+use Rattle.nbd_wire.specs.protocol.{Options.is_error, Contexts.{Context, Selection, has_id}, Payloads.{context_of, info_of, is_listed}, Operations.Exporting, Sizes.are_allowed, Flags.{has, has_only}, Tests.{◌when◌else◌}}
 use Rattle.nbd_wire.specs.declared.options.TheConstants as options
-use Rattle.nbd_wire.specs.declared.payloads.Info.{Info}
-use Rattle.nbd_wire.specs.declared.payloads.Info.TheVariants.{Export, BlockSize, Other}
 use Rattle.nbd_wire.specs.declared.transmission.TheConstants as transmission
-use Rattle.nbd_wire.specs.declared.profile.Profile.{Profile}
-use Rattle.nbd_wire.specs.declared.profile.Profile.TheVariants.{Base, Wide}
-use Rattle.nbd_wire.specs.declared.fault.WireFault.{WireFault}
-use Rattle.nbd_wire.specs.declared.fault.WireFault.TheVariants.{NotFixedNewstyle, BadClientFlags, WrongOption, BadReplyKind, OutOfProfile, BadReplyPayload, MissingExportInfo, BadExport, ExportTooLarge, SuccessOfImproper}
-use Rattle.nbd_wire.specs.protocol.Options.{is_error}
-use Rattle.nbd_wire.specs.protocol.Contexts.{Context, Selection, has_id}
-use Rattle.nbd_wire.specs.protocol.Payloads.{context_of, info_of, is_listed}
-use Rattle.nbd_wire.specs.protocol.Operations.{Exporting}
-use Rattle.nbd_wire.specs.protocol.Sizes.{are_allowed}
-use Rattle.nbd_wire.specs.protocol.Flags.{has, has_only}
-use Rattle.nbd_wire.specs.protocol.Tests.{◌when◌else◌}
 
 -- a greeting, at its head
 abbrev pub greeting_fault : (flags : ℕ) → Option WireFault
@@ -27,19 +14,14 @@ greeting_fault flags =
     NotFixedNewstyle when not (has flags handshake.FIXED_NEWSTYLE) else
     None
 
--- a flag that is unknown, or that the server did not offer ("Client flags")
-abbrev pub sets_more : (offered flags : ℕ) → Bool
-sets_more offered flags =
-    not (has_only flags (handshake.C_FIXED_NEWSTYLE + handshake.C_NO_ZEROES))
-    || (has flags handshake.C_NO_ZEROES && not (has offered handshake.NO_ZEROES))
-
 -- the client's flags
 abbrev pub client_flags_fault : (offered flags : ℕ) → Option WireFault
 client_flags_fault offered flags =
     -- no fixed newstyle ("Client flags")
     NotFixedNewstyle when not (has flags handshake.C_FIXED_NEWSTYLE) else
-    -- more than was offered ("Client flags")
-    BadClientFlags when sets_more offered flags else
+    -- a flag that is unknown, or that the server did not offer ("Client flags")
+    BadClientFlags when not (has_only flags (handshake.C_FIXED_NEWSTYLE + handshake.C_NO_ZEROES))
+    || (has flags handshake.C_NO_ZEROES && not (has offered handshake.NO_ZEROES)) else
     None
 
 -- the answer to EXPORT_NAME, at its head
@@ -119,8 +101,7 @@ info_fault option proper (Some export) =
     None
 
 -- an answer that is no error, at its head, by its kind
-abbrev pub success_fault : Profile → (option : ℕ) (proper takes : Bool) (info : Option Exporting) (kind len : ℕ)
-    → Option WireFault
+abbrev pub success_fault : Profile → ℕ → (proper takes : Bool) → Option Exporting → (kind len : ℕ) → Option WireFault
 success_fault profile option proper takes info kind len =
     -- the option is not followed (this project's choice)
     OutOfProfile when not (is_followed profile option) else
@@ -169,7 +150,6 @@ answer_head_fault profile asked proper takes info option kind len =
     answer_fault asked option (if is_error kind then None else success_fault profile asked proper takes info kind len)
 
 -- and at its last byte: what is selected
-abbrev pub answer_last_fault : Profile → (asked : ℕ) (proper : Bool) → Selection → (kind : ℕ) → List ℕ
-    → Option WireFault
+abbrev pub answer_last_fault : Profile → ℕ → (proper : Bool) → Selection → (kind : ℕ) → List ℕ → Option WireFault
 answer_last_fault profile asked proper selection kind payload =
     if is_error kind then None else payload_fault profile (earlier_to asked selection) proper kind payload

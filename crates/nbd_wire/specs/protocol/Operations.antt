@@ -1,5 +1,5 @@
 -- A numbered request, its replies, and what became of it.
-use Rattle.std.specs.Prelude.{ℕ, List, [], ◌∷◌, ◌++◌, ◌+◌, Bool, true, false, Option, Some, None, length, not, ◌&&◌, ◌||◌, ◌==◌, nat_le, if◌then◌else◌, IsTrue, is_some}
+use Rattle.std.specs.{Prelude.{ℕ, List, ◌+◌, Bool, true, false, Option, Some, None, length, not, ◌&&◌, ◌||◌, ◌==◌, nat_le, if◌then◌else◌, IsTrue, is_some}, List.{flat_map, list_any}}
 use Rattle.nbd_wire.specs.{declared.{message.Message.{Message, TheVariants.{Simple, Chunk, ExtendedChunk}}, profile.Profile.{Profile, TheVariants.{Base, Wide}}, payloads.Piece.Piece, sizes.Sizes.Sizes}, protocol.{Contexts.{Context, Filter, are_once, has_id}, Sizes.breaks_sizes, Flags.{has, has_only}, Pieces.{piece_of, is_in, byte_at}}}
 use Rattle.nbd_wire.specs.declared.chunks.TheConstants as chunks
 use Rattle.nbd_wire.specs.declared.command_flags.TheConstants as command_flags
@@ -45,18 +45,13 @@ is_failing (Chunk flags kind cookie payload) = is_error_chunk kind
 is_failing (ExtendedChunk flags kind cookie at payload) = is_error_chunk kind
 is_failing _ = false
 
--- one of the messages has the property
-abbrev pub any : (Message → Bool) → List Message → Bool
-any p [] = false
-any p (m ∷ messages) = p m || any p messages
-
 -- the reply is finished: the request is no longer outstanding
 abbrev pub is_finished : Operation → Bool
-is_finished e = any ends_reply e.replies
+is_finished e = list_any ends_reply e.replies
 
 -- one of its replies states a failure
 abbrev pub has_failed : Operation → Bool
-has_failed e = any is_failing e.replies
+has_failed e = list_any is_failing e.replies
 
 -- what became of a request
 pub data Outcome : Type 0 where
@@ -66,14 +61,9 @@ pub data Outcome : Type 0 where
 abbrev pub outcome : Operation → Outcome
 outcome e = if is_finished e then (if has_failed e then Failure else Success) else Pending
 
--- what these messages give, one after the other
-abbrev pub pieces_of : ℕ → List Message → List Piece
-pieces_of offset [] = []
-pieces_of offset (m ∷ messages) = piece_of offset m ++ pieces_of offset messages
-
 -- the pieces of a request's reply, in the order of their completion
 abbrev pub pieces : Operation → List Piece
-pieces e = pieces_of e.offset e.replies
+pieces e = flat_map (piece_of e.offset) e.replies
 
 -- each offset of the request's range lies in a piece
 abbrev pub Covers : Operation → List Piece → Type 0
@@ -114,10 +104,6 @@ is_offered export command =
     && (not (command == commands.TRIM) || has export transmission.SEND_TRIM)
     && (not (command == commands.WRITE_ZEROES) || has export transmission.SEND_WRITE_ZEROES)
 
--- a mask where a condition holds, no flag otherwise
-abbrev pub mask_if : Bool → ℕ → ℕ
-mask_if b mask = if b then mask else 0
-
 -- a filter that a client may send: the server offers BLOCK_STATUS_PAYLOAD, each id is that of a context in force, and
 -- none comes twice among them (proto.md, "Transmission flags", has the flag's number; the rest is this project's
 -- choice, read from libnbd and qemu, and so is that there may be no id, which qemu refuses)
@@ -133,12 +119,13 @@ may_carry export e = (e.extended && (e.command == commands.WRITE)) || takes_filt
 -- the flags that a request of this type may have (proto.md, "Command flags"), by whether PAYLOAD_LEN is one
 abbrev pub allowed_flags : (carries : Bool) (export command : ℕ) → ℕ
 allowed_flags carries export command =
-    mask_if carries command_flags.PAYLOAD_LEN
-    + mask_if (has export transmission.SEND_FUA) command_flags.FUA
-    + mask_if (command == commands.WRITE_ZEROES) command_flags.NO_HOLE
-    + mask_if ((command == commands.READ) && has export transmission.SEND_DF) command_flags.DF
-    + mask_if ((command == commands.WRITE_ZEROES) && has export transmission.SEND_FAST_ZERO) command_flags.FAST_ZERO
-    + mask_if (command == commands.BLOCK_STATUS) command_flags.REQ_ONE
+    (if carries then command_flags.PAYLOAD_LEN else 0)
+    + (if has export transmission.SEND_FUA then command_flags.FUA else 0)
+    + (if command == commands.WRITE_ZEROES then command_flags.NO_HOLE else 0)
+    + (if (command == commands.READ) && has export transmission.SEND_DF then command_flags.DF else 0)
+    + (if (command == commands.WRITE_ZEROES) && has export transmission.SEND_FAST_ZERO then command_flags.FAST_ZERO
+    else 0)
+    + (if command == commands.BLOCK_STATUS then command_flags.REQ_ONE else 0)
 
 -- a request that a client should send: of a known type, its range inside the export, offered, no
 -- change of a read-only export, with allowed flags, and a FLUSH with offset 0 and length 0 (proto.md,

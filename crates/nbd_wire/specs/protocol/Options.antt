@@ -1,7 +1,7 @@
 -- The turns of negotiation (proto.md, "Fixed newstyle negotiation", "Option types", "Option reply types").
-use Rattle.std.specs.{Prelude.{ℕ, List, [], ◌∷◌, ◌++◌, ◌==◌, ◌&&◌, ◌||◌, not, Bool, true, false, if◌then◌else◌, Option, Some, None, length, is_some}, Str.bytes_eq}
+use Rattle.std.specs.{Prelude.{ℕ, List, [], ◌++◌, ◌==◌, ◌&&◌, ◌||◌, not, Bool, true, false, if◌then◌else◌, Option, Some, None, length, is_some, option_to_list, unwrap_or}, Str.bytes_eq}
 use Rattle.nbd_wire.specs.declared.{message.{Side.{Side, TheVariants.{Client, Server}}, Message.{Message, TheVariants.{Greeting, ClientFlags, Choice, Answer, Exported}}}, payloads.Info.{Info, TheVariants.Export}}
-use Rattle.nbd_wire.specs.protocol.{Contexts.{Context, Selection}, Payloads.{context_of, info_of, is_go, name_in, queries_of}, Operations.Exporting, Flags.has, States.{Phase, Greet, Flags, Choosing, Naming, Aborting, Answering, Ended, Transmission}}
+use Rattle.nbd_wire.specs.protocol.{Contexts.Selection, Payloads.{context_of, info_of, is_go, name_in, queries_of}, Operations.Exporting, Flags.has, States.{Phase, Greet, Flags, Choosing, Naming, Aborting, Answering, Ended, Transmission}}
 use Rattle.nbd_wire.specs.declared.answers.TheConstants as answers
 use Rattle.nbd_wire.specs.declared.options.TheConstants as options
 
@@ -17,9 +17,7 @@ is_proper_option option payload =
     else if (option == options.LIST) || ((option == options.STRUCTURED_REPLY) || (option == options.EXTENDED_HEADERS))
     then length payload == 0
     else if (option == options.INFO) || (option == options.GO) then is_go payload
-    else if (option == options.LIST_META_CONTEXT) || (option == options.SET_META_CONTEXT) then is_some
-    (queries_of payload)
-    else false
+    else ((option == options.LIST_META_CONTEXT) || (option == options.SET_META_CONTEXT)) && is_some (queries_of payload)
 
 -- whose turn it is in a phase of the negotiation
 abbrev pub turn : Phase → Option Side
@@ -29,17 +27,12 @@ turn Ended = None
 turn (Transmission _) = None
 turn _ = Some Server
 
--- so many queries are none
-abbrev pub asks_nothing : Option ℕ → Bool
-asks_nothing (Some count) = count == 0
-asks_nothing None = false
-
 -- the option takes META_CONTEXT: LIST_META_CONTEXT, and SET_META_CONTEXT unless its data has the form and no query
 -- (proto.md, "Option types", "Metadata querying")
 abbrev pub takes_contexts : (option : ℕ) (payload : List ℕ) → Bool
 takes_contexts option payload =
     (option == options.LIST_META_CONTEXT)
-    || ((option == options.SET_META_CONTEXT) && not (asks_nothing (queries_of payload)))
+    || ((option == options.SET_META_CONTEXT) && not (unwrap_or (queries_of payload) 1 == 0))
 
 -- the selection once an option is chosen: SET_META_CONTEXT replaces it, whatever its answer (proto.md, "Option types")
 abbrev pub selection_at : (id : ℕ) (payload : List ℕ) → Selection → Selection
@@ -48,15 +41,11 @@ selection_at id payload selection =
     record { export_name = name_in payload; contexts = []; granted = false }
     else selection
 
--- one more context
-abbrev pub with_context : Option Context → Selection → Selection
-with_context (Some context) selection = record selection { contexts = selection.contexts ++ context ∷ [] }
-with_context None selection = selection
-
 -- what is selected after an answer to SET_META_CONTEXT of this kind
 abbrev pub selection_told : (kind : ℕ) (answer : List ℕ) → Selection → Selection
 selection_told kind answer selection =
-    if kind == answers.META_CONTEXT then with_context (context_of answer) selection
+    if kind == answers.META_CONTEXT then
+    record selection { contexts = selection.contexts ++ option_to_list (context_of answer) }
     else if kind == answers.ACK then record selection { granted = true }
     else selection
 

@@ -2,7 +2,7 @@
 -- request which offsets lie inside it, and `due` of a request and an offset how many requests had completed when it had
 -- to be served there; a number that is no offset inside stands for the request itself.
 use Rattle.std.specs.Prelude.{ℕ, List, ◌≡◌, ◌+◌, ◌<◌, ◌≤◌, ◌⊎◌, Bool, Option, Some, IsTrue, drop, slice_get, take}
-use Rattle.nbd_wire.specs.{declared.entry.Entry.Entry, protocol.Entries.{HasBadPart, IsServedAt, IsTwice, Names, is_served}}
+use Rattle.nbd_wire.specs.{declared.{entry.Entry.Entry, verdict.OrderFault.{OrderFault, TheVariants.{NoSuchRequest, Twice, Late, Missing, BadPart, NotCovered}}}, protocol.Entries.{IsServedAt, Names, is_served, IsAgain, IsMisplaced}}
 
 -- the least number with the property
 abbrev pub IsFirst : (ℕ → Type 0) → ℕ → Type 0
@@ -14,11 +14,12 @@ NamesNone count order i = (e : Entry) × (slice_get order i ≡ Some e) × ((e.r
 
 -- entry i repeats an earlier one
 abbrev pub NamesAgain : List Entry → ℕ → Type 0
-NamesAgain order i = (e : Entry) × (slice_get order i ≡ Some e) × IsTwice (take i order) e
+NamesAgain order i = (e : Entry) × (slice_get order i ≡ Some e) × IsAgain (take i order) e.request e.part
 
 -- entry i has a part that may not be served after the entries before it
 abbrev pub IsBadPart : (inside : ℕ → ℕ → Bool) → List Entry → ℕ → Type 0
-IsBadPart inside order i = (e : Entry) × (slice_get order i ≡ Some e) × HasBadPart (inside e.request) (take i order) e
+IsBadPart inside order i =
+    (e : Entry) × (slice_get order i ≡ Some e) × IsMisplaced (inside e.request) (take i order) e.request e.part
 
 -- entry i has one of these three faults
 abbrev pub IsBad : ℕ → (inside : ℕ → ℕ → Bool) → List Entry → ℕ → Type 0
@@ -53,39 +54,25 @@ pub record HasNoOrderFault (count : ℕ) (due : ℕ → ℕ → Option ℕ) (ins
   pub none_late : (i : ℕ) → IsLate due order i → ⊥
   pub served : (k x : ℕ) → IsDue count due k x → IsServedAt (inside k) order k x
 
--- NoSuchRequest is answered with this entry, counted from 1: no earlier entry is bad
-abbrev pub FirstNoSuchRequest : ℕ → (inside : ℕ → ℕ → Bool) → List Entry → ℕ → Type 0
-FirstNoSuchRequest count inside order entry =
-    (i : ℕ) × (entry ≡ i + 1) × NamesNone count order i × ((j : ℕ) → j < i → IsBad count inside order j → ⊥)
-
--- Twice is answered with this entry, counted from 1
-abbrev pub FirstTwice : ℕ → (inside : ℕ → ℕ → Bool) → List Entry → ℕ → Type 0
-FirstTwice count inside order entry = (i : ℕ) × (entry ≡ i + 1) × NamesAgain order i
-    × ((j : ℕ) → j < i → IsBad count inside order j → ⊥)
-
--- BadPart is answered with this entry, counted from 1, where it has neither of these
-abbrev pub FirstBadPart : ℕ → (inside : ℕ → ℕ → Bool) → List Entry → ℕ → Type 0
-FirstBadPart count inside order entry =
-    (i : ℕ) × (entry ≡ i + 1) × IsBadPart inside order i × (NamesNone count order i → ⊥) × (NamesAgain order i → ⊥)
-    × ((j : ℕ) → j < i → IsBad count inside order j → ⊥)
-
--- Late is answered with this entry, counted from 1, where no entry is bad
-abbrev pub FirstLate : ℕ → (due : ℕ → ℕ → Option ℕ) → (inside : ℕ → ℕ → Bool) → List Entry → ℕ → Type 0
-FirstLate count due inside order entry =
-    (i : ℕ) × (entry ≡ i + 1) × ((j : ℕ) → IsBad count inside order j → ⊥) × IsFirst (IsLate due order) i
-
 -- no entry is bad and none is late, and each request below this one is served as it has to be
 abbrev pub IsElseServed : ℕ → (due : ℕ → ℕ → Option ℕ) → (inside : ℕ → ℕ → Bool) → List Entry → ℕ → Type 0
 IsElseServed count due inside order request =
     ((j : ℕ) → IsBad count inside order j → ⊥) × ((j : ℕ) → IsLate due order j → ⊥)
     × ((k : ℕ) → k < request → IsUnserved count due inside order k → ⊥)
 
--- Missing is answered with this request's number
-abbrev pub LeastMissing : ℕ → (due : ℕ → ℕ → Option ℕ) → (inside : ℕ → ℕ → Bool) → List Entry → ℕ → Type 0
-LeastMissing count due inside order request =
-    IsElseServed count due inside order request × IsMissing count due order request
-
--- NotCovered is answered with this request's number
-abbrev pub LeastNotCovered : ℕ → (due : ℕ → ℕ → Option ℕ) → (inside : ℕ → ℕ → Bool) → List Entry → ℕ → Type 0
-LeastNotCovered count due inside order request =
-    IsElseServed count due inside order request × IsNotCovered count due inside order request
+-- the order is answered with this fault at this entry, counted from 1, and at no earlier one; with Missing and
+-- NotCovered at the request with this number, where no entry is at fault
+abbrev pub IsFaultAt : ℕ → (due : ℕ → ℕ → Option ℕ) → (inside : ℕ → ℕ → Bool) → List Entry → ℕ → OrderFault → Type 0
+IsFaultAt count due inside order at NoSuchRequest =
+    (i : ℕ) × (at ≡ i + 1) × NamesNone count order i × ((j : ℕ) → j < i → IsBad count inside order j → ⊥)
+IsFaultAt count due inside order at Twice =
+    (i : ℕ) × (at ≡ i + 1) × NamesAgain order i × ((j : ℕ) → j < i → IsBad count inside order j → ⊥)
+IsFaultAt count due inside order at BadPart =
+    (i : ℕ) × (at ≡ i + 1) × IsBadPart inside order i × (NamesNone count order i → ⊥) × (NamesAgain order i → ⊥)
+    × ((j : ℕ) → j < i → IsBad count inside order j → ⊥)
+IsFaultAt count due inside order at Late =
+    (i : ℕ) × (at ≡ i + 1) × ((j : ℕ) → IsBad count inside order j → ⊥) × IsFirst (IsLate due order) i
+IsFaultAt count due inside order at Missing =
+    IsElseServed count due inside order at × IsMissing count due order at
+IsFaultAt count due inside order at NotCovered =
+    IsElseServed count due inside order at × IsNotCovered count due inside order at

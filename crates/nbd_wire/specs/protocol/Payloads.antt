@@ -116,12 +116,9 @@ has_empty extents = list_any (λ (x : Extent). x.length == 0) extents
 -- a BLOCK_STATUS chunk: an id, and one or more descriptors, none of them empty (proto.md, "Structured reply types"); a
 -- BLOCK_STATUS_EXT chunk: an id, a count of descriptors, and these (this project's choice: proto.md has its number)
 unfoldable pub status_of : (extended : Bool) → List ℕ → Option Status
-status_of false bytes =
-    let rest : List ℕ = drop 4 bytes in
-    if not (nat_le 12 (length bytes)) || not (length rest % 8 == 0) || has_empty (extents_of false rest) then None
-    else Some (record { id = number_at 0 4 bytes; extents = extents_of false rest })
-status_of true bytes =
-    let rest : List ℕ = drop 8 bytes in
-    if not (nat_le 24 (length bytes)) || not (length rest == 16 * number_at 4 4 bytes)
-    || has_empty (extents_of true rest) then None
-    else Some (record { id = number_at 0 4 bytes; extents = extents_of true rest })
+status_of extended bytes =
+    let rest : List ℕ = drop (if extended then 8 else 4) bytes in
+    let is_whole : Bool = if extended then length rest == 16 * number_at 4 4 bytes else length rest % 8 == 0 in
+    if not (nat_le (if extended then 24 else 12) (length bytes)) || not is_whole || has_empty (extents_of extended rest)
+    then None
+    else Some (record { id = number_at 0 4 bytes; extents = extents_of extended rest })

@@ -1,5 +1,5 @@
 -- What a READ was answered, in pieces, and what they give at an offset (proto.md, "Structured reply types").
-use Rattle.std.specs.Prelude.{ℕ, List, [], ◌∷◌, ◌≡◌, ◌+◌, ◌-◌, Bool, ◌&&◌, nat_le, nat_lt, if◌then◌else◌, Option, Some, None, length, IsTrue, slice_index}
+use Rattle.std.specs.Prelude.{ℕ, List, [], ◌∷◌, ◌≡◌, ◌+◌, ◌-◌, Bool, ◌&&◌, nat_le, nat_lt, if◌then◌else◌, Option, Some, None, length, IsTrue, slice_index, option_to_list}
 use Rattle.nbd_wire.specs.{declared.{message.Message.{Message, TheVariants.{Simple, Chunk, ExtendedChunk}}, payloads.Piece.{Piece, TheVariants.{Bytes, Hole}}}, protocol.Payloads.content_of}
 
 -- the bytes of a simple reply as a piece: none where it has none
@@ -7,16 +7,11 @@ abbrev pub simple_piece : ℕ → List ℕ → List Piece
 simple_piece offset [] = []
 simple_piece offset (b ∷ bytes) = Bytes offset (b ∷ bytes) ∷ []
 
--- the piece of a content chunk
-abbrev pub chunk_piece : Option Piece → List Piece
-chunk_piece (Some piece) = piece ∷ []
-chunk_piece None = []
-
 -- what one reply message gives to a READ at this offset
 unfoldable pub piece_of : ℕ → Message → List Piece
 piece_of offset (Simple error cookie payload) = simple_piece offset payload
-piece_of offset (Chunk flags kind cookie payload) = chunk_piece (content_of kind payload)
-piece_of offset (ExtendedChunk flags kind cookie at payload) = chunk_piece (content_of kind payload)
+piece_of offset (Chunk flags kind cookie payload) = option_to_list (content_of kind payload)
+piece_of offset (ExtendedChunk flags kind cookie at payload) = option_to_list (content_of kind payload)
 piece_of offset _ = []
 
 -- where a piece begins, in bytes from the start of the export

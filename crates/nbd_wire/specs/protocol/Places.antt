@@ -1,11 +1,6 @@
 -- Where reading refuses: the place of a refusal, and a session under way.
 use Rattle.std.specs.Prelude.{List, [], ◌∷◌, ◌++◌, ◌≡◌, Ok, Err}
-use Rattle.nbd_wire.specs.declared.fault.WireFault.{WireFault}
-use Rattle.nbd_wire.specs.declared.message.Message.{Message}
-use Rattle.nbd_wire.specs.declared.profile.Profile.{Profile}
-use Rattle.nbd_wire.specs.declared.profile.Profile.TheVariants.{Base}
-use Rattle.nbd_wire.specs.protocol.Captures.{Pair, ArePairs}
-use Rattle.nbd_wire.specs.protocol.Reading.{Reader, fresh_of, reads, step}
+use Rattle.nbd_wire.specs.{declared.{fault.WireFault.WireFault, message.Message.Message, profile.Profile.{Profile, TheVariants.Base}}, protocol.{Captures.{Pair, ArePairs}, Reading.{Reader, fresh_of, reads, step}}}
 
 -- a session of the profile under way: these bytes are read without a fault, with these messages
 pub record IsUnderWayOf (profile : Profile) (ps : List Pair) (messages : List Message) : Type 0 where

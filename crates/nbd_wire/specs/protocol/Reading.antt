@@ -1,15 +1,7 @@
 -- Reading: byte after byte, what is decided of a side's bytes (`Decisions`). A head is judged at its last byte, and a
 -- message at the last of all.
-use Rattle.std.specs.Prelude.{ℕ, List, [], ◌∷◌, ◌++◌, Option, None, Result, Ok, Err, length}
-use Rattle.nbd_wire.specs.declared.fault.WireFault.{WireFault}
-use Rattle.nbd_wire.specs.declared.message.Message.{Message}
-use Rattle.nbd_wire.specs.declared.message.Side.{Side}
-use Rattle.nbd_wire.specs.declared.message.Side.TheVariants.{Client, Server}
-use Rattle.nbd_wire.specs.declared.profile.Profile.{Profile}
-use Rattle.nbd_wire.specs.protocol.Captures.{Pair}
-use Rattle.nbd_wire.specs.protocol.Decisions.{Reading, More, Whole, Bad, judge}
-use Rattle.nbd_wire.specs.protocol.Rules.{complete, is_reply_to, noted}
-use Rattle.nbd_wire.specs.protocol.States.{Core, start_of}
+use Rattle.std.specs.Prelude.{ℕ, List, [], ◌∷◌, ◌++◌, Option, None, Result, Ok, Err, length, ◌==◌, if◌then◌else◌}
+use Rattle.nbd_wire.specs.{declared.{fault.WireFault.WireFault, message.{Message.Message, Side.{Side, TheVariants.{Client, Server}}}, profile.Profile.Profile}, protocol.{Captures.Pair, Decisions.{Reading, More, Whole, Bad, judge_in}, Rules.{complete, is_reply_to, noted}, States.{Core, start_of}}}
 
 -- one of each side
 pub record Both (A : Type 0) : Type 0 where
@@ -44,14 +36,9 @@ pub record Reader : Type 0 where
   pub messages : List Message
   pub known : ℕ → Option ℕ
 
--- what had completed before the first byte of these, or now where there is none
-abbrev pub old_by : List ℕ → Core → Core → Core
-old_by [] core old = core
-old_by (b ∷ bs) core old = old
-
--- the same of a side's bytes
+-- what had completed before the first of a side's bytes, or now where there is none
 abbrev pub old_of : Core → Rest → Core
-old_of core rest = old_by rest.bytes core rest.since
+old_of core rest = if length rest.bytes == 0 then core else rest.since
 
 -- once a message of a side is whole
 abbrev pub with_message : Reader → Side → Rest → Message → Reader
@@ -76,7 +63,7 @@ rest_with core rest b = record { bytes = rest.bytes ++ b ∷ []; since = old_of 
 abbrev pub step : Reader → Side → ℕ → Result Reader WireFault
 step reader s b =
     let rest : Rest = rest_with reader.core (get reader.rests s) b in
-    settle reader s rest (judge rest.since reader.core s rest.bytes)
+    settle reader s rest (judge_in reader.core.phase rest.since reader.core s rest.bytes)
 
 -- goes on where nothing is refused
 abbrev pub on_ok : Result Reader WireFault → (Reader → Result Reader WireFault) → Result Reader WireFault

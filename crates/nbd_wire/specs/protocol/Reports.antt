@@ -79,10 +79,9 @@ asked_list k core known_at (e ∷ entries) =
 
 -- the export and the numbered requests that a run leads to
 unfoldable pub report : List Item → Report
-report items = record {
-  export = export_of items;
-  asked = asked_list 0 (ends_at start items).core (known_count items) (operations_of items);
-}
+report items =
+    let core : Core = (ends_at start items).core in
+    record { export = export_in core.phase; asked = asked_list 0 core (known_count items) core.entries }
 
 -- request k of these, counted from 1
 abbrev pub asked_at : ℕ → List Asked → Option Asked

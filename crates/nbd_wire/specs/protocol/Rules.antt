@@ -1,27 +1,11 @@
 -- What a run is: a marked capture whose marks obey the rules of the protocol profile.
-use Rattle.std.specs.Prelude.{ℕ, List, [], ◌∷◌, ◌++◌, ◌≡◌, ◌<◌, ◌≤◌, ◌==◌, ◌&&◌, ◌||◌, not, Bool, true, false, Option, Some, None, length, IsTrue, is_some, map, if◌then◌else◌}
-use Rattle.nbd_wire.specs.declared.message.Side.{Side}
-use Rattle.nbd_wire.specs.declared.message.Side.TheVariants.{Client, Server}
-use Rattle.nbd_wire.specs.declared.message.Message.{Message}
-use Rattle.nbd_wire.specs.declared.message.Message.TheVariants.{Greeting, ClientFlags, Choice, Answer, Exported, Request, Simple, Chunk, ExtendedRequest, ExtendedChunk}
+use Rattle.std.specs.Prelude.{ℕ, List, [], ◌∷◌, ◌++◌, ◌≡◌, ◌<◌, ◌≤◌, ◌==◌, ◌&&◌, ◌||◌, not, Bool, true, false, Option, Some, None, length, IsTrue, is_some, map, option_and_then, if◌then◌else◌}
+use Rattle.nbd_wire.specs.declared.{message.{Side.{Side, TheVariants.{Client, Server}}, Message.{Message, TheVariants.{Greeting, ClientFlags, Choice, Answer, Exported, Request, Simple, Chunk, ExtendedRequest, ExtendedChunk}}}, profile.Profile.Profile}
+use Rattle.nbd_wire.specs.protocol.{Marks.{Item, Byte, Starts, Completes, Serves, IsMarkedBut}, Entries.{IsServedAt, MayServe, inside_of}, Sizes.{sizes_for, sizes_kept, sizing_after, sizing_at}, Options.{agrees, next_phase, selection_after, selection_at, turn}, Decisions.{Whole, judge_in}, Encoding.{AreBytes, enc}, Contexts.{Filter, length_by}, Payloads.filter_of, Operations.{Operation, Exporting, ends_reply, proper_on, is_chunked}, Pieces.{byte_at, piece_of, piece_offset, piece_size}, Flags.has, Sides.side, States.{Core, Phase, Shown, State, Transmission, export_in, in_force, with_reply_at, operation, start_of, target, has_contexts}}
 use Rattle.nbd_wire.specs.declared.answers.TheConstants as answers
 use Rattle.nbd_wire.specs.declared.command_flags.TheConstants as command_flags
 use Rattle.nbd_wire.specs.declared.commands.TheConstants as commands
 use Rattle.nbd_wire.specs.declared.options.TheConstants as options
-use Rattle.nbd_wire.specs.declared.profile.Profile.{Profile}
-use Rattle.nbd_wire.specs.protocol.Marks.{Item, Byte, Starts, Completes, Serves, IsMarkedBut}
-use Rattle.nbd_wire.specs.protocol.Entries.{IsServedAt, MayServe, inside_of}
-use Rattle.nbd_wire.specs.protocol.Sizes.{sizes_for, sizes_kept, sizing_after, sizing_at}
-use Rattle.nbd_wire.specs.protocol.Options.{agrees, next_phase, selection_after, selection_at, turn}
-use Rattle.nbd_wire.specs.protocol.Decisions.{Whole, judge_in}
-use Rattle.nbd_wire.specs.protocol.Encoding.{AreBytes, enc}
-use Rattle.nbd_wire.specs.protocol.Contexts.{Filter, length_by}
-use Rattle.nbd_wire.specs.protocol.Payloads.{filter_of}
-use Rattle.nbd_wire.specs.protocol.Operations.{Operation, Exporting, ends_reply, proper_on, is_chunked}
-use Rattle.nbd_wire.specs.protocol.Pieces.{byte_at, piece_of, piece_offset, piece_size}
-use Rattle.nbd_wire.specs.protocol.Flags.{has}
-use Rattle.nbd_wire.specs.protocol.Sides.{side}
-use Rattle.nbd_wire.specs.protocol.States.{Core, Phase, Shown, State, Transmission, export_in, in_force, with_reply_at, operation, start_of, target, has_contexts}
 
 -- the cookie that a reply repeats
 abbrev pub cookie_of : Message → Option ℕ
@@ -30,14 +14,9 @@ cookie_of (Chunk flags kind cookie payload) = Some cookie
 cookie_of (ExtendedChunk flags kind cookie offset payload) = Some cookie
 cookie_of _ = None
 
--- the request of a cookie, if there is a cookie
-abbrev pub target_of : Option ℕ → List Operation → Option ℕ
-target_of (Some cookie) entries = target cookie entries
-target_of None entries = None
-
 -- the number of the outstanding request that a reply answers
 abbrev pub request_of_reply : Core → Message → Option ℕ
-request_of_reply core m = target_of (cookie_of m) core.entries
+request_of_reply core m = option_and_then (λ cookie. target cookie core.entries) (cookie_of m)
 
 -- the message has an extended header
 abbrev pub is_extended : Message → Bool
@@ -54,10 +33,6 @@ MayStartIn (Transmission export) core Client m =
 MayStartIn (Transmission export) core Server m =
     IsTrue (is_some (request_of_reply core m)) × (is_extended m ≡ core.extended)
 MayStartIn phase core s m = turn phase ≡ Some s
-
--- the same, in the phase where the session stands
-abbrev pub MayStart : Core → Side → Message → Type 0
-MayStart core s m = MayStartIn core.phase core s m
 
 -- a message may complete in a phase where its bytes are read as it: nothing is refused at its head or at its last byte
 unfoldable pub MayComplete : Core → Phase → Message → Type 0
@@ -101,14 +76,10 @@ core_with_request true core e = record core { disconnected = true }
 core_with_request false core e = record core { entries = core.entries ++ e ∷ [] }
 
 -- the ACK to STRUCTURED_REPLY puts structured replies in force (proto.md, "Option types"), and so does that to
--- EXTENDED_HEADERS (this project's choice)
+-- EXTENDED_HEADERS, which also puts extended headers in force (this project's choice: proto.md has its number alone)
 abbrev pub grants_structured : (option kind : ℕ) → Bool
 grants_structured option kind =
     ((option == options.STRUCTURED_REPLY) || (option == options.EXTENDED_HEADERS)) && (kind == answers.ACK)
-
--- the ACK to EXTENDED_HEADERS puts extended headers in force (this project's choice: proto.md has its number alone)
-abbrev pub grants_extended : (option kind : ℕ) → Bool
-grants_extended option kind = (option == options.EXTENDED_HEADERS) && (kind == answers.ACK)
 
 -- a request with these fields, and with this filter if it has one, as it is asked where the session stands
 abbrev pub operation_asked : (extended : Bool) → Core → (flags command cookie offset len : ℕ) → List ℕ → Option Filter
@@ -152,9 +123,8 @@ complete core (Choice id payload) = record core {
 complete core (Answer option kind payload) =
     record core {
       phase = next_phase core.phase (Answer option kind payload);
-      structured = core.structured
-          || grants_structured option kind;
-      extended = core.extended || grants_extended option kind;
+      structured = core.structured || grants_structured option kind;
+      extended = core.extended || ((option == options.EXTENDED_HEADERS) && (kind == answers.ACK));
       selection = selection_after core.phase kind payload core.selection;
       sizing = sizing_after kind payload core.sizing;
     }
@@ -162,14 +132,11 @@ complete core (Exported size flags padded) = record core { phase = next_phase co
 complete core (Request flags command cookie offset len payload) =
     core_with_request (command == commands.DISC) core
     (operation_asked false core flags command cookie offset len payload None)
-complete core (Simple error cookie payload) = core_with_reply core (Simple error cookie payload)
-complete core (Chunk flags kind cookie payload) = core_with_reply core (Chunk flags kind cookie payload)
 complete core (ExtendedRequest flags command cookie offset len payload) =
     core_with_request (command == commands.DISC) core
     (operation_asked true core flags command cookie offset len (written command payload)
     (filter_in (has_contexts core) flags command payload))
-complete core (ExtendedChunk flags kind cookie offset payload) =
-    core_with_reply core (ExtendedChunk flags kind cookie offset payload)
+complete core m = core_with_reply core m
 
 -- the offsets inside a request on an export, if there is one
 abbrev pub inside_operation : Option Exporting → Option Operation → ℕ → Bool
@@ -215,7 +182,7 @@ IsServedFor state item = (k x : ℕ) → IsTrue (makes_due state.core item k x)
 abbrev pub Allows : State → Item → Type 0
 Allows state (Byte s b) = Unit {0}
 Allows state (Starts s m) =
-    (side m ≡ s) × AreBytes (enc m) × MayStart state.core s m × IsServedFor state (Starts s m)
+    (side m ≡ s) × AreBytes (enc m) × MayStartIn state.core.phase state.core s m × IsServedFor state (Starts s m)
 Allows state (Completes s m) = MayComplete state.core state.core.phase m × IsServedFor state (Completes s m)
 Allows state (Serves e) =
     (0 < e.request) × (e.request ≤ length state.core.entries) × MayServe (inside_at state.core e.request) state.served e

@@ -13,13 +13,9 @@ status_in (ExtendedChunk flags kind cookie offset payload) =
     if kind == chunks.BLOCK_STATUS_EXT then option_to_list (status_of true payload) else []
 status_in _ = []
 
--- the statuses in these messages, one after the other
-abbrev pub statuses_of : List Message → List Status
-statuses_of messages = flat_map status_in messages
-
 -- the statuses of a request's reply, in the order of their completion
 abbrev pub statuses : Operation → List Status
-statuses e = statuses_of e.replies
+statuses e = flat_map status_in e.replies
 
 -- one of the statuses is of the context with this id
 abbrev pub tells : List Status → ℕ → Bool
@@ -60,5 +56,6 @@ zeroes_told e (s ∷ statuses) = if is_allocation e.contexts s.id then zeroes_in
 -- status of base:allocation (this project's choice); other requests have none
 abbrev pub zeroes : Exporting → Operation → List Piece
 zeroes export e =
-    if (e.command == commands.BLOCK_STATUS) && is_proper export e then zeroes_told e (statuses_of (take 1 e.replies))
+    if (e.command == commands.BLOCK_STATUS) && is_proper export e
+    then zeroes_told e (flat_map status_in (take 1 e.replies))
     else []

@@ -1,36 +1,28 @@
 -- What is refused of a message of transmission, in lists of tests (`Tests`), each with its section of proto.md.
-use Rattle.std.specs.Prelude.{ℕ, List, [], ◌∷◌, ◌+◌, if◌then◌else◌, Option, Some, None, Bool, true, false, not, ◌&&◌, ◌||◌, ◌==◌, nat_le, nat_lt, length, is_some}
-use Rattle.std.specs.List.{list_all}
+use Rattle.std.specs.{Prelude.{ℕ, List, [], ◌∷◌, ◌+◌, if◌then◌else◌, Option, Some, None, Bool, true, false, not, ◌&&◌, ◌||◌, ◌==◌, nat_le, nat_lt, length, is_some}, List.list_all}
 use Rattle.nbd_wire.specs.declared.chunks.TheConstants as chunks
 use Rattle.nbd_wire.specs.declared.command_flags.TheConstants as command_flags
 use Rattle.nbd_wire.specs.declared.commands.TheConstants as commands
-use Rattle.nbd_wire.specs.declared.message.Message.{Message}
-use Rattle.nbd_wire.specs.declared.payloads.Failure.{Failure}
-use Rattle.nbd_wire.specs.declared.payloads.Piece.{Piece}
-use Rattle.nbd_wire.specs.declared.fault.WireFault.{WireFault}
-use Rattle.nbd_wire.specs.declared.fault.WireFault.TheVariants.{CookieInUse, UnknownCookie, SimpleForbidden, ChunkForbidden, BadChunk, BadContent, IncompleteRead, SuccessOfImproper, BadDisconnect, IncompleteStatus, OutOfProfile, BadReplyOffset}
-use Rattle.nbd_wire.specs.protocol.Payloads.{content_of, failure_of, status_of}
-use Rattle.nbd_wire.specs.declared.profile.Profile.{Profile}
-use Rattle.nbd_wire.specs.declared.profile.Profile.TheVariants.{Base, Wide}
-use Rattle.nbd_wire.specs.protocol.Operations.{Exporting, Operation, asks_status, has_failed, is_error_chunk, is_proper, pieces}
-use Rattle.nbd_wire.specs.protocol.Flags.{has}
-use Rattle.nbd_wire.specs.protocol.Sendable.{carries_payload}
-use Rattle.nbd_wire.specs.declared.limits.TheConstants.{LONGEST_PAYLOAD}
-use Rattle.nbd_wire.specs.protocol.Pieces.{is_in, piece_offset, piece_size}
-use Rattle.nbd_wire.specs.protocol.Contexts.{Context, Extent, Status, has_id, reach}
-use Rattle.nbd_wire.specs.protocol.Statuses.{are_settled, but_last, is_settled}
-use Rattle.nbd_wire.specs.protocol.Tests.{◌when◌else◌}
+use Rattle.nbd_wire.specs.declared.{payloads.{Failure.Failure, Piece.Piece}, fault.WireFault.{WireFault, TheVariants.{CookieInUse, UnknownCookie, SimpleForbidden, ChunkForbidden, BadChunk, BadContent, IncompleteRead, SuccessOfImproper, BadDisconnect, IncompleteStatus, OutOfProfile, BadReplyOffset}}, profile.Profile.{Profile, TheVariants.{Base, Wide}}, limits.TheConstants.LONGEST_PAYLOAD}
+use Rattle.nbd_wire.specs.protocol.{Payloads.{content_of, failure_of, status_of}, Operations.{Exporting, Operation, asks_status, has_failed, is_error_chunk, is_proper, pieces}, Flags.has, Sendable.carries_payload, Pieces.{is_in, piece_offset, piece_size}, Contexts.{Context, Extent, Status, has_id, reach}, Statuses.{are_settled, but_last, is_settled}, Tests.{◌when◌else◌}}
+
+-- a payload behind an extended header that is longer than 2^32 - 1 bytes (this project's choice)
+abbrev pub is_too_large : (len : ℕ) → Bool
+is_too_large len = nat_lt LONGEST_PAYLOAD len
 
 -- a request, at its head
-abbrev pub request_fault : (command offset len : ℕ) → Option WireFault
-request_fault command offset len =
+abbrev pub request_fault : (extended : Bool) (flags command offset len : ℕ) → Option WireFault
+request_fault extended flags command offset len =
+    -- a payload behind an extended header that is too large (this project's choice)
+    OutOfProfile when extended && carries_payload flags command && is_too_large len else
     -- a DISC with an offset or a length ("Request types")
     BadDisconnect when (command == commands.DISC) && not ((offset == 0) && (len == 0)) else
     None
 
 -- how many bytes follow the head of a request
-abbrev pub request_payload_length : (command len : ℕ) → ℕ
-request_payload_length command len = if command == commands.WRITE then len else 0
+abbrev pub request_payload_length : (extended : Bool) (flags command len : ℕ) → ℕ
+request_payload_length extended flags command len =
+    if (if extended then carries_payload flags command else command == commands.WRITE) then len else 0
 
 -- at the last byte of a request; `outstanding` is the request that has its cookie
 abbrev pub cookie_fault : (command : ℕ) (outstanding : Option ℕ) → Option WireFault
@@ -40,47 +32,21 @@ cookie_fault command outstanding =
     CookieInUse when not (command == commands.DISC) && is_some outstanding else
     None
 
--- a payload behind an extended header that is longer than 2^32 - 1 bytes (this project's choice)
-abbrev pub is_too_large : (len : ℕ) → Bool
-is_too_large len = nat_lt LONGEST_PAYLOAD len
-
--- a request with an extended header, at its head
-abbrev pub extended_request_fault : (flags command offset len : ℕ) → Option WireFault
-extended_request_fault flags command offset len =
-    -- a payload that is too large (this project's choice)
-    OutOfProfile when carries_payload flags command && is_too_large len else
-    -- a DISC with an offset or a length ("Request types")
-    request_fault command offset len
-
--- how many bytes follow the extended header of a request
-abbrev pub extended_payload_length : (flags command len : ℕ) → ℕ
-extended_payload_length flags command len = if carries_payload flags command then len else 0
-
--- no reply message has come
-abbrev pub is_none_yet : List Message → Bool
-is_none_yet [] = true
-is_none_yet (m ∷ messages) = false
-
 -- at the head of a simple reply
 abbrev pub simple_fault : (structured : Bool) → Option Operation → (error : ℕ) → Option WireFault
--- no request that was outstanding when it started has its cookie ("Transmission"; that its start decides is this
--- project's choice)
+-- no request outstanding when it started has its cookie ("Transmission"; that its start decides: this project's choice)
 simple_fault structured None error = UnknownCookie when true else None
 simple_fault structured (Some e) error =
     -- it comes after a chunk, to a READ under structured replies, or as success to a BLOCK_STATUS ("Structured reply
     -- chunk message", "Simple reply message", "Request types")
-    SimpleForbidden when not (is_none_yet e.replies)
+    SimpleForbidden when not (length e.replies == 0)
     || (((e.command == commands.READ) && structured) || (asks_status e && (error == 0))) else
     None
 
--- how many bytes a simple reply carries ("Simple reply message")
-abbrev pub simple_length : Operation → ℕ → ℕ
-simple_length e error = if (e.command == commands.READ) && (error == 0) then e.length else 0
-
--- how many bytes follow the head of a simple reply
+-- how many bytes follow the head of a simple reply ("Simple reply message")
 abbrev pub simple_payload_length : Option Operation → (error : ℕ) → ℕ
 simple_payload_length None error = 0
-simple_payload_length (Some e) error = simple_length e error
+simple_payload_length (Some e) error = if (e.command == commands.READ) && (error == 0) then e.length else 0
 
 -- at the last byte of a simple reply
 abbrev pub simple_last_fault : Exporting → Option Operation → (error : ℕ) → Option WireFault
@@ -90,21 +56,16 @@ simple_last_fault export (Some e) error =
     SuccessOfImproper when (error == 0) && not (is_proper export e) else
     None
 
--- at the head of a chunk
-abbrev pub chunk_head_fault : (structured : Bool) → Option Operation → Option WireFault
-chunk_head_fault structured to =
+-- at the head of a chunk, with an extended header or not
+abbrev pub chunk_head_fault : (extended structured : Bool) → Option Operation → (len : ℕ) → Option WireFault
+chunk_head_fault extended structured to len =
+    -- a payload behind an extended header that is too large (this project's choice)
+    OutOfProfile when extended && is_too_large len else
     -- no request that was outstanding when it started has its cookie ("Transmission")
     UnknownCookie when not (is_some to) else
     -- structured replies are not in force ("Structured reply chunk message")
     ChunkForbidden when not structured else
     None
-
--- at the extended header of a chunk
-abbrev pub extended_head_fault : (structured : Bool) → Option Operation → (len : ℕ) → Option WireFault
-extended_head_fault structured to len =
-    -- a payload that is too large (this project's choice)
-    OutOfProfile when is_too_large len else
-    chunk_head_fault structured to
 
 -- at the last byte of a chunk with an extended header, behind what else is refused of it
 abbrev pub offset_fault : (earlier : Option WireFault) → Operation → (offset : ℕ) → Option WireFault
@@ -123,11 +84,6 @@ is_apart p q = nat_le (piece_offset p + piece_size p) (piece_offset q)
 abbrev pub is_apart_from : Piece → List Piece → Bool
 is_apart_from p pieces = list_all (is_apart p) pieces
 
--- there is none
-abbrev pub is_no_piece : List Piece → Bool
-is_no_piece [] = true
-is_no_piece (p ∷ pieces) = false
-
 -- the piece lies in the range of the request
 abbrev pub is_inside : Operation → Piece → Bool
 is_inside e piece = nat_le e.offset (piece_offset piece)
@@ -140,7 +96,7 @@ fits_read export e piece =
     (e.command == commands.READ)
     && (is_inside e piece
     && (is_apart_from piece (pieces e)
-    && (not (is_proper export e && has e.flags command_flags.DF) || is_no_piece (pieces e))))
+    && (not (is_proper export e && has e.flags command_flags.DF) || (length (pieces e) == 0))))
 
 -- the offset of an error chunk lies in the range of the request ("Structured reply types")
 abbrev pub fits_failure : Operation → Option ℕ → Bool
@@ -181,8 +137,7 @@ abbrev pub status_if : (extended : Bool) → List Context → (kind : ℕ) → L
 status_if extended contexts kind payload =
     if (kind == status_kind extended) && not (length contexts == 0) then status_of extended payload else None
 
--- content that does not fit its request ("Structured reply types", "Command flags"); `next` is what the end of its
--- reply says, here and below
+-- content that does not fit its request ("Structured reply types", "Command flags"); `next`: what its reply's end says
 abbrev pub piece_fault : Exporting → Operation → Piece → (next : Option WireFault) → Option WireFault
 piece_fault export e piece next = BadContent when not (fits_read export e piece) else next
 
@@ -235,8 +190,7 @@ abbrev pub done_fault : (done : Bool) → Exporting → Operation → Option Wir
 done_fault false export e = None
 done_fault true export e = finish_fault export e (has_failed e) (pieces e)
 
--- at the last byte of a chunk to request e that is read as one of this type, with an extended header or not; e is
--- `with_chunk` after it
+-- at the last byte of a chunk to request e, read as one of this type, with an extended header or not; then e has it
 abbrev pub chunk_fault : (extended is_none : Bool) → Exporting → (e with_chunk : Operation) → (flags kind : ℕ)
     → List ℕ → Option WireFault
 chunk_fault extended true export e with_chunk flags kind payload =

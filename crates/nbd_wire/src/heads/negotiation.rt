@@ -1,6 +1,6 @@
 //! The heads of the negotiation (proto.md, "Newstyle negotiation", "Fixed newstyle negotiation").
 
-ghost use Rattle.nbd_wire.specs.codec.{Heads.{IsAnswerHead, IsChoiceHead, IsClientFlagsHead, IsExportHead, IsGreetingHead}, Reads.Reads};
+ghost use Rattle.nbd_wire.specs.codec.{Heads.{IsAnswerHead, IsChoiceHead, IsClientFlagsHead, IsExportHead, IsGreetingHead}, Contents.Reads};
 
 use crate::head_lengths;
 use crate::magics::{ANSWER_MAGIC, GREETING_MAGIC, OPTION_MAGIC};

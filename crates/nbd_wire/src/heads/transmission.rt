@@ -1,6 +1,6 @@
 //! The heads of transmission (proto.md, "Transmission").
 
-ghost use Rattle.nbd_wire.specs.codec.{Heads.{IsChunkHead, IsExtendedChunkHead, IsExtendedRequestHead, IsRequestHead, IsSimpleHead}, Reads.Reads};
+ghost use Rattle.nbd_wire.specs.codec.{Heads.{IsChunkHead, IsExtendedChunkHead, IsExtendedRequestHead, IsRequestHead, IsSimpleHead}, Contents.Reads};
 
 use crate::head_lengths;
 use crate::magics::{

@@ -1,6 +1,5 @@
 -- Lines were written that name the messages before a place.
-use Rattle.nbd_explain.proofs.Common.{◌≡◌, List, drop, Message, fates_behind}
-use Rattle.nbd_explain.proofs.FateLemmas.{AppendsFront}
+use Rattle.nbd_explain.proofs.{Common.{◌≡◌, List, drop, Message, fates_behind}, FateLemmas.AppendsFront}
 use Rattle.nbd_explain.proofs.listing.write_lines.Given as goal
 
 abbrev pub invariant-loop-place : goal.invariant-loop-place

@@ -1,4 +1,4 @@
-use Rattle.nbd_judge.proofs.Common.{◌≡◌, ◌<◌, ℕ, Option, length, Some, None, slice_get, slice_index_or, refl, sym, ◌∙◌, ap, subst, arith, slice_get-get_or, slice_get_within, Entry, Effect, IsWrong, effect, effect_if, effects, Asked, AreSameBelow, report_of_request, contents_with_effect, IsServable}
+use Rattle.nbd_judge.proofs.Common.{◌≡◌, ◌<◌, ℕ, Option, length, Some, None, slice_get, slice_index_or, refl, sym, ◌∙◌, ap, subst, arith, slice_get-get_or, slice_get_within, Entry, Effect, IsWrong, effect, effects, Asked, AreSameBelow, report_of_request, contents_with_effect, IsServable, option_map}
 use Rattle.nbd_judge.proofs.{contents.{EffectLemmas.{behind, next, none_through, served}, PartLemmas.well_placed, SortLemmas.kept_sorted}, verdicts.SoundLemmas.servable, replay.first_wrong.Goals.{in-Some+in_ok-found+in_default-found+in_ok-change, in_default}}
 use Rattle.nbd_judge.proofs.replay.first_wrong.Goals as goal
 
@@ -35,7 +35,7 @@ returns-in-Some-found-clause-wrong g c =
     let e : Entry = slice_index_or c.args.order.now c.loop-i.i (record { request = 0; part = None }) in
     let here : slice_get c.args.order.now c.loop-i.i ≡ Some e = slice_get-get_or c.args.order.now c.loop-i.i (record { request = 0; part = None }) c.loop-i-test.true in
     let sound : IsServable size told = subst (λ (n : ℕ). IsServable n told) (sym c.requires.sized) (servable c.args.transcript.now c.requires.sound e.request told (sym c.in-Some.ensures)) in
-    let at : requests e.request ≡ Some (effect told) = ap effect_if (sym c.in-Some.ensures) in
+    let at : requests e.request ≡ Some (effect told) = ap (option_map effect) (sym c.in-Some.ensures) in
     let least = served size requests c.args.order.now initial now c.loop-i.i e here c.loop-i.invariant.bytes told at sound (Some c.in-Some-found.offset) (rw c.in-Some-found.is at c.in_ok-found.ensures.least) in
     (c.loop-i.i, e, here, refl, ((c.in-Some-found.offset, least.0), c.loop-i.invariant.none), least)
 
@@ -51,7 +51,7 @@ loop-i-preserved g c =
       | in-Some+in_ok-found+in_default-found+in_ok-change w ↦
           (let told : Asked = report_of_request w.in-Some.one.now in
           let sound : IsServable size told = subst (λ (n : ℕ). IsServable n told) (sym c.requires.sized) (servable c.args.transcript.now c.requires.sound e.request told (sym w.in-Some.ensures)) in
-          let at : requests e.request ≡ Some (effect told) = ap effect_if (sym w.in-Some.ensures) in
+          let at : requests e.request ≡ Some (effect told) = ap (option_map effect) (sym w.in-Some.ensures) in
           let after : ℕ → Option ℕ = g.C.Contents.byte w.change.new.contents in
           let done : AreSameBelow size after (contents_with_effect e.part (Some (effect told)) now) =
           subst (λ (n : ℕ). AreSameBelow n after (contents_with_effect e.part (Some (effect told)) now)) (w.wrong.ensures.size ∙ c.loop-i.invariant.size)
@@ -67,7 +67,7 @@ loop-i-preserved g c =
             none = none_through c.args.transcript.now c.args.order.now initial c.loop-i.i c.loop-i.invariant.none none;
           })
       | in_default w ↦
-          (let at : requests e.request ≡ None = ap effect_if (sym w.in_default.ensures) in
+          (let at : requests e.request ≡ None = ap (option_map effect) (sym w.in_default.ensures) in
           record {
             size = ap g.C.Contents.size w.contents-is ∙ c.loop-i.invariant.size;
             bytes = λ x l. ap (λ s. g.C.Contents.byte s x) w.contents-is

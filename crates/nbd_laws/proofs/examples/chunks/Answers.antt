@@ -1,7 +1,5 @@
 -- Explicit runs of structured replies: each is checked by computing.
-use Rattle.nbd_laws.proofs.Common.{[], ◌∷◌, ◌++◌, refl, whole, Serves}
-use Rattle.nbd_laws.proofs.worked.SessionLemmas.{broken, content, done, gone, greeted, hole, read, sends, structured, write}
-use Rattle.nbd_laws.proofs.worked.AnswerLemmas.{computing, no, yes}
+use Rattle.nbd_laws.proofs.{Common.{[], ◌∷◌, ◌++◌, refl, whole, Serves}, worked.{SessionLemmas.{broken, content, done, gone, greeted, hole, read, sends, structured, write}, AnswerLemmas.{computing, no, yes}}}
 use Rattle.nbd_laws.proofs.examples.chunks.Goals as goal
 
 pub returns-clause-structured_read : goal.returns-clause-structured_read

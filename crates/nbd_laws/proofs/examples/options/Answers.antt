@@ -1,9 +1,7 @@
 -- Explicit runs of negotiation: each is checked by computing.
-use Rattle.nbd_laws.proofs.Common.{◌+◌, [], ◌∷◌, ◌++◌, refl, true, false, big_bytes, whole, Greeting, ClientFlags, Choice, Answer, Exported, Serves}
+use Rattle.nbd_laws.proofs.{Common.{◌+◌, [], ◌∷◌, ◌++◌, refl, true, false, big_bytes, whole, Greeting, ClientFlags, Choice, Answer, Exported, Serves}, worked.{SessionLemmas.{gives, gone, greeted, read, sends}, AnswerLemmas.{computing, yes}}}
 use Rattle.nbd_wire.specs.declared.answers.TheConstants as answers
 use Rattle.nbd_wire.specs.declared.options.TheConstants as options
-use Rattle.nbd_laws.proofs.worked.SessionLemmas.{gives, gone, greeted, read, sends}
-use Rattle.nbd_laws.proofs.worked.AnswerLemmas.{computing, yes}
 use Rattle.nbd_laws.proofs.examples.options.Goals as goal
 
 pub returns-clause-padded_export : goal.returns-clause-padded_export

@@ -1,10 +1,6 @@
 -- Explicit runs of requests that are served in parts: each is checked by computing.
-use Rattle.nbd_laws.proofs.Common.{◌≡◌, List, [], ◌∷◌, ◌++◌, refl, inl, inr, lit<, lit≤, true, false, part, whole, Zeroes, Item, Serves, flat, Base, IsRunOf}
+use Rattle.nbd_laws.proofs.{Common.{◌≡◌, List, [], ◌∷◌, ◌++◌, refl, inl, inr, lit<, lit≤, true, false, part, whole, Zeroes, Item, Serves, flat, Base, IsRunOf}, worked.{DecidingRunLemmas.is_run, SessionLemmas.{fails, gives, gone, greeted, read, sends, succeeds, write}, AnswerLemmas.{computing, no_by, yes, yes_by}}, service.ExplainingLemmas.failing_is_no}
 use Rattle.nbd_laws.specs.captures.Reads as captures
-use Rattle.nbd_laws.proofs.worked.DecidingRunLemmas.{is_run}
-use Rattle.nbd_laws.proofs.service.ExplainingLemmas.{failing_is_no}
-use Rattle.nbd_laws.proofs.worked.SessionLemmas.{fails, gives, gone, greeted, read, sends, succeeds, write}
-use Rattle.nbd_laws.proofs.worked.AnswerLemmas.{computing, no_by, yes, yes_by}
 use Rattle.nbd_laws.proofs.examples.parts.Goals as goal
 
 half_written_items : List Item

@@ -1,10 +1,6 @@
 -- Explicit runs of reads and writes: each is checked by computing.
-use Rattle.nbd_laws.proofs.Common.{List, [], ◌∷◌, ◌++◌, refl, inl, inr, lit<, lit≤, arith, Names, whole, Zeroes, Item, Serves, flat, Base, IsRunOf}
+use Rattle.nbd_laws.proofs.{Common.{List, [], ◌∷◌, ◌++◌, refl, inl, inr, lit<, lit≤, arith, Names, whole, Zeroes, Item, Serves, flat, Base, IsRunOf}, worked.{DecidingRunLemmas.is_run, SessionLemmas.{disconnect, fails, gives, gone, greeted, read, sends, succeeds, trim, within, write, zero_out}, AnswerLemmas.{computing, no, no_by, yes, yes_by}}, service.ExplainingLemmas.failing_is_no}
 use Rattle.nbd_laws.specs.captures.Reads as captures
-use Rattle.nbd_laws.proofs.worked.DecidingRunLemmas.{is_run}
-use Rattle.nbd_laws.proofs.service.ExplainingLemmas.{failing_is_no}
-use Rattle.nbd_laws.proofs.worked.SessionLemmas.{disconnect, fails, gives, gone, greeted, read, sends, succeeds, trim, within, write, zero_out}
-use Rattle.nbd_laws.proofs.worked.AnswerLemmas.{computing, no, no_by, yes, yes_by}
 use Rattle.nbd_laws.proofs.examples.reads.Goals as goal
 
 -- the order 1 does not name 2

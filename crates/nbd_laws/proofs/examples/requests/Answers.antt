@@ -1,8 +1,6 @@
 -- Explicit runs of proper and improper requests: each is checked by computing.
-use Rattle.nbd_laws.proofs.Common.{[], ◌∷◌, ◌++◌, refl, whole, Serves}
+use Rattle.nbd_laws.proofs.{Common.{[], ◌∷◌, ◌++◌, refl, whole, Serves}, worked.{SessionLemmas.{fails, flagged, gives, gone, gone_with, greeted, read, sends, succeeds, trim, write, zero_out}, AnswerLemmas.{computing, yes}}}
 use Rattle.nbd_wire.specs.declared.commands.TheConstants as commands
-use Rattle.nbd_laws.proofs.worked.SessionLemmas.{fails, flagged, gives, gone, gone_with, greeted, read, sends, succeeds, trim, write, zero_out}
-use Rattle.nbd_laws.proofs.worked.AnswerLemmas.{computing, yes}
 use Rattle.nbd_laws.proofs.examples.requests.Goals as goal
 
 pub returns-clause-proper_requests : goal.returns-clause-proper_requests

@@ -1,15 +1,8 @@
 -- Refusals that need no search over runs.
-use Rattle.nbd_laws.proofs.Common.{◌≡◌, List, [], ◌∷◌, ◌++◌, length, map, refl, subst, inl, inr, arith, whole, image, Some, Item, flat, Base, report, IsRunOf, MayStartIn, IsFaultless}
+use Rattle.nbd_laws.proofs.{Common.{◌≡◌, List, [], ◌∷◌, ◌++◌, length, map, refl, subst, inl, inr, arith, whole, image, Some, Item, flat, Base, report, IsRunOf, MayStartIn, IsFaultless}, worked.{DecidingRunLemmas.is_run, SessionLemmas.{gone, greeted, sends}, AnswerLemmas.computing}, service.{ExplainingLemmas.failing_is_no, MomentLemmas.orders_are_faultless}}
+use Rattle.nbd_laws.proofs.{runs.{FollowLemmas.{bare, follows, follows_unserved, pairs_unserved, walk_unserved}, RunLemmas.walk_of}, reading.TwinLemmas.{opens, goes_on, ends, next}}
 use Rattle.std.proofs.lemmas.List.{length-map}
 use Rattle.nbd_laws.specs.captures.Openings as captures
-use Rattle.nbd_laws.proofs.worked.DecidingRunLemmas.{is_run}
-use Rattle.nbd_laws.proofs.service.ExplainingLemmas.{failing_is_no}
-use Rattle.nbd_laws.proofs.runs.FollowLemmas.{bare, follows, follows_unserved, pairs_unserved, walk_unserved}
-use Rattle.nbd_laws.proofs.service.MomentLemmas.{orders_are_faultless}
-use Rattle.nbd_laws.proofs.runs.RunLemmas.{walk_of}
-use Rattle.nbd_laws.proofs.worked.SessionLemmas.{gone, greeted, sends}
-use Rattle.nbd_laws.proofs.reading.TwinLemmas.{opens, goes_on, ends, next}
-use Rattle.nbd_laws.proofs.worked.AnswerLemmas.{computing}
 use Rattle.nbd_laws.proofs.examples.unexplained.Goals as goal
 
 opening_items : List Item

@@ -1,5 +1,4 @@
-use Rattle.nbd_session.proofs.Common.{arith, ◌∙◌, sym}
-use Rattle.nbd_session.proofs.judge.ChunkFaultLemmas.{elsewhere_last, fault_first}
+use Rattle.nbd_session.proofs.{Common.{arith, ◌∙◌, sym}, judge.ChunkFaultLemmas.{elsewhere_last, fault_first}}
 use Rattle.nbd_session.proofs.chunks.chunk_fault.Goals as goal
 
 pub returns-in-Some : goal.returns-in-Some

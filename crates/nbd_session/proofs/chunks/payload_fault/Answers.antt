@@ -1,6 +1,6 @@
 use Rattle.nbd_session.proofs.Common.{◌≡◌, ◌∙◌, ◌+◌, ◌==◌, ◌||◌, not, length, refl, sym, ap, is_some, None, Bool, true, false, Piece, Message, piece_of, has, failure_of, has_failed, is_proper, pieces, with_reply, is_settled, BadChunk, BadContent, done_by, finish_by, fault_if, chunk_fault, fits_read, read_as, status_kind, total, chunk_of, chunk_with, chunk_ends, told_without, status_read}
-use Rattle.nbd_wire.specs.declared.chunks.TheConstants as chunks
 use Rattle.nbd_session.proofs.judge.ChunkFaultLemmas.{bad-chunk, none-chunk, content-chunk, failure-chunk, lacks, other_status, status_only}
+use Rattle.nbd_wire.specs.declared.chunks.TheConstants as chunks
 use Rattle.nbd_session.proofs.chunks.payload_fault.Goals as goal
 
 none_kind : (extended : Bool) → (status_kind extended == chunks.NONE) ≡ false

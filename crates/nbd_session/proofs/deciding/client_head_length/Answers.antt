@@ -1,8 +1,6 @@
-use Rattle.nbd_session.proofs.Common.{refl, sym, ◌∙◌, ap, rules, Client, choice, client_flags, request, request_unless}
+use Rattle.nbd_session.proofs.{Common.{refl, sym, ◌∙◌, ap, rules, Client, choice, client_flags, request_by, request_unless}, expecting.{PhaseLemmas.{choosing_of, decided_in, flags_of, head_in, transmission_of}, RequestLemmas.request_head_is}}
 use Rattle.std.proofs.Common.{tests}
 use Rattle.nbd_wire.specs.protocol.States as definitions
-use Rattle.nbd_session.proofs.expecting.PhaseLemmas.{choosing_of, decided_in, flags_of, head_in, transmission_of}
-use Rattle.nbd_session.proofs.expecting.RequestLemmas.{request_head_is}
 use Rattle.nbd_session.proofs.deciding.client_head_length.Goals as goal
 
 pub returns-in-Flags-clause-known : goal.returns-in-Flags-clause-known
@@ -16,7 +14,7 @@ returns-in-Choosing-clause-known c = λ head. head_in c.args.state.now Client he
 pub returns-in-Transmission-clause-known : goal.returns-in-Transmission-clause-known
 returns-in-Transmission-clause-known c = λ head. head_in c.args.state.now Client head c.request_head_length.result _ c.in-Transmission.is
     (λ core counted s. let t = transmission_of core.phase _ (sym c.in-Transmission.is ∙ s.phase_is) in
-    let d = decided_in counted core Client head (definitions.Transmission t.0) (request core head) t.1 (ap (λ b. request_unless b core head) (sym s.disconnected_is ∙ c.if-not-state.true)) in
+    let d = decided_in counted core Client head (definitions.Transmission t.0) (request_by core.extended core head) t.1 (ap (λ b. request_unless b core head) (sym s.disconnected_is ∙ c.if-not-state.true)) in
     (d.0, d.1, d.2 ∙ request_head_is c.args.state.now.extended core (sym s.extended_is) head ∙ sym c.request_head_length.ensures))
     (λ e. (c.if-not-state.true, e ∙ c.request_head_length.ensures))
 

@@ -1,9 +1,6 @@
-use Rattle.nbd_session.proofs.Common.{arith, ◌≡◌, length, refl, sym, ◌∙◌, ap, subst, Client, choice, client_flags, whole_head_by}
+use Rattle.nbd_session.proofs.{Common.{request_unless, request_by, arith, ◌≡◌, length, refl, sym, ◌∙◌, ap, subst, Client, choice, client_flags, whole_head_by}, expecting.{PhaseLemmas.{choosing_of, flags_of, refused_in, transmission_of}, ReplyLemmas.if_err, RequestLemmas.request_head_is}}
 use Rattle.nbd_wire.specs.protocol.States as definitions
 use Rattle.nbd_state.specs.declared.state.Phase.{Phase}
-use Rattle.nbd_session.proofs.expecting.PhaseLemmas.{choosing_of, flags_of, refused_in, transmission_of}
-use Rattle.nbd_session.proofs.expecting.ReplyLemmas.{if_err}
-use Rattle.nbd_session.proofs.expecting.RequestLemmas.{request_head_is}
 use Rattle.nbd_session.proofs.deciding.decide_client.Goals as goal
 
 pub returns-in-Flags-clause-refused : goal.returns-in-Flags-clause-refused
@@ -20,4 +17,9 @@ returns-in-Choosing-clause-refused c =
     (λ fault bad core counted s. refused_in counted core Client c.args.head.now fault definitions.Choosing (choice c.args.head.now) (choosing_of core.phase (sym c.in-Choosing.is ∙ s.phase_is)) refl (sym len) bad)
 
 pub returns-in-Transmission-clause-refused : goal.returns-in-Transmission-clause-refused
-returns-in-Transmission-clause-refused c = grind (arith, if_err, transmission_of, refused_in, request_head_is)
+returns-in-Transmission-clause-refused c =
+    let whole = subst (λ (p : Phase). whole_head_by p c.args.state.now.disconnected c.args.state.now.extended Client c.args.head.now) c.in-Transmission.is c.requires in
+    if_err c.request.result _ _ c.request.ensures.refused
+    (λ fault bad core counted s. let t = transmission_of core.phase _ (sym c.in-Transmission.is ∙ s.phase_is) in
+    refused_in counted core Client c.args.head.now fault (definitions.Transmission t.0) (request_by core.extended core c.args.head.now) t.1 (ap (λ b. request_unless b core c.args.head.now) (sym s.disconnected_is ∙ whole.0))
+    (request_head_is c.args.state.now.extended core (sym s.extended_is) c.args.head.now ∙ sym whole.1) (bad core s))

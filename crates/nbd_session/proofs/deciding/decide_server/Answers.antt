@@ -1,9 +1,7 @@
-use Rattle.nbd_session.proofs.Common.{◌≡◌, ◌++◌, length, refl, sym, ◌∙◌, subst, Server, operation_counted, abort_answer, answer, export_answer, greeting, has, ap, reply_with, IsReplyHead, whole_head_by}
+use Rattle.nbd_session.proofs.{Common.{◌≡◌, ◌++◌, length, refl, sym, ◌∙◌, subst, Server, operation_counted, abort_answer, answer, export_answer, greeting, has, ap, reply_with, IsReplyHead, whole_head_by}, expecting.{PhaseLemmas.{aborting_of, answering_of, expected_in, greet_of, naming_of, refused_in, transmission_of}, ReplyLemmas.{if_err, if_ok, reply_head_is}}}
 use Rattle.nbd_wire.specs.declared.handshake.TheConstants as handshake
 use Rattle.nbd_wire.specs.protocol.States as definitions
 use Rattle.nbd_state.specs.declared.state.Phase.{Phase}
-use Rattle.nbd_session.proofs.expecting.PhaseLemmas.{aborting_of, answering_of, expected_in, greet_of, naming_of, refused_in, transmission_of}
-use Rattle.nbd_session.proofs.expecting.ReplyLemmas.{if_err, if_ok, reply_head_is}
 use Rattle.nbd_session.proofs.deciding.decide_server.Goals as goal
 
 pub returns-in-Greet : goal.returns-in-Greet

@@ -1,8 +1,6 @@
-use Rattle.nbd_session.proofs.Common.{refl, sym, ◌∙◌, ap, Server, has, operation_counted, abort_answer, export_answer, greeting, reply_with, decision_with, reading_by_decision}
+use Rattle.nbd_session.proofs.{Common.{refl, sym, ◌∙◌, ap, Server, has, operation_counted, abort_answer, export_answer, greeting, reply_with, decision_with, reading_by_decision}, expecting.{PhaseLemmas.{aborting_of, answering_of, decided_in, greet_of, head_in, naming_of, transmission_of}, ReplyLemmas.{if_err, if_ok, no_reply_bad, reply_begins, reply_whole}}}
 use Rattle.nbd_wire.specs.declared.handshake.TheConstants as handshake
 use Rattle.nbd_wire.specs.protocol.States as definitions
-use Rattle.nbd_session.proofs.expecting.PhaseLemmas.{aborting_of, answering_of, decided_in, greet_of, head_in, naming_of, transmission_of}
-use Rattle.nbd_session.proofs.expecting.ReplyLemmas.{if_err, if_ok, no_reply_bad, reply_begins, reply_whole}
 use Rattle.nbd_session.proofs.deciding.server_head_length.Goals as goal
 
 pub returns-in-Greet-clause-known : goal.returns-in-Greet-clause-known

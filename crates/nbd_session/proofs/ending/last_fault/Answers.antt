@@ -1,5 +1,4 @@
-use Rattle.nbd_session.proofs.Common.{◌∙◌, ap, sym, subst, Expected, StandsIn, last_fault_by}
-use Rattle.nbd_session.proofs.expecting.EndLemmas.{chunk_end, simple_end}
+use Rattle.nbd_session.proofs.{Common.{◌∙◌, ap, sym, subst, Expected, StandsIn, last_fault_by}, expecting.EndLemmas.{chunk_end, simple_end}}
 use Rattle.nbd_session.proofs.ending.last_fault.Goals as goal
 
 pub returns-in-Simple : goal.returns-in-Simple

@@ -1,6 +1,4 @@
-use Rattle.nbd_session.proofs.Common.{refl, rules, sym, ◌∙◌, true, false, same_Some, NotFixedNewstyle, BadClientFlags}
-use Rattle.nbd_session.proofs.expecting.NegotiationLemmas.{bad_client_flags, flags_fault, good_client_flags}
-use Rattle.nbd_session.proofs.parsing.LeadingLemmas.{leading_client_flags-is}
+use Rattle.nbd_session.proofs.{Common.{refl, rules, sym, ◌∙◌, true, false, same_Some, NotFixedNewstyle, BadClientFlags}, expecting.NegotiationLemmas.{bad_client_flags, flags_fault, good_client_flags}, parsing.LeadingLemmas.leading_client_flags-is}
 use Rattle.nbd_session.proofs.negotiation.client_flags.Goals as goal
 
 pub unwrap-flags-requires : goal.unwrap-flags-requires

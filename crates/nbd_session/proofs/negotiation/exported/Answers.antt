@@ -1,7 +1,5 @@
-use Rattle.nbd_session.proofs.Common.{rules, refl, sym, ◌∙◌, ap, not, true, false, same_Some, BadExport, ExportTooLarge, has, Exported, expected_decision, lt-ltb, le-ltb}
+use Rattle.nbd_session.proofs.{Common.{rules, refl, sym, ◌∙◌, ap, not, true, false, same_Some, BadExport, ExportTooLarge, has, Exported, expected_decision, lt-ltb, le-ltb}, expecting.NegotiationLemmas.{bad_export, fault_of_export, good_export}, parsing.LeadingLemmas.leading_export-is}
 use Rattle.nbd_wire.specs.declared.handshake.TheConstants as handshake
-use Rattle.nbd_session.proofs.expecting.NegotiationLemmas.{bad_export, fault_of_export, good_export}
-use Rattle.nbd_session.proofs.parsing.LeadingLemmas.{leading_export-is}
 use Rattle.nbd_session.proofs.negotiation.exported.Goals as goal
 
 pub unwrap-size-requires : goal.unwrap-size-requires

@@ -1,6 +1,4 @@
-use Rattle.nbd_session.proofs.Common.{sym, ◌∙◌}
-use Rattle.nbd_session.proofs.expecting.NegotiationLemmas.{good_greeting, no_greeting, old_greeting}
-use Rattle.nbd_session.proofs.parsing.LeadingLemmas.{leading_greeting-is}
+use Rattle.nbd_session.proofs.{Common.{sym, ◌∙◌}, expecting.NegotiationLemmas.{good_greeting, no_greeting, old_greeting}, parsing.LeadingLemmas.leading_greeting-is}
 use Rattle.nbd_session.proofs.negotiation.greeting.Goals as goal
 
 pub returns-in_default-clause-refused : goal.returns-in_default-clause-refused

@@ -1,7 +1,5 @@
-use Rattle.nbd_session.proofs.Common.{sym, ◌∙◌, ap, AnswerHead, abort_fault, answer_fault}
+use Rattle.nbd_session.proofs.{Common.{sym, ◌∙◌, ap, AnswerHead, abort_fault, answer_fault}, expecting.OptionLemmas.{bad_answer, good_abort, no_answer}, parsing.LeadingLemmas.leading_answer-is}
 use Rattle.nbd_wire.specs.declared.options.TheConstants as options
-use Rattle.nbd_session.proofs.expecting.OptionLemmas.{bad_answer, good_abort, no_answer}
-use Rattle.nbd_session.proofs.parsing.LeadingLemmas.{leading_answer-is}
 use Rattle.nbd_session.proofs.options.abort_answer.Goals as goal
 
 pub returns-in_default-clause-refused : goal.returns-in_default-clause-refused

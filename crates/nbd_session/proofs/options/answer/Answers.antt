@@ -1,6 +1,4 @@
-use Rattle.nbd_session.proofs.Common.{not, sym, ◌∙◌, ap, Answer, AnswerHead, answer_fault, answer_head_fault, expected_decision, exporting_if, then_some}
-use Rattle.nbd_session.proofs.expecting.OptionLemmas.{bad_answer, good_answer, no_answer}
-use Rattle.nbd_session.proofs.parsing.LeadingLemmas.{leading_answer-is}
+use Rattle.nbd_session.proofs.{Common.{not, sym, ◌∙◌, ap, Answer, AnswerHead, answer_fault, answer_head_fault, expected_decision, exporting_if, then_some}, expecting.OptionLemmas.{bad_answer, good_answer, no_answer}, parsing.LeadingLemmas.leading_answer-is}
 use Rattle.nbd_session.proofs.options.answer.Goals as goal
 
 pub returns-in_default-clause-refused : goal.returns-in_default-clause-refused

@@ -1,6 +1,4 @@
-use Rattle.nbd_session.proofs.Common.{rules, sym, ◌∙◌}
-use Rattle.nbd_session.proofs.expecting.OptionLemmas.{good_choice, no_choice}
-use Rattle.nbd_session.proofs.parsing.LeadingLemmas.{leading_choice-is}
+use Rattle.nbd_session.proofs.{Common.{rules, sym, ◌∙◌}, expecting.OptionLemmas.{good_choice, no_choice}, parsing.LeadingLemmas.leading_choice-is}
 use Rattle.nbd_session.proofs.options.choice.Goals as goal
 
 pub returns-in-None-clause-refused : goal.returns-in-None-clause-refused

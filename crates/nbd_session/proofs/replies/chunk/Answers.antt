@@ -1,5 +1,4 @@
-use Rattle.nbd_session.proofs.Common.{sym, ◌∙◌}
-use Rattle.nbd_session.proofs.expecting.ReplyLemmas.{chunk_is}
+use Rattle.nbd_session.proofs.{Common.{sym, ◌∙◌}, expecting.ReplyLemmas.chunk_is}
 use Rattle.nbd_session.proofs.replies.chunk.Goals as goal
 
 pub returns-clause-expected : goal.returns-clause-expected

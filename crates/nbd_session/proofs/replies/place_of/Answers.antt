@@ -1,5 +1,4 @@
-use Rattle.nbd_session.proofs.Common.{arith}
-use Rattle.nbd_session.proofs.parsing.ShownOperationLemmas.{none_beyond, place_within}
+use Rattle.nbd_session.proofs.{Common.arith, parsing.ShownOperationLemmas.{none_beyond, place_within}}
 use Rattle.nbd_session.proofs.replies.place_of.Goals as goal
 
 pub returns-then-place-counted : goal.returns-then-place-counted

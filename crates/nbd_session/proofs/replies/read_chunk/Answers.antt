@@ -1,5 +1,4 @@
-use Rattle.nbd_session.proofs.Common.{◌≡◌, length, rules, sym, ◌∙◌, ap, subst, true, same_Some, begins, chunk_fields, chunk_head_length, chunk_magic}
-use Rattle.nbd_session.proofs.parsing.LeadingLemmas.{leading_chunk-is, leading_extended_chunk-is}
+use Rattle.nbd_session.proofs.{Common.{◌≡◌, length, rules, sym, ◌∙◌, ap, subst, true, same_Some, begins, chunk_fields, chunk_head_length, chunk_magic}, parsing.LeadingLemmas.{leading_chunk-is, leading_extended_chunk-is}}
 use Rattle.nbd_session.proofs.replies.read_chunk.Goals as goal
 
 pub unwrap-requires : goal.unwrap-requires

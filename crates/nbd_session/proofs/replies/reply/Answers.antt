@@ -1,6 +1,4 @@
-use Rattle.nbd_session.proofs.Common.{rules, sym, ◌∙◌, same_Some, expected_decision}
-use Rattle.nbd_session.proofs.expecting.ReplyLemmas.{chunk_decision, chunk_refused, if_err, if_ok, is_chunk, is_simple, simple_decision, simple_refused}
-use Rattle.nbd_session.proofs.parsing.LeadingLemmas.{leading_simple-is}
+use Rattle.nbd_session.proofs.{Common.{rules, sym, ◌∙◌, same_Some, expected_decision}, expecting.ReplyLemmas.{chunk_decision, chunk_refused, if_err, if_ok, is_chunk, is_simple, simple_decision, simple_refused}, parsing.LeadingLemmas.leading_simple-is}
 use Rattle.nbd_session.proofs.replies.reply.Goals as goal
 
 pub read_chunk-requires : goal.read_chunk-requires

@@ -1,6 +1,4 @@
-use Rattle.nbd_session.proofs.Common.{arith, ◌≡◌, sym, ◌∙◌, ap, slice_get, Some, rules, option_copied, simple_fault}
-use Rattle.nbd_session.proofs.expecting.ReplyLemmas.{forbidden_of, simple_is}
-use Rattle.nbd_session.proofs.parsing.ShownOperationLemmas.{copied_at, not_both}
+use Rattle.nbd_session.proofs.{Common.{arith, ◌≡◌, sym, ◌∙◌, ap, slice_get, Some, rules, option_copied, simple_fault}, expecting.ReplyLemmas.{forbidden_of, simple_is}, parsing.ShownOperationLemmas.{copied_at, not_both}}
 use Rattle.nbd_session.proofs.replies.simple.Goals as goal
 
 pub returns-clause-expected : goal.returns-clause-expected

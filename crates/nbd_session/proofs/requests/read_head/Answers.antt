@@ -1,5 +1,4 @@
-use Rattle.nbd_session.proofs.Common.{sym, ◌∙◌, ap, request_head_length, request_head_of}
-use Rattle.nbd_session.proofs.parsing.LeadingLemmas.{leading_extended_request-is, leading_request-is}
+use Rattle.nbd_session.proofs.{Common.{sym, ◌∙◌, ap, request_head_length, request_head_of}, parsing.LeadingLemmas.{leading_extended_request-is, leading_request-is}}
 use Rattle.nbd_session.proofs.requests.read_head.Goals as goal
 
 pub returns-then-extended : goal.returns-then-extended

@@ -1,5 +1,4 @@
-use Rattle.nbd_session.proofs.Common.{arith, rules, sym, ◌∙◌, AreBytes-from_places}
-use Rattle.nbd_session.proofs.expecting.RequestLemmas.{bad_request, beyond_request, good_request, no_request}
+use Rattle.nbd_session.proofs.{Common.{arith, rules, sym, ◌∙◌, AreBytes-from_places}, expecting.RequestLemmas.{bad_request, beyond_request, good_request, no_request}}
 use Rattle.nbd_session.proofs.requests.request.Goals as goal
 
 pub returns-in_default-clause-refused : goal.returns-in_default-clause-refused

@@ -1,5 +1,4 @@
-use Rattle.nbd_session.proofs.Common.{◌≡◌, ◌+◌, ◌∙◌, ap, arith, fold, min, rules, zero-add, piece_size, total}
-use Rattle.nbd_session.proofs.judge.ChunkFaultLemmas.{fold-total}
+use Rattle.nbd_session.proofs.{Common.{◌≡◌, ◌+◌, ◌∙◌, ap, arith, fold, min, rules, zero-add, piece_size, total}, judge.ChunkFaultLemmas.fold-total}
 use Rattle.nbd_session.proofs.spans.bytes_in.Goals as goal
 
 pub returns : goal.returns

@@ -1,5 +1,4 @@
-use Rattle.nbd_session.proofs.Common.{ap, arith, refl, sym, extent_of, extents_of}
-use Rattle.nbd_session.proofs.judge.ExtentLemmas.{Within, within_last, within_next, within_passed}
+use Rattle.nbd_session.proofs.{Common.{ap, arith, refl, sym, extent_of, extents_of}, judge.ExtentLemmas.{Within, within_last, within_next, within_passed}}
 use Rattle.nbd_session.proofs.statuses.last_begins_within.Goals as goal
 
 pub loop-next-init : goal.loop-next-init

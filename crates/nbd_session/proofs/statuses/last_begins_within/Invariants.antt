@@ -1,5 +1,4 @@
-use Rattle.nbd_session.proofs.Common.{◌≡◌, ◌∷◌, length, extent_of, extents_of}
-use Rattle.nbd_session.proofs.judge.ExtentLemmas.{Within}
+use Rattle.nbd_session.proofs.{Common.{◌≡◌, ◌∷◌, length, extent_of, extents_of}, judge.ExtentLemmas.Within}
 use Rattle.nbd_session.proofs.statuses.last_begins_within.Given as goal
 
 -- what is left answers for the whole

@@ -1,6 +1,5 @@
-use Rattle.nbd_session.proofs.Common.{not-false, not-true, ◌==◌, ◌∙◌, ap, arith, length, sym, status_kind, total, chunk_with, chunk_ends, option_to_list, Status, has, Operation, has_failed, is_proper, pieces, extents_of, with_reply, is_settled, done_by, finish_by, told_with}
+use Rattle.nbd_session.proofs.{Common.{not-false, not-true, ◌==◌, ◌∙◌, ap, arith, length, sym, status_kind, total, chunk_with, chunk_ends, option_to_list, Status, has, Operation, has_failed, is_proper, pieces, extents_of, with_reply, is_settled, done_by, finish_by, told_with}, judge.ChunkFaultLemmas.{lacks, malformed_status, right_status, status_is, unknown_status, wrong_status}}
 use Rattle.nbd_wire.specs.declared.chunks.TheConstants as chunks
-use Rattle.nbd_session.proofs.judge.ChunkFaultLemmas.{lacks, malformed_status, right_status, status_is, unknown_status, wrong_status}
 use Rattle.nbd_session.proofs.statuses.status_fault.Goals as goal
 
 pub returns-then-not-has_contexts : goal.returns-then-not-has_contexts

@@ -1,5 +1,4 @@
-use Rattle.nbd_session.proofs.Common.{arith}
-use Rattle.nbd_session.proofs.pushed.NoteLemmas.{is_last_of, last_within, noted_after, noted_grown}
+use Rattle.nbd_session.proofs.{Common.arith, pushed.NoteLemmas.{is_last_of, last_within, noted_after, noted_grown}}
 use Rattle.nbd_session.proofs.stretches.note.Goals as goal
 
 pub returns-then-not-is_last : goal.returns-then-not-is_last

@@ -1,5 +1,4 @@
-use Rattle.nbd_session.proofs.Common.{arith, take-put_mid}
-use Rattle.nbd_session.proofs.steps.IncomingLemmas.{head_with, none_of}
+use Rattle.nbd_session.proofs.{Common.{arith, take-put_mid}, steps.IncomingLemmas.{head_with, none_of}}
 use Rattle.nbd_session.proofs.incoming.Incoming.add.Goals as goal
 
 pub returns-clause-bytes : goal.returns-clause-bytes

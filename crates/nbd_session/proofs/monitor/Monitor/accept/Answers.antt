@@ -1,9 +1,5 @@
-use Rattle.nbd_session.proofs.Common.{◌∙◌, ap, sym, subst, Some, Memory, IsKept, IsShut, Monitor, completed, message_of}
-use Rattle.nbd_session.proofs.steps.ConcludeLemmas.{where_ok}
-use Rattle.nbd_session.proofs.steps.EmptiedLemmas.{answers, kept_accepted, kept_shut, may}
-use Rattle.nbd_session.proofs.steps.SettleLemmas.{shut_memory}
+use Rattle.nbd_session.proofs.{Common.{◌∙◌, ap, sym, subst, Some, Memory, IsKept, IsShut, Monitor, completed, message_of}, steps.{ConcludeLemmas.where_ok, EmptiedLemmas.{answers, kept_accepted, kept_shut, may}, SettleLemmas.shut_memory}, monitor.Monitor.accept.Goals.{then-is_err, else-is_err}}
 use Rattle.nbd_session.proofs.monitor.Monitor.accept.Goals as goal
-use Rattle.nbd_session.proofs.monitor.Monitor.accept.Goals.{then-is_err, else-is_err}
 
 pub returns-in_default-clause-kept : goal.returns-in_default-clause-kept
 returns-in_default-clause-kept c = λ past w.

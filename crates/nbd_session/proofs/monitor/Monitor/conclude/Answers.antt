@@ -1,6 +1,4 @@
-use Rattle.nbd_session.proofs.Common.{◌≤◌, ◌<◌, ◌∙◌, sym, subst, length, Some, Wire, IsKept, completed}
-use Rattle.nbd_session.proofs.judge.PieceLemmas.{kept}
-use Rattle.nbd_session.proofs.steps.ConcludeLemmas.{refused_at_end, stands_in, still_missing, whole_at_end}
+use Rattle.nbd_session.proofs.{Common.{◌≤◌, ◌<◌, ◌∙◌, sym, subst, length, Some, Wire, IsKept, completed}, judge.PieceLemmas.kept, steps.ConcludeLemmas.{refused_at_end, stands_in, still_missing, whole_at_end}}
 use Rattle.nbd_session.proofs.monitor.Monitor.conclude.Goals as goal
 
 pub returns-then-payload-payload_length-clause-kept : goal.returns-then-payload-payload_length-clause-kept

@@ -1,6 +1,4 @@
-use Rattle.nbd_session.proofs.Common.{sym, subst, ◌∙◌, IsReported}
-use Rattle.nbd_session.proofs.judge.RefusalLemmas.{ends, ends_well}
-use Rattle.nbd_session.proofs.reports.ReportLemmas.{reported, sound_told}
+use Rattle.nbd_session.proofs.{Common.{sym, subst, ◌∙◌, IsReported}, judge.RefusalLemmas.{ends, ends_well}, reports.ReportLemmas.{reported, sound_told}}
 use Rattle.nbd_session.proofs.monitor.Monitor.finish.Goals as goal
 
 pub returns-in-Some-clause-wire : goal.returns-in-Some-clause-wire

@@ -1,6 +1,4 @@
-use Rattle.nbd_session.proofs.Common.{◌≡◌, ◌∙◌, ap, sym, length, length-append, arith, None, IncomingView, incoming_of}
-use Rattle.nbd_session.proofs.steps.HoldingLemmas.{rest_is}
-use Rattle.nbd_session.proofs.steps.MissingLemmas.{bare, first_is_missing, head_is_missing, payload_missing}
+use Rattle.nbd_session.proofs.{Common.{◌≡◌, ◌∙◌, ap, sym, length, length-append, arith, None, IncomingView, incoming_of}, steps.{HoldingLemmas.rest_is, MissingLemmas.{bare, first_is_missing, head_is_missing, payload_missing}}}
 use Rattle.nbd_session.proofs.monitor.Monitor.missing.Goals as goal
 
 pub overflow_sub-result : goal.overflow_sub-result

@@ -1,5 +1,4 @@
-use Rattle.nbd_session.proofs.Common.{None, refl}
-use Rattle.nbd_session.proofs.judge.BeginningLemmas.{begins}
+use Rattle.nbd_session.proofs.{Common.{None, refl}, judge.BeginningLemmas.begins}
 use Rattle.nbd_session.proofs.monitor.Monitor.of.Goals as goal
 
 pub returns : goal.returns

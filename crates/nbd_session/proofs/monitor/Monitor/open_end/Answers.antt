@@ -1,7 +1,5 @@
-use Rattle.nbd_session.proofs.Common.{sym, ◌∙◌, inl, inr, Client, Server, open_end_fault}
-use Rattle.nbd_session.proofs.steps.TakenLemmas.{none_on, open_at}
+use Rattle.nbd_session.proofs.{Common.{sym, ◌∙◌, inl, inr, Client, Server, open_end_fault}, steps.TakenLemmas.{none_on, open_at}, monitor.Monitor.open_end.Goals.{else-is_empty-via-then-is_empty+else-is_empty-2, else-is_empty-via-else-is_empty}}
 use Rattle.nbd_session.proofs.monitor.Monitor.open_end.Goals as goal
-use Rattle.nbd_session.proofs.monitor.Monitor.open_end.Goals.{else-is_empty-via-then-is_empty+else-is_empty-2, else-is_empty-via-else-is_empty}
 
 pub returns-then-is_empty-2 : goal.returns-then-is_empty-2
 returns-then-is_empty-2 c =

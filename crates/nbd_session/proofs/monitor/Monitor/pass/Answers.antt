@@ -1,5 +1,4 @@
-use Rattle.nbd_session.proofs.Common.{completed, sent, take}
-use Rattle.nbd_session.proofs.pushed.FollowLemmas.{adds_step}
+use Rattle.nbd_session.proofs.{Common.{completed, sent, take}, pushed.FollowLemmas.adds_step}
 use Rattle.nbd_session.proofs.monitor.Monitor.pass.Goals as goal
 
 pub returns-clause-adds : goal.returns-clause-adds

@@ -1,10 +1,6 @@
-use Rattle.nbd_session.proofs.Common.{eqb-true, no_length, Ok, Err, ◌≡◌, ◌∙◌, ◌+◌, ◌<◌, ap, arith, refl, sym, subst, [], length, None, Some, Adds, IsKept, Monitor, Past, past_of}
-use Rattle.nbd_session.proofs.judge.PieceLemmas.{added_then, kept_taken, stands_open}
-use Rattle.nbd_session.proofs.pushed.FollowLemmas.{pushed}
-use Rattle.nbd_session.proofs.pushed.LogLemmas.{adds_fits, adds_nothing, comes_nearer}
-use Rattle.nbd_session.proofs.steps.IncomingLemmas.{none_of}
-use Rattle.nbd_session.proofs.monitor.Monitor.push.Goals as goal
+use Rattle.nbd_session.proofs.{Common.{eqb-true, no_length, Ok, Err, ◌≡◌, ◌∙◌, ◌+◌, ◌<◌, ap, arith, refl, sym, subst, [], length, None, Some, Adds, IsKept, Monitor, Past, past_of}, judge.PieceLemmas.{added_then, kept_taken, stands_open}, pushed.{FollowLemmas.pushed, LogLemmas.{adds_fits, adds_nothing, comes_nearer}}, steps.IncomingLemmas.none_of}
 use Rattle.nbd_session.proofs.monitor.Monitor.push.Goals.{then-loop-self-test+else-is_none, else-loop-self-test}
+use Rattle.nbd_session.proofs.monitor.Monitor.push.Goals as goal
 
 pub loop-self-init : goal.loop-self-init
 loop-self-init c = record {

@@ -1,5 +1,4 @@
-use Rattle.nbd_session.proofs.Common.{◌≡◌, ◌+◌, ◌<◌, length, Adds, IsKept, Past, SessionFault, Some}
-use Rattle.nbd_session.proofs.pushed.LogLemmas.{to_go}
+use Rattle.nbd_session.proofs.{Common.{◌≡◌, ◌+◌, ◌<◌, length, Adds, IsKept, Past, SessionFault, Some}, pushed.LogLemmas.to_go}
 use Rattle.nbd_session.proofs.monitor.Monitor.push.Given as goal
 
 -- all but what is left of the piece was taken

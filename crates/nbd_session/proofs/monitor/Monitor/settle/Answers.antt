@@ -1,7 +1,4 @@
-use Rattle.nbd_session.proofs.Common.{sym, subst, None, Some, Wire, IsExpecting, IsKept, Knows, completed}
-use Rattle.nbd_session.proofs.judge.PieceLemmas.{kept}
-use Rattle.nbd_session.proofs.steps.ConcludeLemmas.{head_missing, head_shut, is_expecting}
-use Rattle.nbd_session.proofs.steps.HoldingLemmas.{same_if_expected}
+use Rattle.nbd_session.proofs.{Common.{sym, subst, None, Some, Wire, IsExpecting, IsKept, Knows, completed}, judge.PieceLemmas.kept, steps.{ConcludeLemmas.{head_missing, head_shut, is_expecting}, HoldingLemmas.same_if_expected}}
 use Rattle.nbd_session.proofs.monitor.Monitor.settle.Goals as goal
 
 pub conclude-requires : goal.conclude-requires

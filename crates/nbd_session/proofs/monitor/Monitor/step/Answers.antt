@@ -1,5 +1,4 @@
-use Rattle.nbd_session.proofs.Common.{[], arith, sym, subst, take, Monitor, Memory, Some, IsShut, sent}
-use Rattle.nbd_session.proofs.judge.PieceLemmas.{awaits_some, closed_memory, sent_nothing, took}
+use Rattle.nbd_session.proofs.{Common.{[], arith, sym, subst, take, Monitor, Memory, Some, IsShut, sent}, judge.PieceLemmas.{awaits_some, closed_memory, sent_nothing, took}}
 use Rattle.nbd_session.proofs.monitor.Monitor.step.Goals as goal
 
 pub returns-in-Err-clause-kept : goal.returns-in-Err-clause-kept

@@ -1,6 +1,4 @@
-use Rattle.nbd_session.proofs.Common.{arith, ◌∙◌, ap, sym, IncomingView, IsHeadRefused}
-use Rattle.nbd_session.proofs.steps.ConcludeLemmas.{head_refused, head_whole, knows_again, knows_expected, knows_short, length_refused}
-use Rattle.nbd_session.proofs.steps.SettleLemmas.{handed_on}
+use Rattle.nbd_session.proofs.{Common.{arith, ◌∙◌, ap, sym, IncomingView, IsHeadRefused}, steps.{ConcludeLemmas.{head_refused, head_whole, knows_again, knows_expected, knows_short, length_refused}, SettleLemmas.handed_on}}
 use Rattle.nbd_session.proofs.monitor.Monitor.told.Goals as goal
 
 pub returns-in-Some-clause-known : goal.returns-in-Some-clause-known

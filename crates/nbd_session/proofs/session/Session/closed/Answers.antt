@@ -1,5 +1,4 @@
-use Rattle.nbd_session.proofs.Common.{subst, IsComplete}
-use Rattle.nbd_session.proofs.judge.RefusalLemmas.{is_complete}
+use Rattle.nbd_session.proofs.{Common.{subst, IsComplete}, judge.RefusalLemmas.is_complete}
 use Rattle.nbd_session.proofs.session.Session.closed.Goals as goal
 
 pub returns-clause-complete : goal.returns-clause-complete

@@ -1,5 +1,4 @@
-use Rattle.nbd_session.proofs.Common.{subst, IsComplete, IsOfRun}
-use Rattle.nbd_session.proofs.judge.RefusalLemmas.{is_complete, is_of_run}
+use Rattle.nbd_session.proofs.{Common.{subst, IsComplete, IsOfRun}, judge.RefusalLemmas.{is_complete, is_of_run}}
 use Rattle.nbd_session.proofs.session.Session.into_messages.Goals as goal
 
 pub returns-clause-run : goal.returns-clause-run

@@ -1,7 +1,4 @@
-use Rattle.nbd_session.proofs.Common.{◌≡◌, ◌∙◌, ◌+◌, ◌<◌, ap, arith, refl, sym, subst, length, None, Some, Adds, SessionView, bytes_taken, pairs_of}
-use Rattle.nbd_session.proofs.judge.PieceLemmas.{added_then}
-use Rattle.nbd_session.proofs.pushed.LogLemmas.{adds_fits, adds_nothing, comes_nearer}
-use Rattle.nbd_session.proofs.steps.IncomingLemmas.{none_of}
+use Rattle.nbd_session.proofs.{Common.{◌≡◌, ◌∙◌, ◌+◌, ◌<◌, ap, arith, refl, sym, subst, length, None, Some, Adds, SessionView, bytes_taken, pairs_of}, judge.PieceLemmas.added_then, pushed.LogLemmas.{adds_fits, adds_nothing, comes_nearer}, steps.IncomingLemmas.none_of}
 use Rattle.nbd_session.proofs.session.Session.push.Goals as goal
 
 pub loop-self-init : goal.loop-self-init

@@ -1,5 +1,4 @@
-use Rattle.nbd_session.proofs.Common.{◌≡◌, ◌+◌, ◌<◌, length, Adds, SessionFault, Some, bytes_taken, pairs_of}
-use Rattle.nbd_session.proofs.pushed.LogLemmas.{to_go}
+use Rattle.nbd_session.proofs.{Common.{◌≡◌, ◌+◌, ◌<◌, length, Adds, SessionFault, Some, bytes_taken, pairs_of}, pushed.LogLemmas.to_go}
 use Rattle.nbd_session.proofs.session.Session.push.Given as goal
 
 -- all but what is left of the piece was taken

@@ -1,6 +1,4 @@
-use Rattle.nbd_session.proofs.Common.{◌++◌, ◌∙◌, ap, arith, subst, drop, take, option_to_list, past_of, stretch_bytes, stretches_of, take-append-drop, Adds, SessionView, bytes_taken, pairs_of, session_view}
-use Rattle.nbd_session.proofs.judge.PieceLemmas.{stands_open}
-use Rattle.nbd_session.proofs.pushed.LogLemmas.{added_more, logged_closed, logged_more, noted_as, stretches_within}
+use Rattle.nbd_session.proofs.{Common.{◌++◌, ◌∙◌, ap, arith, subst, drop, take, option_to_list, past_of, stretch_bytes, stretches_of, take-append-drop, Adds, SessionView, bytes_taken, pairs_of, session_view}, judge.PieceLemmas.stands_open, pushed.LogLemmas.{added_more, logged_closed, logged_more, noted_as, stretches_within}}
 use Rattle.nbd_session.proofs.session.Session.step.Goals as goal
 
 pub invariant_of-self : goal.invariant_of-self

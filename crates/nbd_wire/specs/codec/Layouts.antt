@@ -1,4 +1,5 @@
--- The heads of messages, from the numbers in them to their bytes. Numbers are big-endian.
+-- The heads of messages as the code writes them, from the numbers in them, the payload's length among them, to their
+-- bytes. Numbers are big-endian.
 use Rattle.std.specs.Prelude.{ℕ, List, ◌++◌}
 use Rattle.byteorder.specs.Endian.{big_bytes}
 use Rattle.nbd_wire.specs.declared.magics.TheConstants.{GREETING_MAGIC, OPTION_MAGIC, ANSWER_MAGIC, REQUEST_MAGIC, SIMPLE_MAGIC, CHUNK_MAGIC, EXTENDED_REQUEST_MAGIC, EXTENDED_CHUNK_MAGIC}
