@@ -39,7 +39,8 @@ pub data AreDigits : List ℕ → List ℕ → Type 0 where
       → IsDigit first high → IsDigit second low → AreDigits digits bytes
       → AreDigits (first ∷ second ∷ digits) ((high * 16 + low) ∷ bytes)
 
--- the forms of a line: a side's letter, a space and the digits of a chunk's bytes, if any; nothing; a `#` and anything
+-- the forms of a line: a side's letter, one space and the digits of a chunk's bytes, possibly none; nothing; a `#`, and
+-- anything after it
 pub data IsCaptureLine : List ℕ → List Chunk → Type 0 where
   chunk : (side : Side) (digits bytes : List ℕ)
       → AreDigits digits bytes → IsCaptureLine (letter side ∷ space ∷ digits)

@@ -7,7 +7,8 @@ abbrev pub number_lines : ℕ → List ℕ
 number_lines zero = []
 number_lines (suc n) = number_lines n ++ (decimal (suc n) ++ codes "\n")
 
--- a run of the profile has these bytes, and its requests' numbers were written; or none has, and nothing was written
+-- some run of the profile has these bytes, and the numbers of its requests were written; or no such run has them, and
+-- nothing was written
 pub data HasArrival (profile : Profile) (capture : List Pair) (old new : Option (List ℕ)) : Bool → Type 0 where
   accepted : (items : List Item) → IsRunOf profile items → pairs items ≡ capture
       → Appends old new (number_lines (length (report items).asked))

@@ -46,7 +46,8 @@ read_of image = record {
   read = slice_get image;
 }
 
--- an image of the export's size has each byte that is known exactly where such a READ of these bytes is not wrong
+-- an image of the export's size has each byte that is known exactly where such a READ, served where the export holds
+-- these bytes, serves no wrong byte
 abbrev pub ImagesCompareAsReads : Type 0
 ImagesCompareAsReads = (bytes : ℕ → Option ℕ) (size : ℕ) (image : List ℕ) → length image ≡ size
     → ((x : ℕ) → DiffersAt (held_from bytes 0 size) image x → ⊥)

@@ -4,7 +4,8 @@ use Rattle.nbd_explain.specs.{Common.{Entry, WireFault, Message, Profile, Verdic
 use Rattle.nbd_explain.specs.Explained.{IsExplainCause}
 use Rattle.nbd_wire.specs.declared.verdict.Verdict.TheVariants.{Image, Wire}
 
--- what an order leaves that explains a capture from a start: bytes, or nothing where transmission was not reached
+-- what an order leaves that explains a capture from a start, in the profile: its bytes, or nothing where transmission
+-- was not reached
 pub data IsLeftOf (profile : Profile) (capture : List Pair) (order : List Entry) (initial : Start)
     : Option Held → Type 0 where
   held : (items : List Item) (export : Exporting) → IsRunOf profile items → pairs items ≡ capture
@@ -43,7 +44,8 @@ abbrev pub IsRefusedGiven : Profile → List Pair → Option (List Entry) → St
 IsRefusedGiven profile capture (Some order) initial v = IsChecked profile capture order initial v × (SaysYes v → ⊥)
 IsRefusedGiven profile capture None initial v = IsRefusedOf profile capture initial v
 
--- what was written of bytes that are left, and the answer: their text; or how an image compares, where it is known
+-- what was written of bytes that are left, and the answer: their text; or, where an image's bytes are known, how they
+-- compare with it
 abbrev pub WritesBytes : {A : Type 0} → (A → Option (List ℕ)) → Option A → Held → (old new : Option (List ℕ)) → Bool
     → Type 0
 WritesBytes of_image None bytes old new answer = Appends old new (printed bytes) × (answer ≡ true)
@@ -71,7 +73,8 @@ HasEntries of_order (Some order) (Some entries) = IfSome (of_order order) (λ te
 HasEntries of_order None None = Unit {0}
 HasEntries of_order order entries = ⊥
 
--- what was written of some capture, entries and start: those of the texts and of the start, as far as they are known
+-- what was written of some capture, entries and start, which are those of the texts and of the start as far as they are
+-- known
 pub record WritesContents {O A : Type 0} (profile : Profile) (of_order : O → Option (List ℕ))
     (of_image : A → Option (List ℕ)) (known : Option (List ℕ)) (order : Option O) (start : Option Start)
     (against : Option A) (old new : Option (List ℕ)) (answer : Bool) : Type 0 where

@@ -6,7 +6,8 @@ use Rattle.nbd_explain.specs.{Common.{Profile, Verdict, Start, RunFault, StartFr
 abbrev pub BeginsWithLine : Verdict → (old new : Option (List ℕ)) → Type 0
 BeginsWithLine verdict old new = BeginsWith (line verdict) old new
 
--- the whole line of a verdict of the profile was written, and text behind it; the answer is yes exactly where that is
+-- the whole line of one verdict of the profile was written, and some text behind it; yes was answered exactly where the
+-- verdict is a yes, and else no
 pub record Explains (profile : Profile) (capture order : Option (List ℕ)) (initial : Option Start) (answered : Answer)
     (old new : Option (List ℕ)) : Type 0 where
   pub verdict : Verdict

@@ -13,8 +13,9 @@ pub record Leads (profile : Profile) (capture prefix : List Pair) (messages : Li
   pub parts : prefix ++ rest ≡ capture
   pub run : HasRunOf profile prefix messages client server
 
--- what is to be shown of a capture's bytes: answer, messages and last line. Of a run of the profile all its messages
--- and `ok`; where no such run has them the messages that completed before the fault, and the line of the wire fault.
+-- what is to be shown of a capture's bytes: the answer, the messages and the last line. A run of the profile has
+-- exactly these bytes: all its messages and `ok`. Or no such run has them: the messages that completed before the
+-- fault, and the line of the wire fault.
 pub data IsShown (profile : Profile) (capture : List Pair) : Bool → List Message → List ℕ → Type 0 where
   accepted : (messages : List Message) → HasRunOf profile capture messages [] []
       → IsShown profile capture true messages (codes "ok\n")

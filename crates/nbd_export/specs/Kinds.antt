@@ -25,7 +25,8 @@ kind_before from (suc x) = kind_at from x
 abbrev pub IsApartAt : (ℕ → Option Kind) → ℕ → Type 0
 IsApartAt from x = (kind : Kind) → from x ≡ Some kind → kind_before from x ≡ Some kind → ⊥
 
--- how many ranges n bytes from an offset on meet, by the kinds from each start: the first byte's and those behind it
+-- in how many ranges n bytes from an offset on lie, by the kinds from each start: the first byte's, and those that
+-- begin behind it
 unfoldable pub ranges_met : (ℕ → Option Kind) → (offset n : ℕ) → ℕ
 ranges_met from offset zero = 0
 ranges_met from offset (suc n) = ranges_met from offset n

@@ -2,7 +2,8 @@
 use Rattle.std.specs.Prelude.{◌≡◌, ◌++◌, ℕ, List, Bool, true, false, Option, Some, None, Result, Ok, Err, codes}
 use Rattle.nbd_files.specs.{declared.{fault.RunFault.RunFault, command_line.StartWord.{StartWord, TheVariants.{Unknown, Zero, Image, Contents}}}, RunFaults.status}
 
--- the word behind `--start` names this start: unknown bytes, zeroes, those of an `image:` file, or a `contents:` text's
+-- the word behind `--start` names this start: bytes that are not known, zeroes, those of the file behind `image:`, or
+-- what the text in the file behind `contents:` says
 abbrev pub Names : List ℕ → StartWord → Type 0
 Names word Unknown = word ≡ codes "unknown"
 Names word Zero = word ≡ codes "zero"

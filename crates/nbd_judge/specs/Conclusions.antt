@@ -6,7 +6,8 @@ use Rattle.nbd_session.specs.declared.fault.SessionFault.{SessionFault}
 use Rattle.nbd_session.specs.declared.fault.SessionFault.TheVariants as session
 use Rattle.nbd_judge.specs.Verdicts.{IsVerdict}
 
--- the verdict on a finished session of the profile: that on its report, or its wire fault; none when out of memory
+-- the verdict on a finished session of the profile: that on its report, or its wire fault; none where it met out of
+-- memory
 abbrev pub IsConclusion : Profile → Result Report SessionFault → List Entry → Start → Verdict → Type 0
 IsConclusion profile (Ok r) order initial v = IsVerdict profile r order initial v
 IsConclusion profile (Err (session.Wire at fault)) order initial v = v ≡ Wire at fault

@@ -22,7 +22,8 @@ OneWireFault = (profile : Profile) (capture : List Pair) (messages more : List M
     → IsWireFaultOf profile capture more place other →
     (at ≡ place) × (fault ≡ other) × (messages ≡ more)
 
--- in a profile a capture, an order and a start have one answer at most; so equal flat captures get equal answers
+-- in a profile a capture, an order and a start have one answer at most; so two lists of records with one flat capture
+-- get equal answers
 abbrev pub OneAnswer : Type 0
 OneAnswer = (profile : Profile) (capture : List Pair) (order : List Entry) (initial : Start) (v w : Verdict) →
     IsChecked profile capture order initial v → IsChecked profile capture order initial w → v ≡ w

@@ -37,7 +37,8 @@ IsMakeCause text (make_faults.Line n) = IsFirstBadScriptLine text n
 IsMakeCause text make_faults.Write = (messages : List Message) × IsScript text messages
 IsMakeCause text make_faults.Memory = Unit {0}
 
--- what stands written after a fault of `make`: nothing unless the text is a script, then a prefix of its chunk lines
+-- what stands written after a fault of `make`: nothing unless the text is a script, and then a prefix of its chunk
+-- lines
 abbrev pub LeavesMade : List ℕ → Option (List ℕ) → Option (List ℕ) → MakeFault → Type 0
 LeavesMade text old new (make_faults.Line n) = Keeps old new
 LeavesMade text old new make_faults.Write = MakesPrefix text old new

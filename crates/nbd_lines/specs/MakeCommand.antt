@@ -41,7 +41,8 @@ IsScriptCause known Write = IsKnownScript known
 IsScriptCause known Memory = Unit {0}
 IsScriptCause known _ = ⊥
 
--- what stands written after a fault: of the writer a prefix of the chunk lines, of memory that or nothing, else nothing
+-- what stands written after a fault: a prefix of the script's chunk lines where the writer failed, a prefix or nothing
+-- after want of memory, else nothing
 abbrev pub LeavesLines : (known old new : Option (List ℕ)) → RunFault → Type 0
 LeavesLines known old new Write = MakesSome known old new
 LeavesLines known old new Memory = Keeps old new ⊎ MakesSome known old new

@@ -44,7 +44,8 @@ abbrev pub IsUnexplainedByArrival : Profile → List Item → Start → Type 0
 IsUnexplainedByArrival profile items initial =
     IsExplainedOf profile (pairs items) (arrival (request_count (report items))) initial → ⊥
 
--- what that says of a run's bytes with this report: the order explains them, no order does, or that of arrival does not
+-- what that says of the bytes of a run of the profile with this report: the order explains them, or no order does, or
+-- at least that of arrival does not
 abbrev pub Says : Profile → List Item → Start → Found → Type 0
 Says profile items initial (Order order) = IsExplainedOf profile (pairs items) order.items initial
 Says profile items initial (Unexplained refutation) = IsUnexplained profile (pairs items) initial

@@ -6,14 +6,16 @@ use Rattle.nbd_order.specs.{Common.{Entry, Profile, Held, IsExplainedOf, Start, 
 abbrev pub core_of : List Item → Core
 core_of items = (ends_at start items).core
 
--- a run is cut behind its first part: no message is half-way, transmission is reached, each request has its whole reply
+-- a run is cut behind its first part: no message is half-way there, transmission is reached, and each request has its
+-- whole reply
 pub record IsCut (profile : Profile) (first rest : List Item) (export : Exporting) : Type 0 where
   pub is_run : IsRunOf profile first
   pub goes_on : IsRunOf profile (first ++ rest)
   pub in_transmission : (core_of first).phase ≡ Transmission export
   pub answered : (k : ℕ) (a : Asked) → asked_at k (report first).asked ≡ Some a → a.outcome ≡ Pending → ⊥
 
--- a negotiation leads to where that part stands, without its requests: the same export, replies, contexts and sizes
+-- a negotiation leads to where that part stands, without its requests: to the same size and flags, the same form of
+-- replies, the same contexts and block sizes
 pub record LeadsThere (first negotiation : List Item) : Type 0 where
   pub phase : (core_of negotiation).phase ≡ (core_of first).phase
   pub structured : (core_of negotiation).structured ≡ (core_of first).structured
@@ -35,7 +37,8 @@ behind n order = map (λ (e : Entry). record { request = n + e.request; part = e
 abbrev pub start_behind : Report → List Entry → Start → Start
 start_behind r order initial = Held (held_from (left r order (start_byte initial)) 0 (size_of r.export))
 
--- an order of the whole is one of each part, in turn; it explains the first, and the second from what the first left
+-- an order of the whole is one of each part, one behind the other; it explains the first part, and the second one from
+-- what the first left
 pub record IsExplainedInParts (profile : Profile) (first second : List Item) (order : List Entry)
     (initial : Start) : Type 0 where
   pub earlier : List Entry

@@ -50,7 +50,8 @@ abbrev pub byte_got : Option Asked → (x : ℕ) → Option ℕ
 byte_got (Some a) x = byte_at a.pieces x
 byte_got None x = None
 
--- the byte at x that READ m, the last to get one there, got, if it arrived behind the first reply to each change at x
+-- the byte at x that READ m got, the last one that got a byte there, where it arrived behind the first reply to each
+-- change at x: so it was served behind all of them
 abbrev pub byte_seen : List Asked → (x : ℕ) → (last_read : Option ℕ) → Option ℕ
 byte_seen asked x (Some m) =
     if list_any (changes_behind m x) asked then None else byte_got (asked_at m asked) x

@@ -13,7 +13,8 @@ abbrev pub is_settled_by : Telling → (id : ℕ) → Bool
 is_settled_by telling id =
     if telling.filtered then not (contains nat_cmp telling.ids id) else contains nat_cmp telling.ids id
 
--- what a request with this filter, if any, and length in its head asks of an export with these flags and contexts
+-- this is what a request with this filter, if any, and of this length in its head asks of an export with these flags,
+-- where these contexts are in force
 pub record Asks (flags : ℕ) (contexts : List Context) (filter : Option Filter) (len : ℕ)
     (asking : Asking) : Type 0 where
   pub has_contexts_is : asking.has_contexts ≡ not (length contexts == 0)

@@ -8,7 +8,8 @@ abbrev pub IsWireAt : ℕ → SessionFault → Type 0
 IsWireAt n (session.Wire at fault) = at ≡ n
 IsWireAt n session.Memory = ⊥
 
--- a session held to the profile took all of a capture's bytes, or was closed by a wire fault at the last that it took
+-- a session that is held to the profile took all of a capture's bytes, or was closed by a wire fault at the last one
+-- that it took
 pub record IsOver (profile : Profile) (capture : List Pair) (r : SessionView) : Type 0 where
   pub profile_is : r.profile ≡ profile
   pub left : List Pair

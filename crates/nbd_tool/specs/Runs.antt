@@ -58,7 +58,8 @@ AnswersExactly profile (Some text) (Some order_text) (Some initial) says =
     × (IsTrue says ↔ IsExplainedOf profile (flat_of chunks) entries initial)
 AnswersExactly profile capture order initial says = Unit {0}
 
--- what a fault says of the capture's and the order's known bytes and of the start, which are judged in this order
+-- what a fault says of the known bytes of the capture and of the order, and of the start: the capture is judged first,
+-- then the order, then the start
 abbrev pub IsCause : {I : Type 0} → (I → Option (List ℕ)) → (capture order : Option (List ℕ)) → StartFrom I → RunFault
     → Type 0
 IsCause remaining capture order start (CaptureLine n) = IfSome capture (λ text. IsFirstBadCaptureLine text n)
@@ -77,7 +78,8 @@ pub record TellsPrefix (profile : Profile) (capture order : Option (List ℕ)) (
   pub is_verdict : IsVerdictOn profile capture order initial verdict
   pub appended : AppendsPrefix old new (line verdict)
 
--- what stands written after a fault: a prefix of a verdict's line of the profile where the writer failed, else nothing
+-- what stands written after a fault: a prefix of the line of a verdict of the profile where the writer failed, else
+-- nothing
 abbrev pub LeavesWritten : Profile → (capture order : Option (List ℕ)) → Option Start → (old new : Option (List ℕ))
     → RunFault → Type 0
 LeavesWritten profile capture order initial old new Write = TellsPrefix profile capture order initial old new

@@ -4,7 +4,8 @@ use Rattle.nbd_explain.specs.{Common.{WireFault, Profile, Start, Item, Report, r
 use Rattle.nbd_session.specs.declared.fault.SessionFault.TheVariants.{Wire}
 use Rattle.nbd_wire.specs.declared.verdict.Verdict.TheVariants as verdict
 
--- answer and text: of a report those of what is found of it from this beginning, of a refused session its verdict's
+-- the answer and the text: of a report those of what is found of it from this beginning, of a refused session the
+-- verdict's line
 pub data IsToldOf (profile : Profile) (beginning : Beginning) (wanted : Wanted)
     : Result Report SessionFault → Ordered → List ℕ → Type 0 where
   of_report : (told : Report) (f : Found) → ((initial : Start) → IsReadAs (size_of told.export) initial beginning

@@ -24,7 +24,8 @@ LieApart span (p ∷ ps) =
     × SharesNone p ps
     × LieApart span ps
 
--- the parts of request k that the entries name, in an index, and what they leave of the span; no entry serves it whole
+-- the parts of request k that the entries name, in an index, and how many bytes of the span they leave; no entry serves
+-- the request atomically
 pub record AreParts (sizes : ℕ → Option ℕ) (left : ℕ) (span : Span) (entries : List Entry) (k : ℕ) : Type 0 where
   pub in_parts : NamesWhole entries k → ⊥
   pub index : IsIndex sizes (parts_of entries k)
@@ -116,7 +117,8 @@ span_in size a = span_if (has_inside a && nat_lt a.offset size) a.offset a.lengt
 abbrev pub span_of_asked : Option Exporting → Asked → Span
 span_of_asked export a = span_in (size_of export) a
 
--- the table has a cell for each request, that of request k at k - 1, with what the first n entries serve; none is bad
+-- the table has a cell for each request, that of request k at k - 1; each says what the first n entries serve, none of
+-- which is bad
 pub record AreServices (r : Report) (order : List Entry) (n : ℕ) (table : List Service) : Type 0 where
   pub len : length table ≡ length r.asked
   pub none_bad : (i : ℕ) → i < n → IsBad (length r.asked) (inside_in r) order i → ⊥

@@ -3,7 +3,8 @@
 use Rattle.std.specs.Prelude.{ℕ, List, ◌≡◌, ◌<◌, ◌⊎◌, ◌==◌, ◌||◌, Bool, true, false, Option, Some, None, IsTrue, slice_get}
 use Rattle.nbd_order.specs.{declared.refutation.State.State, Unexplained.{IsReadOf, has}, Common.{Differs, Effect, effect_byte, effects, touches, Report, due_in, Profile}}
 
--- each entry that serves x of j stands before each of k in an order that is not late: j was due there before k ended
+-- each entry that serves x of request j stands before each of request k, where an order is not late: j was due at x
+-- before k was complete
 abbrev pub IsBefore : Profile → Report → (x j k : ℕ) → Type 0
 IsBefore profile r x j k = (n : ℕ) × (due_in profile r j x ≡ Some n) × (n < k)
 
@@ -73,7 +74,8 @@ abbrev pub AreSteps : Profile → Report → (x : ℕ) → (reads changes : List
 AreSteps profile r x reads changes states served = (c : ℕ) → has changes c ≡ true
     → IsStep profile r x reads changes states served c
 
--- the change w, which leaves this byte, is no help to READ k: another byte, surely before it, or a change between
+-- the change w, which leaves this byte, is no help to READ k: k gave another byte, or surely came before, or one of the
+-- changes surely comes between the two
 abbrev pub IsNoHelp : Profile → Report → (x : ℕ) → (changes : List ℕ) → (w : ℕ) → (byte : Option ℕ) → (k : ℕ) → Type 0
 IsNoHelp profile r x changes w byte k =
     IsOther r x k byte ⊎ IsBefore profile r x k w

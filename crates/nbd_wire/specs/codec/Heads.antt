@@ -41,7 +41,8 @@ IsChunkHead h bytes =
     (h.flags < 2 ^ 16) × (h.kind < 2 ^ 16) × (h.cookie < 2 ^ 64) × (h.length < 2 ^ 32)
     × (bytes ≡ chunk_bytes h.flags h.kind h.cookie h.length) × (h.at ≡ None)
 
--- the extended header of a request (its magic number: proto.md, "Reserved Magic values"; else this project's choice)
+-- the extended header of a request (its magic number: proto.md, "Reserved Magic values"; the rest: this project's
+-- choice)
 unfoldable pub IsExtendedRequestHead : RequestHead → List ℕ → Type 0
 IsExtendedRequestHead h bytes =
     (h.flags < 2 ^ 16) × (h.command < 2 ^ 16) × (h.cookie < 2 ^ 64) × (h.offset < 2 ^ 64) × (h.length < 2 ^ 64)

@@ -39,7 +39,8 @@ abbrev pub chunk_bytes : ℕ → ℕ → ℕ → ℕ → List ℕ
 chunk_bytes flags kind cookie len = big_bytes 4 CHUNK_MAGIC ++ big_bytes 2 flags ++ big_bytes 2 kind
     ++ big_bytes 8 cookie ++ big_bytes 4 len
 
--- a request with an extended header (magic number: proto.md, "Reserved Magic values"; layout as in libnbd and qemu)
+-- a request with an extended header (its magic number: proto.md, "Reserved Magic values"; its
+-- layout is that which libnbd and qemu have)
 abbrev pub extended_request_bytes : ℕ → ℕ → ℕ → ℕ → ℕ → List ℕ
 extended_request_bytes flags command cookie offset len =
     big_bytes 4 EXTENDED_REQUEST_MAGIC ++ big_bytes 2 flags ++ big_bytes 2 command ++ big_bytes 8 cookie

@@ -21,7 +21,8 @@ no_selection = record { export_name = []; contexts = []; granted = false }
 abbrev pub has_id : List Context → ℕ → Bool
 has_id contexts id = list_any (λ (c : Context). c.id == id) contexts
 
--- one descriptor of a status chunk: how many bytes, above 0, and their flags (proto.md, "Structured reply types")
+-- one descriptor of a status chunk: how many bytes it speaks of, above 0, and their flags (proto.md, "Structured reply
+-- types")
 pub record Extent : Type 0 where
   pub length : ℕ
   pub flags : ℕ
@@ -31,7 +32,8 @@ pub record Status : Type 0 where
   pub id : ℕ
   pub extents : List Extent
 
--- what a BLOCK_STATUS's payload asks: its range's length, contexts by id (this project's choice, as libnbd and qemu)
+-- what the payload of a BLOCK_STATUS asks: how long its range is, in bytes, and the contexts with these ids (this
+-- project's choice, read from libnbd and qemu)
 pub record Filter : Type 0 where
   pub length : ℕ
   pub ids : List ℕ

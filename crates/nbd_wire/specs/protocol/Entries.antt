@@ -31,7 +31,8 @@ abbrev pub is_served : List Entry → ℕ → ℕ → Bool
 is_served [] k x = false
 is_served (e ∷ entries) k x = ((e.request == k) && in_part e.part x) || is_served entries k x
 
--- x lies inside a request of this type, offset and length: in its range, if it has one, and below the export's size
+-- x lies inside a request of this type, offset and length: in its range, and below the export's size; nothing does
+-- where the type has no range
 abbrev pub inside : Option Exporting → (command offset length : ℕ) → ℕ → Bool
 inside (Some export) command offset len x = has_range command && (is_in offset len x && nat_lt x export.size)
 inside None command offset len x = false
@@ -41,17 +42,20 @@ abbrev pub inside_of : (proper : Bool) → Option Exporting → (command offset 
 inside_of proper export command offset len x =
     (proper || not (command == commands.BLOCK_STATUS)) && inside export command offset len x
 
--- request k, inside which these offsets lie, is served at x: an entry names it, and one serves x, where x lies inside
+-- request k, inside which these offsets lie, is served as far as x asks for it: an entry names it, and one serves x,
+-- where x lies inside
 pub record IsServedAt (within : ℕ → Bool) (entries : List Entry) (k x : ℕ) : Type 0 where
   pub named : Names entries k
   pub covered : IsTrue (within x) → IsTrue (is_served entries k x)
 
--- request k is served again after these entries: atomically though one names it, or in part though one serves it whole
+-- after these entries request k is served again: atomically though an entry names it, or in part though one serves it
+-- atomically
 abbrev pub IsAgain : List Entry → ℕ → Option Part → Type 0
 IsAgain before k None = Names before k
 IsAgain before k (Some p) = NamesWhole before k
 
--- the part of request k is empty, leaves the inside of the request, or has an offset that an earlier entry serves
+-- the part of request k is empty, leaves the inside of the request, or has an offset that one of the entries before
+-- serves
 abbrev pub IsMisplaced : (within : ℕ → Bool) → List Entry → ℕ → Option Part → Type 0
 IsMisplaced within before k None = ⊥
 IsMisplaced within before k (Some p) =

@@ -68,7 +68,8 @@ abbrev pub byte_or_start : Option Effect → (ℕ → Option ℕ) → ℕ → Op
 byte_or_start (Some e) initial x = effect_byte e x
 byte_or_start None initial x = initial x
 
--- the byte at x at entry i of the order, from 0: what the last change left, or the start's (this project's choice)
+-- the export's byte at x at entry i of the order, counted from 0: what the last change before it left, or else the byte
+-- at the start (this project's choice)
 abbrev pub byte_before : (ℕ → Option Effect) → List Entry → (ℕ → Option ℕ) → ℕ → ℕ → Option ℕ
 byte_before requests order initial i x = byte_or_start (last_touch requests x (take i order)) initial x
 
@@ -76,7 +77,8 @@ byte_before requests order initial i x = byte_or_start (last_touch requests x (t
 abbrev pub Differs : (byte read : ℕ → Option ℕ) → ℕ → Type 0
 Differs byte read x = (b : ℕ) × (byte x ≡ Some b) × (read x ≡ Some b → ⊥)
 
--- a READ says what the byte at x is, as a status that calls it zero (proto.md, "Request types", "Metadata querying")
+-- a READ says what the byte at x is, and a BLOCK_STATUS where its reply calls it zero (proto.md, "Request types",
+-- "Metadata querying")
 abbrev pub GivesByte : Effect → ℕ → Type 0
 GivesByte e x = (e.command ≡ commands.READ) ⊎ (e.command ≡ commands.BLOCK_STATUS) × IsTrue (is_some (e.read x))
 

@@ -49,7 +49,8 @@ HasContentForm kind (Hole offset size) payload =
     (kind ≡ OFFSET_HOLE) × (offset < 2 ^ 64) × (0 < size) × (size < 2 ^ 32)
     × (payload ≡ big_bytes 8 offset ++ big_bytes 4 size)
 
--- what follows an error chunk's message: the type's offset, if any, and any bytes (proto.md, "Structured reply types")
+-- what goes on after an error chunk's message: an offset where the type has one, and then any bytes (proto.md,
+-- "Structured reply types")
 abbrev pub GoesOn : ℕ → Option ℕ → List ℕ → Type 0
 GoesOn kind None rest = kind ≡ ERROR
 GoesOn kind (Some offset) rest = (kind ≡ ERROR_OFFSET) × (offset < 2 ^ 64)

@@ -2,7 +2,8 @@
 use Rattle.std.specs.Prelude.{ℕ, List, [], ◌∷◌, ◌++◌, map, flat_map, ◌≡◌, if◌then◌else◌}
 use Rattle.nbd_wire.specs.{declared.{message.{Side.{Side, TheVariants.{Client, Server}}, Message.Message}, entry.Entry.Entry}, protocol.{Encoding.enc, Sides.same_side, Captures.Pair}}
 
--- a byte of a side, or a mark: a message starts or completes, or the server serves an entry (this project's choice)
+-- a byte of a side, or a mark between two bytes: a message starts, a message completes, or the
+-- server carries out what an entry names (this project's choice)
 pub data Item : Type 0 where
   Byte : (side : Side) (byte : ℕ) → Item
   Starts : (side : Side) (message : Message) → Item
@@ -47,12 +48,14 @@ of_side s (Serves e ∷ items) = of_side s items
 abbrev pub block : Side → Message → List Item
 block s m = Starts s m ∷ map (λ b. Byte s b) (enc m) ++ Completes s m ∷ []
 
--- a side's bytes and marks, taken alone, are whole messages one after the other, then bytes of no completed message
+-- a side's bytes and marks, taken alone, are whole messages, one after the other, and after them
+-- bytes of no completed message
 pub record IsSided (s : Side) (items : List Item) (rest : List ℕ) : Type 0 where
   pub messages : List Message
   pub blocks : of_side s items ≡ flat_map (block s) messages ++ map (λ b. Byte s b) rest
 
--- which items may stand side by side: a message starts just before its first byte and completes just after its last
+-- which items may stand beside each other: a message starts directly before its first byte and
+-- completes directly after its last
 abbrev pub MayFollow : Item → Item → Type 0
 MayFollow (Starts s m) (Byte t b) = s ≡ t
 MayFollow (Starts s m) next = ⊥

@@ -73,14 +73,16 @@ Covers e pieces = (x : ℕ) → IsTrue (is_in e.offset e.length x) → IsTrue (i
 abbrev pub asks_status : Operation → Bool
 asks_status e = (e.command == commands.BLOCK_STATUS) && not (length e.contexts == 0)
 
--- this project follows the type, BLOCK_STATUS with a context in force (proto.md, "Request types", "Metadata querying")
+-- the type of a numbered request is one that this project follows; BLOCK_STATUS is one only where a context is in force
+-- (proto.md, "Request types", "Metadata querying")
 abbrev pub is_known : Operation → Bool
 is_known e =
     (e.command == commands.READ) || (e.command == commands.WRITE) || (e.command == commands.FLUSH)
     || (e.command == commands.TRIM) || (e.command == commands.CACHE) || (e.command == commands.WRITE_ZEROES)
     || asks_status e
 
--- in this profile a server may serve such requests while it sends the reply: READs in Wide (this project's choice)
+-- in this profile a server may serve requests of this type while it sends their reply, message by message: READs in
+-- Wide (this project's choice)
 abbrev pub is_chunked : Profile → (command : ℕ) → Bool
 is_chunked Base command = false
 is_chunked Wide command = command == commands.READ

@@ -9,8 +9,9 @@ use Rattle.nbd_wire.specs.declared.options.TheConstants as options
 abbrev pub is_error : ℕ → Bool
 is_error kind = has kind answers.ERROR
 
--- the data of an option has its form; EXPORT_NAME and ABORT take any; an option that is not listed here is not followed
--- and malformed (proto.md, "Option types"; that, and that EXTENDED_HEADERS has no data, is this project's choice)
+-- the data of an option has its form; EXPORT_NAME and ABORT take any data; an option that is not listed here is not
+-- followed and counts as malformed (proto.md, "Option types"; not following it, and that EXTENDED_HEADERS has no data,
+-- is this project's choice)
 unfoldable pub is_proper_option : ℕ → List ℕ → Bool
 is_proper_option option payload =
     if (option == options.EXPORT_NAME) || (option == options.ABORT) then true
@@ -34,7 +35,8 @@ takes_contexts option payload =
     (option == options.LIST_META_CONTEXT)
     || ((option == options.SET_META_CONTEXT) && not (unwrap_or (queries_of payload) 1 == 0))
 
--- the selection once an option is chosen: SET_META_CONTEXT replaces it, whatever its answer (proto.md, "Option types")
+-- what is selected once an option is chosen: SET_META_CONTEXT replaces what an earlier one selected, whatever its
+-- answer (proto.md, "Option types")
 abbrev pub selection_at : (id : ℕ) (payload : List ℕ) → Selection → Selection
 selection_at id payload selection =
     if id == options.SET_META_CONTEXT then

@@ -25,7 +25,8 @@ IsBadPart inside order i =
 abbrev pub IsBad : ℕ → (inside : ℕ → ℕ → Bool) → List Entry → ℕ → Type 0
 IsBad count inside order i = NamesNone count order i ⊎ NamesAgain order i ⊎ IsBadPart inside order i
 
--- from entry i on one serves a request where it was due before i's request completed; without a part, at each offset
+-- entry i or a later one serves a request at an offset that was due before the request of entry i had completed; an
+-- entry without a part serves each offset
 abbrev pub IsLate : (due : ℕ → ℕ → Option ℕ) → List Entry → ℕ → Type 0
 IsLate due order i = (e : Entry) × (k : ℕ) × (x : ℕ) × (n : ℕ) × (slice_get order i ≡ Some e)
     × IsTrue (is_served (drop i order) k x) × (due k x ≡ Some n) × (n < e.request)

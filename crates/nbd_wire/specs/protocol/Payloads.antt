@@ -9,7 +9,8 @@ use Rattle.nbd_wire.specs.declared.infos.TheConstants as infos
 abbrev pub number_at : ℕ → ℕ → List ℕ → ℕ
 number_at place n bytes = big_number n (drop place bytes)
 
--- an INFO: EXPORT (0) with size and flags, BLOCK_SIZE (3) with three sizes, or another (proto.md, "Option reply types")
+-- an INFO answer: EXPORT (0) with a size and flags, BLOCK_SIZE (3) with three sizes, or any other type
+-- (proto.md, "Option reply types")
 unfoldable pub info_of : List ℕ → Option Info
 info_of bytes =
     let kind : ℕ = number_at 0 2 bytes in
@@ -25,7 +26,8 @@ info_of bytes =
 unfoldable pub is_listed : List ℕ → Bool
 is_listed bytes = nat_le 4 (length bytes) && nat_le (4 + number_at 0 4 bytes) (length bytes)
 
--- the name in data that begin with a name's length and the name; none where too short (proto.md, "Option types")
+-- the name in data that begin with a name's length and the name; none where they are too short (proto.md, "Option
+-- types")
 abbrev pub name_in : List ℕ → List ℕ
 name_in bytes = if is_listed bytes then take (number_at 0 4 bytes) (drop 4 bytes) else []
 
@@ -113,8 +115,9 @@ extents_of true bytes = extents_in 8 (length bytes / 16) bytes
 abbrev pub has_empty : List Extent → Bool
 has_empty extents = list_any (λ (x : Extent). x.length == 0) extents
 
--- a BLOCK_STATUS chunk: an id, and one or more descriptors, none of them empty (proto.md, "Structured reply types"); a
--- BLOCK_STATUS_EXT chunk: an id, a count of descriptors, and these (this project's choice: proto.md has its number)
+-- a BLOCK_STATUS chunk: an id, and one or more descriptors to the end, of which none is empty (proto.md, "Structured
+-- reply types"); a BLOCK_STATUS_EXT chunk: an id, how many descriptors come, and these (this project's choice: proto.md
+-- has the type's number alone)
 unfoldable pub status_of : (extended : Bool) → List ℕ → Option Status
 status_of extended bytes =
     let rest : List ℕ = drop (if extended then 8 else 4) bytes in

@@ -36,7 +36,8 @@ asks_sizes bytes =
 abbrev pub no_sizing : Sizing
 no_sizing = record { asked = false; told = None }
 
--- once an option is chosen: GO alone can bring sizes in force, earlier ones are gone (proto.md, "Size constraints")
+-- once an option is chosen: GO alone can bring sizes in force, and what came before is forgotten (proto.md, "Size
+-- constraints")
 abbrev pub sizing_at : (id : ℕ) (payload : List ℕ) → Sizing
 sizing_at id payload = record { asked = (id == options.GO) && asks_sizes payload; told = None }
 
@@ -67,7 +68,8 @@ is_too_long sizes command length =
     ((command == commands.READ) || (command == commands.WRITE))
     && not (sizes.largest == NO_LARGEST_SIZE) && nat_lt sizes.largest length
 
--- a range breaks the sizes: no multiples of the least, or a payload that is too long (proto.md, "Size constraints")
+-- a range breaks the sizes, if there are some: its offset or its length is no multiple of the least, or a payload is
+-- too long (proto.md, "Size constraints")
 abbrev pub breaks_sizes : Option Sizes → (command offset length : ℕ) → Bool
 breaks_sizes None command offset length = false
 breaks_sizes (Some sizes) command offset length =

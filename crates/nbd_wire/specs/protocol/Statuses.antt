@@ -40,7 +40,8 @@ abbrev pub is_allocation : List Context → ℕ → Bool
 is_allocation contexts id =
     list_any (λ (c : Context). (c.id == id) && bytes_eq c.name (codes "base:allocation")) contexts
 
--- what extents in a row from an offset on call zero, as far as so many bytes go (proto.md, "Metadata querying")
+-- what extents call zero that follow one another from an offset on, as far as so many bytes go (proto.md, "Metadata
+-- querying")
 abbrev pub zeroes_in : (offset size : ℕ) → List Extent → List Piece
 zeroes_in offset size [] = []
 zeroes_in offset size (x ∷ extents) =
