@@ -29,7 +29,7 @@ enum Kept {
 
 impl Model for Pieces {
     ghost use Rattle.nbd_state.specs.{Pieces.PiecesView, internal.Keeping.pieces_kept};
-ghost use Rattle.std.specs.Prelude.{option_to_list};
+    ghost use Rattle.std.specs.Prelude.{option_to_list};
 
     ghost Value = { PiecesView };
 

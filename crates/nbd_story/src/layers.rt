@@ -169,7 +169,11 @@ fn gap(contents: &Extents, part: Part, is_refused: bool) -> Result<Part, AllocEr
         }
         at = next;
     }
-    if is_refused { Err(AllocError) } else { Ok(found) }
+    if is_refused {
+        Err(AllocError)
+    } else {
+        Ok(found)
+    }
 }
 
 /// The first byte of what is held, where it is known.

@@ -22,9 +22,12 @@ stopped_in old mid new all done rest m e past more =
 pub loop-message-preserved : goal.loop-message-preserved
 loop-message-preserved g c =
     let at = c.loop-message in
-    let steps : into_iter_items at.message-iterator ≡ c.in-Some.message ∷ into_iter_items c.next.new.self = c.in-Some.ensures.steps.0 in
-    (tt, tt, append_assoc at.yielded (c.in-Some.message ∷ []) _ ∙ rw (← steps) at.invariant.2,
-    one_more _ (g.W.Write.contents at.out) _ at.yielded c.in-Some.message at.invariant.3 c.in_ok-show.ensures.ok)
+    let steps : into_iter_items at.message-iterator ≡ c.in-Some.message ∷ into_iter_items c.next.new.self = c.in-Some.ensures.steps.0 in (
+      tt,
+      tt,
+      append_assoc at.yielded (c.in-Some.message ∷ []) _ ∙ rw (← steps) at.invariant.2,
+      one_more _ (g.W.Write.contents at.out) _ at.yielded c.in-Some.message at.invariant.3 c.in_ok-show.ensures.ok,
+    )
 
 -- what holds however the lines were written
 after_all : {A E : Type 0} (P : Type 0) (o : Result A E) → P → OnErr o P
