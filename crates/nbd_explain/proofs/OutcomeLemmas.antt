@@ -1,5 +1,5 @@
 -- The report of a run states of each request what the messages behind it tell.
-use Rattle.nbd_explain.proofs.Common.{IsAllowed, allowed, and_parts, not-true, ◌≡◌, ◌∙◌, ◌++◌, ◌∷◌, ◌+◌, ◌==◌, ◌&&◌, ◌||◌, not, ℕ, suc, List, [], Bool, true, false, Option, Some, None, is_some, codes, if◌then◌else◌, append_assoc, append-nil, length, map, refl, sym, ap, subst, arith, eqb-true, map-append, or-false, Message, Greeting, ClientFlags, Choice, Exported, Request, Simple, Chunk, ExtendedRequest, ExtendedChunk, Profile, Item, Byte, Starts, Completes, Serves, completed_messages, Exporting, Operation, list_any, ends_reply, is_failing, is_finished, outcome, Asked, asked_list, known_count, operations_of, report, IsRunBut, MayComplete, Obeys, after, complete, cookie_of, core_with_request, ends_at, reply_to, request_of_reply, option_and_then, Context, Core, Phase, State, Transmission, has_contexts, in_force, is_awaiting, start, start_of, target, target_from, with_reply, with_reply_at, outcome_of, Outcome, Failure, Pending, Success, AreDistinct, Free, distinct_complete, in_force_stays, transmission_stays, at_base, AreNamed, IsEnding, is_numbered, message_of, plain, other, request_by, AreLines, EndsWith, fate, fate_by, has_cookie, outcome_by, reply_in, named, none}
+use Rattle.nbd_explain.proofs.Common.{IsAllowed, allowed, and_parts, not-true, ◌≡◌, ◌∙◌, ◌++◌, ◌∷◌, ◌+◌, ◌==◌, ◌&&◌, ◌||◌, not, ℕ, suc, List, [], Bool, true, false, Option, Some, None, is_some, codes, if◌then◌else◌, append_assoc, append-nil, length, map, refl, sym, ap, subst, arith, eqb-true, map-append, or-false, Message, Greeting, ClientFlags, Choice, Exported, Request, Simple, Chunk, ExtendedRequest, ExtendedChunk, Profile, Item, Byte, Starts, Completes, Serves, completed_messages, Exporting, Operation, list_any, ends_reply, is_failing, is_finished, outcome, Asked, asked_list, known_count, operations_of, report, IsRunBut, MayComplete, Obeys, after, complete, cookie_of, core_with_request, ends_at, reply_to, request_of_reply, option_and_then, Context, Core, Phase, State, Transmission, has_contexts, in_force, is_awaiting, start, start_of, target, target_from, with_reply, with_reply_at, outcome_of, Outcome, Failure, Pending, Success, AreDistinct, Free, distinct_complete, in_force_stays, transmission_stays, at_base, AreNamed, IsEnding, is_numbered, message_of, plain, other, request, AreLines, EndsWith, fate, fate_by, has_cookie, outcome_by, reply_in, named, none}
 use Rattle.nbd_wire.specs.declared.commands.TheConstants as commands
 use Rattle.nbd_wire.specs.declared.message.Message.TheVariants.{Answer}
 use Rattle.nbd_wire.specs.protocol.Operations as definitions
