@@ -1,6 +1,6 @@
 //! The pieces that a request was answered, and what stands beside them.
 
-ghost use Rattle.std.specs.Prelude.{◌≡◌, ◌==◌, ◌&&◌, ◌++◌, ◌∷◌, ℕ, [], false, not, true, IfOk, IfSome, MatchOption, OnOk, if◌then◌else◌, is_some};
+ghost use Rattle.std.specs.Prelude.{◌≡◌, ◌==◌, ◌&&◌, ◌++◌, ◌∷◌, ℕ, [], false, not, true, IfOk, IfSome, MatchOption, OnOk, if◌then◌else◌, is_some, option_to_list};
 ghost use Rattle.nbd_state.specs.{Filters.is_settled_by, Indexes.Indexes, internal.Keeping.{nothing_told, pieces_kept}};
 
 use crate::asking::Telling;
@@ -29,7 +29,6 @@ enum Kept {
 
 impl Model for Pieces {
     ghost use Rattle.nbd_state.specs.{Pieces.PiecesView, internal.Keeping.pieces_kept};
-    ghost use Rattle.std.specs.Prelude.{option_to_list};
 
     ghost Value = { PiecesView };
 
