@@ -1,12 +1,15 @@
 """Long messages and lines, many records and chunks, many READs as holes and statuses over many changes, many statuses and what they
-cost, exports of no byte and of as many as there may be, the memory that READs of an image take, what many changes
-leave, and long texts of contents.
+cost, exports of no byte and of as many as there may be, the memory that READs of an image take, what `show` lets go,
+what many changes leave, and long texts of contents.
 """
 
 import random
+import re
 import resource
+import subprocess
+from pathlib import Path
 
-from built import Ended, Room
+from built import Ended, PROGRAM, Room
 from messages import (
     ACK, BLOCK_STATUS, CHUNKS, DONE, OFFSET_HOLE, READ, SET_META_CONTEXT, TRIM, WRITE, WRITE_ZEROES, answer, begun, chunk,
     client_flags, content, context, done, extents, go, granted, greeting, one_by_one, option, queries, read, request, simple,
@@ -267,6 +270,22 @@ def memory_of_images(tally, room):
             tally.holds(f"memory of {words}", peak < 1.3 * least, (peak, least))
 
 
+def memory_of_show(tally, room):
+    """`show` keeps no payload that it printed: behind 9 of 10 READs it holds less than a third of what it held before the first."""
+    image = random.Random(2).randbytes(48 * MIB)
+    capture = room.put("show.cap", reads_of(image, True, MIB))
+    # (each payload is a piece of memory of its own, which the system has back when it goes)
+    env = {"MALLOC_MMAP_THRESHOLD_": str(2**16)}
+    with subprocess.Popen([PROGRAM, "show", capture], stdout=subprocess.PIPE, env=env) as shown:
+        for _ in range(9 * len(image) // 10 // MIB * 2):
+            shown.stdout.readline()
+        told = Path(f"/proc/{shown.pid}/status").read_text()
+        now, peak = (int(re.search(rf"{name}:\s+(\d+) kB", told).group(1)) for name in ("VmRSS", "VmHWM"))
+        tally.want("the end of show", shown.stdout.read().endswith(b"\nok\n"), True)
+    tally.holds("memory of show before the first line", peak > len(image) / 1024, peak)
+    tally.holds("memory of show near its end", now < peak / 3, (now, peak))
+
+
 def scattered(count, size):
     """So many changes at random places, 16 of them outstanding together."""
     dice, asked, records = random.Random("scattered"), [], begun(size=size)
@@ -350,5 +369,5 @@ def long_lines(tally, room):
 def run(tally):
     with Room() as room:
         for part in (long_messages, many_chunks, a_million, costs_of_holes, costs_of_statuses, many_contexts, exports,
-                     memory_of_images, costs_of_contents, costs_of_texts, long_lines):
+                     memory_of_images, memory_of_show, costs_of_contents, costs_of_texts, long_lines):
             part(tally, room)
