@@ -1,4 +1,5 @@
 pub mod EndLemmas
+pub mod FormLemmas
 pub mod HeadLemmas
 pub mod KnownLemmas
 pub mod NegotiationLemmas

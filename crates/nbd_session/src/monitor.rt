@@ -5,7 +5,7 @@ ghost use Rattle.nbd_wire.specs.Prelude.{start_of};
 ghost use Rattle.nbd_session.specs.{Following.{Follows, IsPushed}, Incoming.{bytes_come, incoming_with, nothing_come}, Refusals.EndsIn, Sessions.{Adds, IsReported, SessionView, empty_session_of, end_by, fault_at_end, fault_of, open_end_fault}, declared.fault.SessionFault.TheVariants.{Memory, Wire}};
 ghost use Rattle.nbd_session.specs.internal.{Known.{holding_of, incoming_of, with_expected, with_incoming, awaited}, Standing.{Past, completed, count_at_server, rest_of, sent}, Steps.{IsExpecting, IsHeadRefused, IsKept, IsTaken, IsWhole, Knows, Stands}};
 
-use crate::deciding::{decide, head_length};
+use crate::deciding::{decide, form_of};
 use crate::ending::last_fault;
 use crate::expected::Expected;
 use crate::fault::SessionFault;
@@ -125,9 +125,9 @@ impl Monitor {
             return expected.payload_length() - incoming.payload().len();
         }
         let head = incoming.head();
-        match head_length(&self.state, side, head) {
-            Ok(length) => length - head.len(),
-            Err(_) => 1,
+        match form_of(&self.state, side, head) {
+            Some(form) => form.length() - head.len(),
+            None => 1,
         }
     }
 
@@ -187,10 +187,13 @@ impl Monitor {
             return Ok(Some(expected));
         }
         let head = incoming.head();
-        if head.len() < head_length(&self.state, side, head)? {
+        let Some(form) = form_of(&self.state, side, head) else {
+            return Err(WireFault::OutOfTurn);
+        };
+        if head.len() < form.length() {
             return Ok(None);
         }
-        Ok(Some(decide(&self.state, side, head, self.counted)?))
+        Ok(Some(decide(form, &self.state, head, self.counted)?))
     }
 
     // Notes that the head of a side's message is whole, and what it says.

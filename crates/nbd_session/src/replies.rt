@@ -1,11 +1,10 @@
 //! Replies (proto.md, "Simple reply message", "Structured reply chunk message"), each as its head says.
 
-ghost use Rattle.std.specs.Prelude.{◌≡◌, ◌==◌, ◌&&◌, ◌||◌, ◌++◌, ℕ, List, IfErr, IfOk, None, Some, true, not, if◌then◌else◌, length};
+ghost use Rattle.std.specs.Prelude.{◌≡◌, ◌==◌, ◌&&◌, IfErr, IfOk, None, Some, true, if◌then◌else◌, length};
 ghost use Rattle.nbd_wire.specs.declared.commands.TheConstants as commands;
 ghost use Rattle.nbd_wire.specs.Prelude.{Exporting, Core, begins, simple_fault};
-ghost use Rattle.nbd_laws.specs.Reached.{reply_with};
 ghost use Rattle.nbd_wire.specs.protocol.States as definitions;
-ghost use Rattle.nbd_session.specs.internal.{operation_counted, is_simple_forbidden, Leading.{chunk_fields, chunk_head_length, chunk_magic}, Expecting.{IsChunkOf, IsPlaced, IsPlaceOf, IsReplyHead, IsSimpleOf, expected_decision, head_fault_by, is_too_long}};
+ghost use Rattle.nbd_session.specs.internal.{operation_counted, is_simple_forbidden, Leading.{chunk_fields, chunk_head_length, chunk_magic}, Expecting.{IsChunkOf, IsPlaceOf, IsSimpleOf, head_fault_by, is_too_long}};
 ghost use Rattle.nbd_state.specs.Shows.{Shows};
 
 use crate::expected::Expected;
@@ -16,35 +15,8 @@ use nbd_wire::{
     simple_head,
 };
 
-/// A reply, as its head says; it began when `counted` numbered requests had completed.
-pub(crate) fn reply(state: &State, head: &[u8], counted: u64) -> Result<Expected, WireFault>
-    requires { IsReplyHead state.now.extended head.now }
-    ensures expected { IfOk result (λ expected. (core : Core) (export : Exporting) → Shows state.now core →
-        core.phase ≡ definitions.Transmission export → (payload : List ℕ) →
-        reply_with export (operation_counted counted core) core (head.now ++ payload)
-        ≡ expected_decision core expected (length head.now) payload) }
-    ensures placed { IfOk result (λ expected. (core : Core) (export : Exporting) → Shows state.now core →
-        core.phase ≡ definitions.Transmission export → IsPlaced core expected) }
-    ensures refused { IfErr result (λ fault. (core : Core) (export : Exporting) → Shows state.now core →
-        core.phase ≡ definitions.Transmission export →
-        (reply_with export (operation_counted counted core) core head.now).head_fault ≡ Some fault) }
-{
-    if is_chunk(state.extended, head) {
-        chunk(state, read_chunk(state.extended, head), counted)
-    } else {
-        simple(state, simple_head(head).unwrap(), counted)
-    }
-}
-
-// Of two lengths of a head the longer is a chunk's; with extended headers there is no simple reply.
-fn is_chunk(extended: bool, head: &[u8]) -> bool
-    ensures { result ≡ (extended || not (length head.now == 16)) }
-{
-    extended || head.len() != head_lengths::SIMPLE
-}
-
-// The head of a chunk, extended or not.
-fn read_chunk(extended: bool, head: &[u8]) -> ChunkHead
+/// The head of a chunk, extended or not.
+pub(crate) fn read_chunk(extended: bool, head: &[u8]) -> ChunkHead
     requires { (begins (chunk_magic extended) head.now ≡ true) × (length head.now ≡ chunk_head_length extended) }
     ensures { result ≡ chunk_fields extended head.now }
 {
@@ -55,8 +27,8 @@ fn read_chunk(extended: bool, head: &[u8]) -> ChunkHead
     }
 }
 
-// A simple reply.
-fn simple(state: &State, head: SimpleHead, counted: u64) -> Result<Expected, WireFault>
+/// A simple reply with this head; it began when `counted` numbered requests had completed.
+pub(crate) fn simple(state: &State, head: SimpleHead, counted: u64) -> Result<Expected, WireFault>
     ensures expected { IfOk result (λ expected. (core : Core) (export : Exporting) → Shows state.now core →
         core.phase ≡ definitions.Transmission export →
         IsSimpleOf export core (operation_counted counted core head.cookie) head.error head.cookie expected) }
@@ -81,8 +53,8 @@ fn simple(state: &State, head: SimpleHead, counted: u64) -> Result<Expected, Wir
     })
 }
 
-// A chunk.
-fn chunk(state: &State, head: ChunkHead, counted: u64) -> Result<Expected, WireFault>
+/// A chunk with this head; it began when `counted` numbered requests had completed.
+pub(crate) fn chunk(state: &State, head: ChunkHead, counted: u64) -> Result<Expected, WireFault>
     ensures expected { IfOk result (λ expected. (core : Core) (export : Exporting) → Shows state.now core →
         core.phase ≡ definitions.Transmission export →
         IsChunkOf export core (operation_counted counted core head.cookie) head expected) }

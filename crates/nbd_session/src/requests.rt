@@ -3,25 +3,23 @@
 ghost use Rattle.std.specs.Prelude.{◌≡◌, ◌++◌, ℕ, List, IfErr, IfOk, Some, length};
 ghost use Rattle.nbd_wire.specs.Prelude.{Core, request_by};
 ghost use Rattle.nbd_session.specs.internal.{is_bad_disconnect, is_beyond, Expecting.{IsPlaced, expected_decision}, Leading.{request_head_length, request_head_of}};
-ghost use Rattle.nbd_state.specs.Shows.{Shows};
 
 use crate::expected::Expected;
-use nbd_state::State;
 use nbd_wire::limits::LONGEST_PAYLOAD;
 use nbd_wire::{
     RequestHead, WireFault, carries_payload, commands, extended_request_head, request_head,
 };
 
-/// A request, as its head says.
-pub(crate) fn request(state: &State, head: &[u8]) -> Result<Expected, WireFault>
-    requires { length head.now ≡ request_head_length state.now.extended }
-    ensures expected { IfOk result (λ expected. (now : Core) (payload : List ℕ) → Shows state.now now →
-        request_by now.extended now (head.now ++ payload) ≡ expected_decision now expected (length head.now) payload) }
+/// A request, extended or not, as its head says.
+pub(crate) fn request(extended: bool, head: &[u8]) -> Result<Expected, WireFault>
+    requires { length head.now ≡ request_head_length extended }
+    ensures expected { IfOk result (λ expected. (now : Core) (payload : List ℕ) →
+        request_by extended now (head.now ++ payload) ≡ expected_decision now expected (length head.now) payload) }
     ensures placed { IfOk result (λ expected. (core : Core) → IsPlaced core expected) }
-    ensures refused { IfErr result (λ fault. (now : Core) → Shows state.now now →
-        (request_by now.extended now head.now).head_fault ≡ Some fault) }
+    ensures refused { IfErr result (λ fault. (now : Core) →
+        (request_by extended now head.now).head_fault ≡ Some fault) }
 {
-    let Some(head) = read_head(state.extended, head) else {
+    let Some(head) = read_head(extended, head) else {
         return Err(WireFault::BadMagic);
     };
     if is_beyond(&head) {

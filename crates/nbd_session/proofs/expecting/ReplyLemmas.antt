@@ -1,8 +1,9 @@
 -- A reply whose head has come.
-use Rattle.nbd_session.proofs.Common.{◌≡◌, ℕ, suc, ◌<◌, ◌∷◌, ◌==◌, ◌&&◌, ◌||◌, ◌++◌, not, List, length, drop, arith, nat_le, nat_lt, Result, IfOk, IfErr, sym, ◌∙◌, ap, Option, Some, None, Bool, true, false, if◌then◌else◌, slice_get, WireFault, SimpleForbidden, SIMPLE_MAGIC, number_at, ChunkHead, SimpleHead, Exporting, Operation, Core, Transmission, in_force, operation, target, find, operation_counted, Decision, begins, reply_by, reply_in, reply_with, simple_to, Bad, reading_by_decision, simple_fault, simple_last_fault, simple_payload_length, begun_true, no_chunk, IsShown, AreAskedWith, asked_at, is_simple_forbidden, Exchange, Expected, Simple, Chunk, HasReplyLength, IsChunkOf, IsNoReply, IsPlaceOf, IsReplyHead, IsSimpleOf, chunk_fault_to, expected_decision, head_fault_by, is_too_long, last_fault_by, chunk_fields, chunk_head_length, chunk_magic, chunk_of, le-ltb, lt-leb}
+use Rattle.nbd_session.proofs.Common.{◌≡◌, ℕ, suc, ◌<◌, ◌∷◌, ◌==◌, ◌&&◌, ◌||◌, ◌++◌, not, List, length, drop, arith, nat_le, nat_lt, Result, IfOk, IfErr, sym, ◌∙◌, ap, Option, Some, None, Bool, true, false, if◌then◌else◌, slice_get, WireFault, SimpleForbidden, SIMPLE_MAGIC, number_at, ChunkHead, SimpleHead, Exporting, Operation, Core, Transmission, in_force, operation, target, find, operation_counted, Decision, begins, reply_by, reply_in, simple_to, Bad, reading_by_decision, simple_fault, simple_last_fault, simple_payload_length, begun_true, no_chunk, IsShown, AreAskedWith, asked_at, is_simple_forbidden, Exchange, Expected, Simple, Chunk, IsChunkOf, IsPlaceOf, IsReplyForm, IsSimpleOf, BadMagic, chunk_fault_to, expected_decision, head_fault_by, is_too_long, last_fault_by, chunk_fields, chunk_head_length, chunk_magic, chunk_of, le-ltb, lt-leb}
 use Rattle.nbd_session.proofs.expecting.HeadLemmas.{after_head, fields_stay}
 use Rattle.nbd_wire.specs.declared.commands.TheConstants as commands
 use Rattle.nbd_wire.specs.declared.message.Message.TheVariants as messages
+use Rattle.nbd_session.specs.declared.deciding.Form.TheVariants as forms
 
 -- a number of a request is at most the count of all
 pub operation_within : (es : List Operation) (k : ℕ) (e : Operation) → operation (suc k) es ≡ Some e → k < length es
@@ -29,15 +30,23 @@ module _ (export : Exporting) (core : Core) (counted place : ℕ) (exchanges : L
   pub chunk_is : (h : ChunkHead) → is_too_long h.at h.length ≡ false → IsPlaceOf export core counted h.cookie exchanges (Some place) → core.structured ≡ true → IsChunkOf export core (operation_counted counted core h.cookie) h (Chunk h place)
   chunk_is h short found structured = grind arith
 
-module _ (export : Exporting) (core : Core) (counted : ℕ) (short : core.extended ≡ false) (head : List ℕ) (h : SimpleHead) (begun : begins SIMPLE_MAGIC head ≡ true) (len : length head ≡ 16) (is : h ≡ record { error = number_at 4 4 head; cookie = number_at 8 8 head }) where
-  by_simple : (bytes : List ℕ) → begins SIMPLE_MAGIC bytes ≡ true → reply_with export (operation_counted counted core) core bytes ≡ simple_to export core (operation_counted counted core (number_at 8 8 bytes)) bytes
-  by_simple bytes b = ap (λ x. reply_in x export core (operation_counted counted core (number_at 8 8 bytes)) bytes) short ∙ (λ i. reply_by (no_chunk bytes b i) (b i) export core (operation_counted counted core (number_at 8 8 bytes)) bytes)
+-- what is decided of a reply, with extended headers or not
+abbrev pub reply_to : Exporting → Core → (counted : ℕ) (x : Bool) → List ℕ → Decision
+reply_to export core counted x bytes = reply_in x export core (operation_counted counted core (number_at 8 8 bytes)) bytes
 
-  pub simple_refused : (fault : WireFault) → simple_fault core.structured (operation_counted counted core h.cookie) h.error ≡ Some fault → (reply_with export (operation_counted counted core) core head).head_fault ≡ Some fault
+-- bytes that begin with another number than a reply's
+pub no_reply_bad : (export : Exporting) (core : Core) (counted : ℕ) (x : Bool) (head : List ℕ) → IsReplyForm x head forms.Reply → (reply_to export core counted x head).head_fault ≡ Some BadMagic
+no_reply_bad export core counted x head o = grind arith
+
+module _ (export : Exporting) (core : Core) (counted : ℕ) (head : List ℕ) (h : SimpleHead) (begun : begins SIMPLE_MAGIC head ≡ true) (len : length head ≡ 16) (is : h ≡ record { error = number_at 4 4 head; cookie = number_at 8 8 head }) where
+  by_simple : (bytes : List ℕ) → begins SIMPLE_MAGIC bytes ≡ true → reply_to export core counted false bytes ≡ simple_to export core (operation_counted counted core (number_at 8 8 bytes)) bytes
+  by_simple bytes b = (λ i. reply_by (no_chunk bytes b i) (b i) export core (operation_counted counted core (number_at 8 8 bytes)) bytes)
+
+  pub simple_refused : (fault : WireFault) → simple_fault core.structured (operation_counted counted core h.cookie) h.error ≡ Some fault → (reply_to export core counted false head).head_fault ≡ Some fault
   simple_refused fault bad = ap (λ (d : Decision). d.head_fault) (by_simple head begun) ∙ ap (λ (g : SimpleHead). simple_fault core.structured (operation_counted counted core g.cookie) g.error) (sym is) ∙ bad
 
   pub simple_decision : (payload : List ℕ) (x : Expected) → core.phase ≡ Transmission export → IsSimpleOf export core (operation_counted counted core h.cookie) h.error h.cookie x →
-      reply_with export (operation_counted counted core) core (head ++ payload) ≡ expected_decision core x 16 payload
+      reply_to export core counted false (head ++ payload) ≡ expected_decision core x 16 payload
   simple_decision payload x phase o =
       let at = fields_stay 16 head payload len in
       let cookie : number_at 8 8 (head ++ payload) ≡ h.cookie = at 8 8 (omega arith) ∙ ap (λ (g : SimpleHead). g.cookie) (sym is) in
@@ -74,50 +83,23 @@ module _ (export : Exporting) (core : Core) (counted : ℕ) where
     message = chunk_of h rest;
   }
 
-  by_chunk : (x : Bool) → core.extended ≡ x → (bytes : List ℕ) → begins (chunk_magic x) bytes ≡ true → reply_with export named core bytes ≡ by_fields x (chunk_fields x bytes) (drop (chunk_head_length x) bytes)
-  by_chunk x e bytes b = grind arith
+  by_chunk : (x : Bool) (bytes : List ℕ) → begins (chunk_magic x) bytes ≡ true → reply_to export core counted x bytes ≡ by_fields x (chunk_fields x bytes) (drop (chunk_head_length x) bytes)
+  by_chunk x bytes b = grind arith
 
-  module _ (x : Bool) (extended : core.extended ≡ x) (head : List ℕ) (h : ChunkHead) (begun : begins (chunk_magic x) head ≡ true) (len : length head ≡ chunk_head_length x) (is : h ≡ chunk_fields x head) where
-    pub chunk_refused : (fault : WireFault) → head_fault_by h.at core.structured (named h.cookie) h.length ≡ Some fault → (reply_with export named core head).head_fault ≡ Some fault
+  module _ (x : Bool) (head : List ℕ) (h : ChunkHead) (begun : begins (chunk_magic x) head ≡ true) (len : length head ≡ chunk_head_length x) (is : h ≡ chunk_fields x head) where
+    pub chunk_refused : (fault : WireFault) → head_fault_by h.at core.structured (named h.cookie) h.length ≡ Some fault → (reply_to export core counted x head).head_fault ≡ Some fault
     chunk_refused fault bad = grind (arith, by_chunk)
 
-    pub chunk_decision : (payload : List ℕ) (y : Expected) → core.phase ≡ Transmission export → IsChunkOf export core (named h.cookie) h y → reply_with export named core (head ++ payload) ≡ expected_decision core y (length head) payload
+    pub chunk_decision : (payload : List ℕ) (y : Expected) → core.phase ≡ Transmission export → IsChunkOf export core (named h.cookie) h y → reply_to export core counted x (head ++ payload) ≡ expected_decision core y (length head) payload
     chunk_decision payload y phase o =
         let same : chunk_fields x (head ++ payload) ≡ h = fields_same x head payload len ∙ sym is in
         let last = sym (ap (λ p. last_fault_by p core y payload) phase ∙ o.last_is payload) in
-        by_chunk x extended (head ++ payload) (begun_true (chunk_magic x) head payload begun)
+        by_chunk x (head ++ payload) (begun_true (chunk_magic x) head payload begun)
         ∙ (λ i. by_fields x (same i) (after_head (chunk_head_length x) head payload len i))
         ∙ (λ i. record { head_length = sym len i; head_fault = o.no_fault i; payload_length = sym o.length_is i; last_fault = last i; message = sym (o.message_is payload) i })
-
--- a reply's head without an extended header that has 16 bytes is a simple one's, and any other a chunk's
-pub is_chunk : (x : Bool) (head : List ℕ) → IsReplyHead x head → (x || not (length head == 16)) ≡ true → (begins (chunk_magic x) head ≡ true) × (length head ≡ chunk_head_length x)
-is_chunk x head b t = grind arith
-
-pub is_simple : (x : Bool) (head : List ℕ) → IsReplyHead x head → (x || not (length head == 16)) ≡ false → (x ≡ false) × (begins SIMPLE_MAGIC head ≡ true) × (length head ≡ 16)
-is_simple x head b t = grind arith
 
 pub if_ok : {A E : Type 0} (r : Result A E) (P Q : A → Type 0) → IfOk r P → ((x : A) → P x → Q x) → IfOk r Q
 if_ok r P Q p f = grind arith
 
 pub if_err : {A E : Type 0} (r : Result A E) (P Q : E → Type 0) → IfErr r P → ((e : E) → P e → Q e) → IfErr r Q
 if_err r P Q p f = grind arith
-
--- what is decided of a reply, by whether extended headers are in force
-module _ (export : Exporting) (core : Core) (counted : ℕ) (head : List ℕ) where
-  abbrev there : Option Operation
-  there = operation_counted counted core (number_at 8 8 head)
-
-  -- the length of a reply's head is that of its kind
-  pub reply_head_is : (x : Bool) → core.extended ≡ x → IsReplyHead x head → (reply_with export (operation_counted counted core) core head).head_length ≡ length head
-  reply_head_is x e b = grind (arith, no_chunk)
-
-  -- the length that a reply's bytes tell is that which the judge sees
-  pub reply_begins : (x : Bool) → core.extended ≡ x → (n : ℕ) → HasReplyLength x head n → (reply_with export (operation_counted counted core) core head).head_length ≡ n
-  reply_begins x e n q = grind (arith, nat_le, lt-leb, no_chunk)
-
-  -- bytes that begin with another number than a reply's
-  pub no_reply_bad : (x : Bool) → core.extended ≡ x → (fault : WireFault) → IsNoReply x head fault → reading_by_decision (Some (reply_with export (operation_counted counted core) core head)) head ≡ Bad fault
-  no_reply_bad x extended fault o = grind (arith, nat_lt, le-ltb)
-
-pub reply_whole : (x : Bool) (head : List ℕ) (n : ℕ) → HasReplyLength x head n → length head ≡ n → IsReplyHead x head
-reply_whole x head n q e = grind arith

@@ -17,30 +17,27 @@ by_fields x now magic h message = record {
   message = message;
 }
 
-module _ (x : Bool) (now : Core) (extended : now.extended ≡ x) where
-  request_decided : (bytes : List ℕ) → request_by now.extended now bytes ≡ by_fields x now (number_at 0 4 bytes == request_magic x) (request_fields x bytes) ((request_by x now bytes).message)
+module _ (x : Bool) (now : Core) where
+  request_decided : (bytes : List ℕ) → request_by x now bytes ≡ by_fields x now (number_at 0 4 bytes == request_magic x) (request_fields x bytes) ((request_by x now bytes).message)
   request_decided bytes = grind arith
 
-  pub request_head_is : (bytes : List ℕ) → (request_by now.extended now bytes).head_length ≡ request_head_length x
-  request_head_is bytes = ap (λ (d : Decision). d.head_length) (request_decided bytes)
-
-  fault_is : (bytes : List ℕ) → (request_by now.extended now bytes).head_fault ≡ head_fault (number_at 0 4 bytes == request_magic x) (request_fields x bytes)
+  fault_is : (bytes : List ℕ) → (request_by x now bytes).head_fault ≡ head_fault (number_at 0 4 bytes == request_magic x) (request_fields x bytes)
   fault_is bytes = ap (λ (d : Decision). d.head_fault) (request_decided bytes)
 
   module _ (head : List ℕ) where
-    pub no_request : None ≡ request_head_of x head → (request_by now.extended now head).head_fault ≡ Some BadMagic
+    pub no_request : None ≡ request_head_of x head → (request_by x now head).head_fault ≡ Some BadMagic
     no_request e = grind (arith, none_read, fault_is)
 
     module _ (h : RequestHead) (e : Some h ≡ request_head_of x head) where
-      fault_here : (request_by now.extended now head).head_fault ≡ head_fault true h
+      fault_here : (request_by x now head).head_fault ≡ head_fault true h
       fault_here =
           let r = some_read (number_at 0 4 head == request_magic x) (request_fields x head) h e in
           fault_is head ∙ (λ i. head_fault (r.0 i) (sym r.1 i))
 
-      pub beyond_request : is_beyond h ≡ true → (request_by now.extended now head).head_fault ≡ Some OutOfProfile
+      pub beyond_request : is_beyond h ≡ true → (request_by x now head).head_fault ≡ Some OutOfProfile
       beyond_request b = fault_here ∙ ap (λ t. fault_if t OutOfProfile (fault_if (is_bad_disconnect h) BadDisconnect None)) b
 
-      pub bad_request : is_beyond h ≡ false → is_bad_disconnect h ≡ true → (request_by now.extended now head).head_fault ≡ Some BadDisconnect
+      pub bad_request : is_beyond h ≡ false → is_bad_disconnect h ≡ true → (request_by x now head).head_fault ≡ Some BadDisconnect
       bad_request b d = fault_here ∙ (λ i. fault_if (b i) OutOfProfile (fault_if (d i) BadDisconnect None))
 
 -- the same fields, with more bytes after the head
@@ -66,14 +63,14 @@ same_message true now head payload b len =
     let at = fields_stay 32 head payload len in
     (λ i. messages.ExtendedRequest (at 4 2 (omega arith) i) (at 6 2 (omega arith) i) (at 8 8 (omega arith) i) (at 16 8 (omega arith) i) (at 24 8 (omega arith) i) (after_head 32 head payload len i))
 
-pub good_request : (x : Bool) (now : Core) → now.extended ≡ x → (head payload : List ℕ) (h : RequestHead) → AreBytes head → length head ≡ request_head_length x → Some h ≡ request_head_of x head →
-    is_beyond h ≡ false → is_bad_disconnect h ≡ false → request_by now.extended now (head ++ payload) ≡ expected_decision now (Request h) (length head) payload
-good_request x now extended head payload h b len e within good =
+pub good_request : (x : Bool) (now : Core) (head payload : List ℕ) (h : RequestHead) → AreBytes head → length head ≡ request_head_length x → Some h ≡ request_head_of x head →
+    is_beyond h ≡ false → is_bad_disconnect h ≡ false → request_by x now (head ++ payload) ≡ expected_decision now (Request h) (length head) payload
+good_request x now head payload h b len e within good =
     let r = some_read (number_at 0 4 head == request_magic x) (request_fields x head) h e in
     let magic : (number_at 0 4 (head ++ payload) == request_magic x) ≡ true = ap (λ n. n == request_magic x) (magic_stays x head payload len) ∙ r.0 in
     let fields : request_fields x (head ++ payload) ≡ h = same_fields x head payload len ∙ sym r.1 in
     let message = same_message x now head payload b len ∙ ap (λ f. message_of (Request f) payload) (sym r.1) in
     let extended_is : x ≡ h.extended = ap (λ (f : RequestHead). f.extended) (sym r.1) in
-    request_decided x now extended (head ++ payload)
+    request_decided x now (head ++ payload)
     ∙ (λ i. by_fields x now (magic i) (fields i) (message i))
     ∙ (λ i. record { head_length = sym len i; head_fault = fault_if (within i) OutOfProfile (fault_if (good i) BadDisconnect None); payload_length = request_payload_length (extended_is i) h.flags h.command h.length; last_fault = cookie_fault h.command (target h.cookie now.entries); message = message_of (Request h) payload })

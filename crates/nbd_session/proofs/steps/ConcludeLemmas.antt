@@ -1,5 +1,5 @@
 -- What is decided of a side's bytes once they were taken.
-use Rattle.nbd_session.proofs.Common.{le-ltb, nat_lt, ◌≡◌, ℕ, ◌<◌, ◌≤◌, List, [], ◌∷◌, ◌++◌, length, sym, ◌∙◌, ap, subst, Option, Some, None, Bool, append-nil, arith, Result, Ok, Err, OnOk, false, is_err, same_Some, WireFault, Side, RequestHead, cookie_of, Core, chunk_cookie, shown_length, Answers, Shows, State, decision_by_count, Decision, reading_by_decision, Bad, IsFilled, More, Whole, Expected, SessionFault, Wire, Monitor, Past, IncomingView, bytes_come, HasHeadLength, IsExpectedOf, IsPlaced, IsRefusedHead, IsWholeHead, StandsIn, last_fault_by, message_of, payload_length_of, place_answered, request_with, incoming_of, with_expected, IsExpected, decided, is_come_by, Holding, count_at_server, IsExpecting, IsHeadRefused, IsShut, IsTaken, IsWhole, Knows, Stands, knows_by}
+use Rattle.nbd_session.proofs.Common.{le-ltb, nat_lt, ◌≡◌, ℕ, ◌<◌, ◌≤◌, List, [], ◌∷◌, ◌++◌, length, sym, ◌∙◌, ap, subst, Option, Some, None, Bool, append-nil, arith, Result, Ok, Err, OnOk, false, is_err, same_Some, WireFault, OutOfTurn, Side, RequestHead, cookie_of, Core, chunk_cookie, shown_length, Answers, Shows, State, decision_by_count, Decision, reading_by_decision, Bad, IsFilled, More, Whole, Expected, SessionFault, Wire, Monitor, Past, IncomingView, bytes_come, HasHeadLength, IsExpectedOf, IsPlaced, IsRefusedHead, StandsIn, last_fault_by, message_of, payload_length_of, place_answered, request_with, incoming_of, with_expected, IsExpected, decided, is_come_by, Holding, count_at_server, IsExpecting, IsHeadRefused, IsShut, IsTaken, IsWhole, Knows, Stands, knows_by}
 use Rattle.nbd_session.proofs.{expecting.{ReplyLemmas.placed_within, KnownLemmas.{expected_bad, expected_more, expected_whole, short_more}}, steps.{HoldingLemmas.{holding_expected, incoming_here, incoming_other, rest_is, same_but}, SettleLemmas.{IsRead, settled_more, shut_wire}, StepLemmas.decided_held}}
 
 -- the request that a reply answers has its exchange
@@ -94,13 +94,13 @@ module _ (held : Monitor) (s : Side) (head : List ℕ) (is : head ≡ (incoming_
   counted_so : {past : Past} (t : IsTaken held s past) (bytes : List ℕ) → decided t.reader s bytes ≡ decision_by_count held.counted t.reader.core s bytes
   counted_so t bytes = decided_so t bytes ∙ ap (λ n. decision_by_count n t.reader.core s bytes) (sym (ap (λ (h : Holding). h.counted) t.holding_is))
 
-  pub length_refused : (fault : WireFault) → ((core : Core) (counted : ℕ) → Shows held.state core → reading_by_decision (decision_by_count counted core s head) head ≡ Bad fault) → IsHeadRefused held s fault
-  length_refused fault bad past t = grind (arith, bare_come t, decided_so t)
+  pub turn_refused : ((core : Core) (counted : ℕ) → Shows held.state core → decision_by_count counted core s head ≡ None) → IsHeadRefused held s OutOfTurn
+  turn_refused bad past t = grind (arith, bare_come t, decided_so t)
 
   module _ (n : ℕ) (known : HasHeadLength held.state s head n) where
     length_decided : {past : Past} (t : IsTaken held s past) → (d : Decision) × (decided t.reader s (incoming_of held s).head ≡ Some d) × (d.head_length ≡ n)
     length_decided t =
-        let d = known.decided t.reader.core (count_at_server s t.before.server t.before.counted (length t.reader.core.entries)) t.shows in
+        let d = known t.reader.core (count_at_server s t.before.server t.before.counted (length t.reader.core.entries)) t.shows in
         (d.0, decided_so t (incoming_of held s).head ∙ subst (λ h. decision_by_count (count_at_server s t.before.server t.before.counted (length t.reader.core.entries)) t.reader.core s h ≡ Some d.0) is d.1, d.2)
 
     pub knows_short : length head < n → Knows held s None
@@ -110,13 +110,13 @@ module _ (held : Monitor) (s : Side) (head : List ℕ) (is : head ≡ (incoming_
         let len = d.2 in
         ((bare_come t).0, d.0, d.1, omega (arith, l, same, len))
 
-    pub head_whole : (past : Past) (t : IsTaken held s past) → n ≤ length head → IsWholeHead held.state s head
+    pub head_whole : (past : Past) (t : IsTaken held s past) → n ≤ length head → length head ≡ n
     head_whole past t l =
         let d = length_decided t in
         let low : length (incoming_of held s).head ≤ d.0.head_length = (bare_come t).1 d.0 d.1 in
         let same = ap length is in
         let len = d.2 in
-        known.whole (omega (arith, l, same, len, low))
+        omega (arith, l, same, len, low)
 
   pub head_refused : (fault : WireFault) → ((core : Core) → Shows held.state core → IsRefusedHead held.counted core s head fault) → IsHeadRefused held s fault
   head_refused fault bad past t = grind (arith, bare_come t, counted_so t, nat_lt, le-ltb)

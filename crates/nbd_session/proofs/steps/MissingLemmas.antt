@@ -1,5 +1,5 @@
 -- How many bytes of a side are missing until something is decided of them.
-use Rattle.nbd_session.proofs.Common.{◌≡◌, ◌⊎◌, ℕ, ◌+◌, ◌<◌, List, [], ◌++◌, length, sym, ◌∙◌, ap, subst, inl, Option, Some, None, append-nil, arith, length-append, Bool, if◌then◌else◌, lt-ltb, Side, WireFault, Core, awaited_length_by, awaited_length, decision_by_count, Decision, judge, reading_by_decision, decision, Bad, IsFilled, More, Rest, get, old_of, held_short, in_head, deciding, at_once, none_held, old-empty, some_held, Shows, Expected, Monitor, Past, bytes_come, HasHeadLength, payload_length_of, holding_of, incoming_of, awaited, decided, is_known_by, count_at_server, Stands}
+use Rattle.nbd_session.proofs.Common.{◌≡◌, ◌⊎◌, ℕ, ◌+◌, ◌<◌, List, [], ◌++◌, length, sym, ◌∙◌, ap, subst, inl, Option, Some, None, append-nil, arith, length-append, Bool, if◌then◌else◌, lt-ltb, Side, Core, awaited_length_by, awaited_length, decision_by_count, Decision, judge, reading_by_decision, decision, IsFilled, More, Rest, get, old_of, held_short, in_head, deciding, at_once, none_held, old-empty, some_held, Shows, Expected, Monitor, Past, bytes_come, HasHeadLength, payload_length_of, holding_of, incoming_of, awaited, decided, is_known_by, count_at_server, Stands}
 use Rattle.nbd_session.proofs.{expecting.KnownLemmas.expected_awaited, steps.{HoldingLemmas.rest_is, StepLemmas.{decided_held, held_of}}}
 use Rattle.nbd_laws.proofs.reading.ReaderLemmas.{Held}
 
@@ -15,9 +15,9 @@ open_held {core} {s} {rest} (some_held r now f k m l) =
     inl (subst (λ bytes. judge (old_of core rest) core s bytes ≡ More) (append-nil rest.bytes)
     ((held_short held).goes [] (subst IsFilled (sym (append-nil rest.bytes)) f) (subst (λ bytes. length bytes < awaited_length (old_of core rest) core s rest.bytes) (sym (append-nil rest.bytes)) short)))
 
--- bytes that are refused are none, of a side that may not send
-refused_first : (o : Option Decision) (bytes : List ℕ) (fault : WireFault) → IsOpen o bytes → reading_by_decision o bytes ≡ Bad fault → (awaited_length_by o bytes ≡ 1) × (length bytes ≡ 0)
-refused_first o bytes fault q e = grind arith
+-- a side that may not send has sent nothing
+refused_first : (o : Option Decision) (bytes : List ℕ) → IsOpen o bytes → o ≡ None → (awaited_length_by o bytes ≡ 1) × (length bytes ≡ 0)
+refused_first o bytes q e = grind arith
 
 module _ (held : Monitor) (past : Past) (s : Side) (st : Stands held past) where
   come_is : bytes_come (incoming_of held s) ≡ (get st.reader.rests s).bytes
@@ -49,7 +49,7 @@ module _ (held : Monitor) (past : Past) (s : Side) (st : Stands held past) where
     -- the bytes of a head that is not whole
     pub head_is_missing : (head : List ℕ) (n : ℕ) → head ≡ (incoming_of held s).head → HasHeadLength held.state s head n → (length head < n) × (awaited st.reader s ≡ n)
     head_is_missing head n is known =
-        let d = known.decided st.reader.core (count_at_server s (holding_of held past).server held.counted (length st.reader.core.entries)) st.shows in
+        let d = known st.reader.core (count_at_server s (holding_of held past).server held.counted (length st.reader.core.entries)) st.shows in
         let decides : decided st.reader s (incoming_of held s).head ≡ Some d.0 = subst (λ h. decided st.reader s h ≡ Some d.0) is (decided_so head ∙ d.1) in
         let short : length (incoming_of held s).head < d.0.head_length = bare_known.1 d.0 decides in
         let all : awaited st.reader s ≡ d.0.head_length =
@@ -60,12 +60,11 @@ module _ (held : Monitor) (past : Past) (s : Side) (st : Stands held past) where
         (omega (arith, short, len, same), all ∙ len)
 
     -- the first byte of a side that may not send
-    pub first_is_missing : (head : List ℕ) (fault : WireFault) → head ≡ (incoming_of held s).head → ((core : Core) (counted : ℕ) → Shows held.state core → reading_by_decision (decision_by_count counted core s head) head ≡ Bad fault) →
-        (awaited st.reader s ≡ 1) × (length head ≡ 0)
-    first_is_missing head fault is bad =
-        let word : reading_by_decision (decided st.reader s head) head ≡ Bad fault = ap (λ o. reading_by_decision o head) (decided_so head) ∙ bad st.reader.core (count_at_server s (holding_of held past).server held.counted (length st.reader.core.entries)) st.shows in
+    pub first_is_missing : (head : List ℕ) → head ≡ (incoming_of held s).head → ((core : Core) (counted : ℕ) → Shows held.state core → decision_by_count counted core s head ≡ None) → (awaited st.reader s ≡ 1) × (length head ≡ 0)
+    first_is_missing head is bad =
+        let word : decided st.reader s head ≡ None = decided_so head ∙ bad st.reader.core (count_at_server s (holding_of held past).server held.counted (length st.reader.core.entries)) st.shows in
         let same : bytes_come (incoming_of held s) ≡ head = bare ∙ sym is in
         let opened : IsOpen (decided st.reader s (bytes_come (incoming_of held s))) (bytes_come (incoming_of held s)) =
         subst (λ bs. IsOpen (decided st.reader s bs) bs) (sym come_is) (open_held (held_of (holding_of held past) st.reader st.read_to s)) in
-        let r = refused_first (decided st.reader s head) head fault (subst (λ bs. IsOpen (decided st.reader s bs) bs) same opened) word in
+        let r = refused_first (decided st.reader s head) head (subst (λ bs. IsOpen (decided st.reader s bs) bs) same opened) word in
         (sym awaited_of ∙ ap (λ bs. awaited_length_by (decided st.reader s bs) bs) same ∙ r.0, r.1)

@@ -1,7 +1,7 @@
 -- What is expected of a message whose head has come: which message it is with the bytes after its head, how many those
 -- are, and what its last byte shows to be wrong.
 use Rattle.std.specs.Prelude.{◌≡◌, ◌⊎◌, ◌<◌, ◌≤◌, ◌+◌, ◌==◌, ◌++◌, ℕ, suc, List, Bool, true, false, Option, Some, None, length, if◌then◌else◌, min, slice_get, not, ◌&&◌, ◌||◌}
-use Rattle.nbd_state.specs.{Places.{place_at, chunk_of, chunk_with}, Showing.IsShown, declared.{state.{Phase.Phase, State.State}, asked.Exchange.Exchange}, Shows.Shows}
+use Rattle.nbd_state.specs.{Places.{place_at, chunk_of, chunk_with}, Showing.IsShown, internal.IsTransmitting, declared.{state.State.State, asked.Exchange.Exchange}, Shows.Shows}
 use Rattle.nbd_wire.specs.declared.chunks.TheConstants as chunks
 use Rattle.nbd_wire.specs.declared.{fault.WireFault.{WireFault, TheVariants.{BadMagic, OutOfProfile}}, magics.TheConstants.{CHUNK_MAGIC, EXTENDED_CHUNK_MAGIC, SIMPLE_MAGIC}, message.{Message.Message, Side.{Side, TheVariants.{Client, Server}}}, profile.Profile.Profile, heads.transmission.{ChunkHead.ChunkHead, RequestHead.RequestHead}}
 use Rattle.nbd_wire.specs.{protocol.{Flags.{has, has_only}, Transmission.{chunk_head_fault, offset_fault, request_payload_length, simple_payload_length}}, Prelude.{Context, Exporting, Operation, Core, Transmission, operation, target, with_reply, Decision, begins, earlier_to, padding_fault, payload_fault, fault_if, chunk_fault, cookie_fault, is_too_large, read_as, simple_fault, simple_last_fault}}
@@ -9,7 +9,8 @@ use Rattle.nbd_wire.specs.declared.handshake.TheConstants as handshake
 use Rattle.nbd_wire.specs.declared.head_lengths.TheConstants as head_lengths
 use Rattle.nbd_wire.specs.declared.message.Message.TheVariants as messages
 use Rattle.nbd_wire.specs.protocol.States as definitions
-use Rattle.nbd_session.specs.{internal.{decision_by_count, operation_counted, Leading.request_head_length}, declared.expected.Expected.{Expected, TheVariants.{Greeting, ClientFlags, Choice, Answer, Exported, Request, Simple, Chunk}}}
+use Rattle.nbd_session.specs.{internal.{decision_by_count, operation_counted, Leading.{chunk_head_length, chunk_magic, request_head_length}}, declared.{deciding.Form.Form, expected.Expected.{Expected, TheVariants.{Greeting, ClientFlags, Choice, Answer, Exported, Request, Simple, Chunk}}}}
+use Rattle.nbd_session.specs.declared.deciding.Form.TheVariants as forms
 use Rattle.nbd_state.specs.declared.state.Phase.TheVariants as program
 
 -- a request; the length of one without an extended header has 32 bits
@@ -155,27 +156,44 @@ pub record IsChunkOf (export : Exporting) (core : Core) (to : Option Operation) 
   pub message_is : (payload : List ℕ) → message_of expected payload ≡ chunk_of h payload
   pub placed : IsPlaced core expected
 
--- the whole head of a reply, by the number that it begins with
-abbrev pub IsReplyHead : (extended : Bool) → List ℕ → Type 0
-IsReplyHead false head = (begins SIMPLE_MAGIC head ≡ true) × (length head ≡ 16)
-    ⊎ (begins CHUNK_MAGIC head ≡ true) × (length head ≡ 20)
-IsReplyHead true head = (begins EXTENDED_CHUNK_MAGIC head ≡ true) × (length head ≡ 32)
+-- how long the head is; of a reply without its number this is as long
+abbrev pub form_length : Form → ℕ
+form_length forms.Greeting = head_lengths.GREETING
+form_length forms.ClientFlags = head_lengths.CLIENT_FLAGS
+form_length forms.Choice = head_lengths.CHOICE
+form_length forms.Exported = head_lengths.EXPORT
+form_length forms.Aborted = head_lengths.ANSWER
+form_length (forms.Answer chosen) = head_lengths.ANSWER
+form_length (forms.Request extended) = request_head_length extended
+form_length forms.Reply = 4
+form_length forms.Simple = head_lengths.SIMPLE
+form_length (forms.Chunk extended) = chunk_head_length extended
 
--- the whole head of the message that may come in a phase; none where the side may not send
-abbrev pub whole_head_by : Phase → (disconnected extended : Bool) → Side → List ℕ → Type 0
-whole_head_by program.Flags disconnected extended Client head = length head ≡ 4
-whole_head_by program.Choosing disconnected extended Client head = length head ≡ 16
-whole_head_by (program.Transmission export) disconnected extended Client head = (disconnected ≡ false)
-    × (length head ≡ request_head_length extended)
-whole_head_by program.Greet disconnected extended Server head = length head ≡ 18
-whole_head_by program.Naming disconnected extended Server head = length head ≡ 10
-whole_head_by program.Aborting disconnected extended Server head = length head ≡ 20
-whole_head_by (program.Answering chosen) disconnected extended Server head = length head ≡ 20
-whole_head_by (program.Transmission export) disconnected extended Server head = IsReplyHead extended head
-whole_head_by phase disconnected extended s head = ⊥
+-- the form of a reply's head, by the number that it begins with
+abbrev pub IsReplyForm : (extended : Bool) → List ℕ → Form → Type 0
+IsReplyForm extended head forms.Simple = (extended ≡ false) × (begins SIMPLE_MAGIC head ≡ true)
+IsReplyForm extended head (forms.Chunk x) = (extended ≡ x) × (begins (chunk_magic x) head ≡ true)
+IsReplyForm extended head forms.Reply = (begins (chunk_magic extended) head ≡ false)
+    × ((not extended && begins SIMPLE_MAGIC head) ≡ false)
+IsReplyForm extended head form = ⊥
 
-abbrev pub IsWholeHead : State → Side → List ℕ → Type 0
-IsWholeHead state s head = whole_head_by state.phase state.disconnected state.extended s head
+-- a side's head has this form where the session stands
+abbrev pub IsFormOf : State → Side → List ℕ → Form → Type 0
+IsFormOf state s head forms.Greeting = (s ≡ Server) × (state.phase ≡ program.Greet)
+IsFormOf state s head forms.ClientFlags = (s ≡ Client) × (state.phase ≡ program.Flags)
+IsFormOf state s head forms.Choice = (s ≡ Client) × (state.phase ≡ program.Choosing)
+IsFormOf state s head forms.Exported = (s ≡ Server) × (state.phase ≡ program.Naming)
+IsFormOf state s head forms.Aborted = (s ≡ Server) × (state.phase ≡ program.Aborting)
+IsFormOf state s head (forms.Answer chosen) = (s ≡ Server) × (state.phase ≡ program.Answering chosen)
+IsFormOf state s head (forms.Request x) = (s ≡ Client) × IsTransmitting state.phase × (state.disconnected ≡ false)
+    × (state.extended ≡ x)
+IsFormOf state s head form = (s ≡ Server) × IsTransmitting state.phase × IsReplyForm state.extended head form
+
+-- the form that was found; none where the side may not send
+abbrev pub IsFormFound : State → Side → List ℕ → Option Form → Type 0
+IsFormFound state s head (Some form) = IsFormOf state s head form
+IsFormFound state s head None = (core : Core) (counted : ℕ) → Shows state core
+    → decision_by_count counted core s head ≡ None
 
 -- the head is whole, and its last byte shows this fault
 pub record IsRefusedHead (counted : ℕ) (core : Core) (s : Side) (head : List ℕ) (fault : WireFault) : Type 0 where
@@ -184,20 +202,7 @@ pub record IsRefusedHead (counted : ℕ) (core : Core) (s : Side) (head : List �
   pub length_is : decision.head_length ≡ length head
   pub fault_is : decision.head_fault ≡ Some fault
 
--- a reply's bytes tell this length of its head: 4 before its number has come, and then by the number
-abbrev pub HasReplyLength : (extended : Bool) → List ℕ → ℕ → Type 0
-HasReplyLength false head n = (length head < 4) × (n ≡ 4)
-    ⊎ ((begins SIMPLE_MAGIC head ≡ true) × (n ≡ 16) ⊎ (begins CHUNK_MAGIC head ≡ true) × (n ≡ 20))
-HasReplyLength true head n = (length head < 4) × (n ≡ 4) ⊎ (begins EXTENDED_CHUNK_MAGIC head ≡ true) × (n ≡ 32)
-
--- bytes begin with another number than a reply's
-abbrev pub IsNoReply : (extended : Bool) → List ℕ → WireFault → Type 0
-IsNoReply false head fault = (fault ≡ BadMagic) × (4 ≤ length head) × (begins SIMPLE_MAGIC head ≡ false)
-    × (begins CHUNK_MAGIC head ≡ false)
-IsNoReply true head fault = (fault ≡ BadMagic) × (4 ≤ length head) × (begins EXTENDED_CHUNK_MAGIC head ≡ false)
-
--- this is the length of the head that the judge sees in the bytes, and bytes of this length are whole
-pub record HasHeadLength (state : State) (s : Side) (head : List ℕ) (n : ℕ) : Type 0 where
-  pub decided : (core : Core) (counted : ℕ) → Shows state core
-      → (d : Decision) × (decision_by_count counted core s head ≡ Some d) × (d.head_length ≡ n)
-  pub whole : length head ≡ n → IsWholeHead state s head
+-- this is the length of the head that the judge sees in the bytes
+abbrev pub HasHeadLength : State → Side → List ℕ → ℕ → Type 0
+HasHeadLength state s head n = (core : Core) (counted : ℕ) → Shows state core
+    → (d : Decision) × (decision_by_count counted core s head ≡ Some d) × (d.head_length ≡ n)

@@ -11,9 +11,9 @@ pub returns-then-is_bad_disconnect-clause-refused : goal.returns-then-is_bad_dis
 returns-then-is_bad_disconnect-clause-refused c = grind (arith, bad_request)
 
 pub returns-clause-expected : goal.returns-clause-expected
-returns-clause-expected c = λ now payload s.
+returns-clause-expected c = λ now payload.
     let b = AreBytes-from_places c.args.head.now (λ i. omega (arith, c.type_inv.head i)) in
-    good_request c.args.state.now.extended now (sym s.extended_is) c.args.head.now payload c.in-Some.head b c.requires (sym c.in-Some.is ∙ c.read_head.ensures)
+    good_request c.args.extended now c.args.head.now payload c.in-Some.head b c.requires (sym c.in-Some.is ∙ c.read_head.ensures)
     (sym c.is_beyond.ensures ∙ c.if-is_beyond.false) (sym c.is_bad_disconnect.ensures ∙ c.if-is_bad_disconnect.false)
 
 pub returns-clause-refused : goal.returns-clause-refused
