@@ -46,8 +46,16 @@ impl Log {
             (stretches_of self.old.stretches.items) side count }
     {
         note(&mut self.stretches, side, count as u64);
-        if let Some(message) = message {
-            let _ = self.messages.push(message);
-        }
+        push_some(&mut self.messages, message);
+    }
+}
+
+// Adds an item, if there is one, where there is room.
+fn push_some<T: Drop>(items: &mut Vec<T>, item: Option<T>)
+    requires { vec_len items.old < vec_capacity items.old }
+    ensures { items.new.items ≡ items.old.items ++ option_to_list item }
+{
+    if let Some(item) = item {
+        let _ = items.push(item);
     }
 }

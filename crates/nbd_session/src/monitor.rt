@@ -77,7 +77,9 @@ impl Monitor {
         ensures adds { (past : Past) → Stands self.old past → (next : Past) × IsKept self.new next
             × Adds past.pairs next.pairs past.messages next.messages side left.now (drop result left.now) }
     {
-        self.step(side, left).0
+        let (count, message) = self.step(side, left);
+        drop(message);
+        count
     }
 
     /// Takes a prefix of these bytes of a side, up to the next length at which something is decided. States its length,
