@@ -11,7 +11,7 @@ ghost use Rattle.nbd_explain.specs.Shown.{IsShowCause, LeavesShown, WritesAll};
 use nbd_capture::write_whole;
 use nbd_files::RunFault;
 use nbd_judge::Verdict;
-use nbd_lines::{OutputFault, show};
+use nbd_lines::{OutputFault, show_by};
 use nbd_session::SessionFault;
 use nbd_tool::{Unseen, session_over, write_verdict};
 use nbd_wire::{Message, Profile};
@@ -76,8 +76,9 @@ fn write_messages<W: Write>(
     ensures err { OnErr result
         (AppendsPrefix (W.contents out.old) (W.contents out.new) (message_lines messages.items)) }
 {
+    let mut line = Vec::new(alloc);
     for message in messages {
-        show(alloc, &[message], out)?;
+        show_by(&mut line, &[message], out)?;
     }
     Ok(())
 }

@@ -20,7 +20,7 @@ pub use chunk_writing::write_chunk;
 pub use contents_writing::write_contents;
 pub use make_command::run_make;
 pub use making::{MakeFault, make};
-pub use output::{OutputFault, show, write_chunks};
+pub use output::{OutputFault, show, show_by, write_chunks};
 pub use printing::append_line;
 pub use reading::parse_message;
 pub use script::{ScriptFault, parse_script};

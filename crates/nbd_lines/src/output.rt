@@ -62,10 +62,23 @@ pub fn show<W: io::Write>(
     ensures err { OnErr result
         (AppendsPrefix (W.contents out.old) (W.contents out.new) (message_lines messages.now)) }
 {
-    let mut line = Vec::new(alloc);
+    show_by(&mut Vec::new(alloc), messages, out)
+}
+
+/// The same, where each line is made in this list, which need not be empty: whoever has more messages later hands it in again.
+pub fn show_by<W: io::Write>(
+    line: &mut Vec<u8>,
+    messages: &[Message],
+    out: &mut W,
+) -> Result<(), OutputFault>
+    ensures ok { OnOk result
+        (Appends (W.contents out.old) (W.contents out.new) (message_lines messages.now)) }
+    ensures err { OnErr result
+        (AppendsPrefix (W.contents out.old) (W.contents out.new) (message_lines messages.now)) }
+{
     for message in messages {
         line.clear();
-        append_line(&mut line, message)?;
+        append_line(line, message)?;
         line.extend_from_slice(b"\n")?;
         write_whole(out, line.as_slice())?;
     }

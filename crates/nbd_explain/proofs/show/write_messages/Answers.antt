@@ -26,7 +26,7 @@ loop-message-preserved g c =
       tt,
       tt,
       append_assoc at.yielded (c.in-Some.message ∷ []) _ ∙ rw (← steps) at.invariant.2,
-      one_more _ (g.W.Write.contents at.out) _ at.yielded c.in-Some.message at.invariant.3 c.in_ok-show.ensures.ok,
+      one_more _ (g.W.Write.contents at.out) _ at.yielded c.in-Some.message at.invariant.3 c.in_ok-show_by.ensures.ok,
     )
 
 -- what holds however the lines were written
@@ -34,10 +34,10 @@ after_all : {A E : Type 0} (P : Type 0) (o : Result A E) → P → OnErr o P
 after_all P (Ok a) p = tt
 after_all P (Err e) p = p
 
-pub returns-in_err-show-clause-err : goal.returns-in_err-show-clause-err
-returns-in_err-show-clause-err g c =
+pub returns-in_err-show_by-clause-err : goal.returns-in_err-show_by-clause-err
+returns-in_err-show_by-clause-err g c =
     let at = c.loop-message in
     let steps : into_iter_items at.message-iterator ≡ c.in-Some.message ∷ into_iter_items c.next.new.self = c.in-Some.ensures.steps.0 in
     after_all _ c.from_residual.result
     (stopped_in _ (g.W.Write.contents at.out) _ c.args.messages.items at.yielded (into_iter_items c.next.new.self) c.in-Some.message
-    (rw (← steps) at.invariant.2) at.invariant.3 c.in_err-show.ensures.err)
+    (rw (← steps) at.invariant.2) at.invariant.3 c.in_err-show_by.ensures.err)

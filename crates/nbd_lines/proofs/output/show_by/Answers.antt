@@ -1,5 +1,5 @@
 use Rattle.nbd_lines.proofs.{Common.{arith, ◌≡◌, ◌++◌, ◌∷◌, [], ap, ◌∙◌, err_from_is_err_and, line_feed, AppendsPrefix, shown_line}, WrittenLineLemmas.{all_written, broken_line, none_written, one_written, stopped_before}}
-use Rattle.nbd_lines.proofs.output.show.Goals as goal
+use Rattle.nbd_lines.proofs.output.show_by.Goals as goal
 
 pub loop-message-init : goal.loop-message-init
 loop-message-init g c = none_written shown_line (g.W.Write.contents c.args.out.now) c.args.messages.now
