@@ -28,24 +28,15 @@ pub fn change<C: Contents>(
 {
     let span = served(one, part);
     match one.command {
-        commands::WRITE => {
-            if is_success(one.outcome) {
-                contents.put(span.offset, bytes_of(one, span))?;
-            } else {
-                erase(span, contents)?;
-            }
+        commands::WRITE if is_success(one.outcome) => {
+            contents.put(span.offset, bytes_of(one, span))
         }
-        commands::TRIM => erase(span, contents)?,
-        commands::WRITE_ZEROES => {
-            if is_success(one.outcome) {
-                contents.zero(span.offset, span.size)?;
-            } else {
-                erase(span, contents)?;
-            }
+        commands::WRITE_ZEROES if is_success(one.outcome) => {
+            contents.zero(span.offset, span.size)
         }
-        _ => {}
+        commands::WRITE | commands::TRIM | commands::WRITE_ZEROES => erase(span, contents),
+        _ => Ok(()),
     }
-    Ok(())
 }
 
 // Where an entry serves a request: in the entry's part, or without a part in the request's whole range.
