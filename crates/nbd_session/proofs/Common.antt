@@ -6,7 +6,7 @@ pub use Rattle.nbd_laws.specs.{Reached.{awaited_length, awaited_length_by, decis
 pub use Rattle.nbd_session.specs.{Following.{Follows, IsPushed, past_of}, Incoming.{IncomingView, bytes_come, incoming_with, incoming_with_by, nothing_come}, Pushed.{PushedHoldsEachSide, Stretch, bytes_after_stretch, mixture, stretch_bytes}, Refusals.{EndsIn, IsAcceptedOf, IsComplete, IsCompleteBy, IsOpenEndOf, IsRefusalOf, IsWireFaultOf, Refuses}}
 pub use Rattle.nbd_session.specs.{Sessions.{Adds, AddsPrefix, HasRunOf, IsAtEnd, IsOfRun, IsReported, SessionView, bytes_taken, empty_session_of, end_by, fault_at_end, fault_of, open_end_fault, pairs_of}, Views.{session_view, stretches_of}}
 pub use Rattle.nbd_session.specs.declared.{deciding.Form.Form, expected.Expected.{Expected, TheVariants.{Answer, Choice, Chunk, ClientFlags, Exported, Greeting, Request, Simple}}, fault.SessionFault.{SessionFault, TheVariants.{Memory, Wire}}, log.Log.Log, monitor.Monitor.Monitor}
-pub use Rattle.nbd_session.specs.internal.{done_by, elsewhere_fault, finish_by, is_bad_disconnect, is_beyond, is_simple_forbidden, is_status, lacks_by, decision_by_count, operation_counted, within, Logging.{AreStretchesOf, is_of, stretches_with, HasStretches, IsLogged}, Expecting.{sets_more, HasHeadLength, IsChunkOf, IsExpectedOf, IsFormFound, IsFormOf, IsPlaceOf, IsPlaced, IsRefusedHead, IsReplyForm, IsSimpleOf, StandsIn, chunk_fault_by, chunk_fault_to, expected_decision, form_length, head_fault_by, is_too_long, last_fault_by, message_of, payload_length_of, place_answered, request_with, success_fault_if}, Known.{holding_of, incoming_of, with_expected, with_incoming, IsCome, IsExpected, IsKnown, IsShort, awaited, decided, is_come_by, is_known_by}, Leading.{chunk_fields, chunk_head_length, chunk_magic, request_fields, request_head_length, request_head_of, request_magic, some_if}, Standing.{Holding, IsReadTo, Past, completed, count_at_server, rest_of, sent, with_bytes, with_more}, Steps.{HoldsRun, IsExpecting, IsHeadRefused, IsKept, IsKeptBy, IsShut, IsTaken, IsWhole, Knows, Stands, knows_by}}
+pub use Rattle.nbd_session.specs.internal.{done_by, elsewhere_fault, finish_by, is_bad_disconnect, is_beyond, is_simple_forbidden, is_status, lacks_by, decision_by_count, operation_counted, within, Logging.{AreStretchesOf, is_of, stretches_with, HasStretches, IsLogged}, Expecting.{sets_more, HasHeadLength, InTransmission, IsChunkOf, IsExpectedOf, IsFormFound, IsFormOf, IsPlaceOf, IsPlaced, IsRefusedHead, IsReplyForm, IsSimpleOf, StandsIn, chunk_fault_by, chunk_fault_to, expected_decision, form_length, head_fault_by, is_too_long, last_fault_by, message_of, payload_length_of, place_answered, request_with, success_fault_if}, Known.{holding_of, incoming_of, with_expected, with_incoming, IsCome, IsExpected, IsKnown, IsShort, awaited, decided, is_come_by, is_known_by}, Leading.{chunk_fields, chunk_head_length, chunk_magic, request_fields, request_head_length, request_head_of, request_magic, some_if}, Standing.{Holding, IsReadTo, Past, completed, count_at_server, rest_of, sent, with_bytes, with_more}, Steps.{HoldsRun, IsExpecting, IsHeadRefused, IsKept, IsKeptBy, IsShut, IsTaken, IsWhole, Knows, Stands, knows_by}}
 pub use Rattle.nbd_state.proofs.{HeadLemmas.{chunk_cookie, chunk_ends, chunk_fails, chunk_gives}, PlacedLemmas.{place_shows_operation, shown_length}, RecordingLemmas.{told_with, told_without}, ReplyLemmas.{any-snoc, or-false, proper-same}, TellingLemmas.unnoted}
 pub use Rattle.nbd_state.specs.{Shows.{Answers, MayTake, AreKnown, AreShown, Shows, ended_if, export_shown_if, known_if, phase_shown, shown_if}, Places.{chunk_of, chunk_with, place_at}, Showing.{shown_in, IsShown, exporting_if}, Transcripts.{export_of, report_of_request, transcript_report}, declared.{asked.Exchange.Exchange, state.{Chosen.Chosen, Export.Export, State.State}}}
 pub use Rattle.nbd_wire.proofs.{FieldLemmas.number_at-append, HeadLemmas.{answer-found, answer-only, choice-found, choice-only, chunk-found, client_flags-found, export-found, extended_chunk-found, extended_request-found, extended_request-only, greeting-found, greeting-only, request-found, request-only, simple-found}, NumberLemmas.{AreBytes-from_places, number_at-lt}}

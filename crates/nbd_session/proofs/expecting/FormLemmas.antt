@@ -1,7 +1,6 @@
 -- What is decided of a side's head, by its form.
-use Rattle.nbd_session.proofs.Common.{arith, ◌≡◌, ◌∙◌, ℕ, List, Bool, true, false, length, refl, sym, ap, subst, Option, Some, None, WireFault, Side, Client, Server, Exporting, Core, Phase, Greet, Flags, Choosing, Naming, Aborting, Answering, Transmission, decision_by_count, operation_counted, Decision, decision_with, exporting_if, Shows, State, Chosen, Form, IsFormFound, IsFormOf, IsReplyForm, HasHeadLength, form_length, IsRefusedHead, abort_answer, answer, choice, client_flags, export_answer, greeting, request_by, request_unless, reply_in, has, is_proper_option, takes_contexts, number_at, no_chunk, request_head_length, Operation}
+use Rattle.nbd_session.proofs.Common.{arith, ◌≡◌, ◌∙◌, ℕ, List, Bool, length, refl, sym, ap, subst, Option, Some, WireFault, Side, Client, Server, Exporting, Core, Phase, Greet, Flags, Choosing, Naming, Aborting, Answering, Transmission, decision_by_count, operation_counted, Decision, decision_with, exporting_if, Shows, State, Chosen, Form, InTransmission, IsFormFound, IsFormOf, IsReplyForm, HasHeadLength, form_length, IsRefusedHead, abort_answer, answer, choice, client_flags, export_answer, greeting, request_by, request_unless, reply_in, has, is_proper_option, takes_contexts, number_at, no_chunk, request_head_length, Operation}
 use Rattle.nbd_session.proofs.expecting.PhaseLemmas.{aborting_of, answering_of, choosing_of, flags_of, greet_of, naming_of, transmission_of}
-use Rattle.nbd_state.specs.internal.{IsTransmitting}
 use Rattle.nbd_wire.specs.declared.handshake.TheConstants as handshake
 use Rattle.nbd_session.specs.declared.deciding.Form.TheVariants as forms
 
@@ -39,7 +38,7 @@ module _ (state : State) (s : Side) (core : Core) (shows : Shows state core) (co
         ∙ ap (λ x. Some (request_by x core bytes)) (sym shows.extended_is ∙ f.3)
 
     -- a reply
-    pub in_reply : (s ≡ Server) → IsTransmitting state.phase → (export : Exporting) × (core.phase ≡ Transmission export) × (decision_by_count counted core s bytes ≡ Some (reply_in state.extended export core (operation_counted counted core (number_at 8 8 bytes)) bytes))
+    pub in_reply : (s ≡ Server) → InTransmission state.phase → (export : Exporting) × (core.phase ≡ Transmission export) × (decision_by_count counted core s bytes ≡ Some (reply_in state.extended export core (operation_counted counted core (number_at 8 8 bytes)) bytes))
     in_reply e p =
         let t = transmission_of core.phase p.0 (sym p.1 ∙ shows.phase_is) in (
           t.0,
@@ -55,7 +54,7 @@ module _ (state : State) (s : Side) (core : Core) (shows : Shows state core) (co
   request_length x bytes = grind arith
 
   -- the head of a form has this length
-  length_in_reply : (head : List ℕ) (form : Form) → s ≡ Server → IsTransmitting state.phase → IsReplyForm state.extended head form → (d : Decision) × (decision_by_count counted core s head ≡ Some d) × (d.head_length ≡ form_length form)
+  length_in_reply : (head : List ℕ) (form : Form) → s ≡ Server → InTransmission state.phase → IsReplyForm state.extended head form → (d : Decision) × (decision_by_count counted core s head ≡ Some d) × (d.head_length ≡ form_length form)
   length_in_reply head form e p is =
       let r = in_reply head head e p in
       (reply_in state.extended r.0 core (operation_counted counted core (number_at 8 8 head)) head, r.2, reply_length state.extended r.0 (operation_counted counted core (number_at 8 8 head)) head form is)

@@ -1,5 +1,5 @@
 -- A reply whose head has come.
-use Rattle.nbd_session.proofs.Common.{◌≡◌, ℕ, suc, ◌<◌, ◌∷◌, ◌==◌, ◌&&◌, ◌||◌, ◌++◌, not, List, length, drop, arith, nat_le, nat_lt, Result, IfOk, IfErr, sym, ◌∙◌, ap, Option, Some, None, Bool, true, false, if◌then◌else◌, slice_get, WireFault, SimpleForbidden, SIMPLE_MAGIC, number_at, ChunkHead, SimpleHead, Exporting, Operation, Core, Transmission, in_force, operation, target, find, operation_counted, Decision, begins, reply_by, reply_in, simple_to, Bad, reading_by_decision, simple_fault, simple_last_fault, simple_payload_length, begun_true, no_chunk, IsShown, AreAskedWith, asked_at, is_simple_forbidden, Exchange, Expected, Simple, Chunk, IsChunkOf, IsPlaceOf, IsReplyForm, IsSimpleOf, BadMagic, chunk_fault_to, expected_decision, head_fault_by, is_too_long, last_fault_by, chunk_fields, chunk_head_length, chunk_magic, chunk_of, le-ltb, lt-leb}
+use Rattle.nbd_session.proofs.Common.{◌≡◌, ℕ, suc, ◌<◌, ◌∷◌, ◌==◌, ◌&&◌, ◌++◌, List, length, drop, arith, Result, IfOk, IfErr, sym, ◌∙◌, ap, Option, Some, None, Bool, true, false, if◌then◌else◌, slice_get, WireFault, SimpleForbidden, SIMPLE_MAGIC, number_at, ChunkHead, SimpleHead, Exporting, Operation, Core, Transmission, in_force, operation, target, find, operation_counted, Decision, begins, reply_by, reply_in, simple_to, simple_fault, simple_last_fault, simple_payload_length, begun_true, no_chunk, IsShown, AreAskedWith, asked_at, is_simple_forbidden, Exchange, Expected, Simple, Chunk, IsChunkOf, IsPlaceOf, IsReplyForm, IsSimpleOf, BadMagic, chunk_fault_to, expected_decision, head_fault_by, is_too_long, last_fault_by, chunk_fields, chunk_head_length, chunk_magic, chunk_of}
 use Rattle.nbd_session.proofs.expecting.HeadLemmas.{after_head, fields_stay}
 use Rattle.nbd_wire.specs.declared.commands.TheConstants as commands
 use Rattle.nbd_wire.specs.declared.message.Message.TheVariants as messages

@@ -1,9 +1,9 @@
 -- What is expected of a message whose head has come: which message it is with the bytes after its head, how many those
 -- are, and what its last byte shows to be wrong.
-use Rattle.std.specs.Prelude.{◌≡◌, ◌⊎◌, ◌<◌, ◌≤◌, ◌+◌, ◌==◌, ◌++◌, ℕ, suc, List, Bool, true, false, Option, Some, None, length, if◌then◌else◌, min, slice_get, not, ◌&&◌, ◌||◌}
-use Rattle.nbd_state.specs.{Places.{place_at, chunk_of, chunk_with}, Showing.IsShown, internal.IsTransmitting, declared.{state.State.State, asked.Exchange.Exchange}, Shows.Shows}
+use Rattle.std.specs.Prelude.{◌≡◌, ◌<◌, ◌+◌, ◌==◌, ◌++◌, ℕ, suc, List, Bool, true, false, Option, Some, None, length, if◌then◌else◌, min, slice_get, not, ◌&&◌, ◌||◌}
+use Rattle.nbd_state.specs.{Places.{place_at, chunk_of, chunk_with}, Showing.IsShown, declared.{state.{Export.Export, Phase.Phase, State.State}, asked.Exchange.Exchange}, Shows.Shows}
 use Rattle.nbd_wire.specs.declared.chunks.TheConstants as chunks
-use Rattle.nbd_wire.specs.declared.{fault.WireFault.{WireFault, TheVariants.{BadMagic, OutOfProfile}}, magics.TheConstants.{CHUNK_MAGIC, EXTENDED_CHUNK_MAGIC, SIMPLE_MAGIC}, message.{Message.Message, Side.{Side, TheVariants.{Client, Server}}}, profile.Profile.Profile, heads.transmission.{ChunkHead.ChunkHead, RequestHead.RequestHead}}
+use Rattle.nbd_wire.specs.declared.{fault.WireFault.{WireFault, TheVariants.{OutOfProfile}}, magics.TheConstants.{SIMPLE_MAGIC}, message.{Message.Message, Side.{Side, TheVariants.{Client, Server}}}, profile.Profile.Profile, heads.transmission.{ChunkHead.ChunkHead, RequestHead.RequestHead}}
 use Rattle.nbd_wire.specs.{protocol.{Flags.{has, has_only}, Transmission.{chunk_head_fault, offset_fault, request_payload_length, simple_payload_length}}, Prelude.{Context, Exporting, Operation, Core, Transmission, operation, target, with_reply, Decision, begins, earlier_to, padding_fault, payload_fault, fault_if, chunk_fault, cookie_fault, is_too_large, read_as, simple_fault, simple_last_fault}}
 use Rattle.nbd_wire.specs.declared.handshake.TheConstants as handshake
 use Rattle.nbd_wire.specs.declared.head_lengths.TheConstants as head_lengths
@@ -177,6 +177,10 @@ IsReplyForm extended head forms.Reply = (begins (chunk_magic extended) head ≡ 
     × ((not extended && begins SIMPLE_MAGIC head) ≡ false)
 IsReplyForm extended head form = ⊥
 
+-- requests and replies may come
+abbrev pub InTransmission : Phase → Type 0
+InTransmission phase = (export : Export) × (phase ≡ program.Transmission export)
+
 -- a side's head has this form where the session stands
 abbrev pub IsFormOf : State → Side → List ℕ → Form → Type 0
 IsFormOf state s head forms.Greeting = (s ≡ Server) × (state.phase ≡ program.Greet)
@@ -185,9 +189,9 @@ IsFormOf state s head forms.Choice = (s ≡ Client) × (state.phase ≡ program.
 IsFormOf state s head forms.Exported = (s ≡ Server) × (state.phase ≡ program.Naming)
 IsFormOf state s head forms.Aborted = (s ≡ Server) × (state.phase ≡ program.Aborting)
 IsFormOf state s head (forms.Answer chosen) = (s ≡ Server) × (state.phase ≡ program.Answering chosen)
-IsFormOf state s head (forms.Request x) = (s ≡ Client) × IsTransmitting state.phase × (state.disconnected ≡ false)
+IsFormOf state s head (forms.Request x) = (s ≡ Client) × InTransmission state.phase × (state.disconnected ≡ false)
     × (state.extended ≡ x)
-IsFormOf state s head form = (s ≡ Server) × IsTransmitting state.phase × IsReplyForm state.extended head form
+IsFormOf state s head form = (s ≡ Server) × InTransmission state.phase × IsReplyForm state.extended head form
 
 -- the form that was found; none where the side may not send
 abbrev pub IsFormFound : State → Side → List ℕ → Option Form → Type 0

@@ -1,4 +1,4 @@
-use Rattle.nbd_session.proofs.{Common.{◌≡◌, ◌++◌, List, length, refl, sym, ◌∙◌, ap, subst, Side, Core, Some, BadMagic, Shows, same_Some, IsFormOf, form_length, expected_decision, SimpleHead, number_at, rules}, expecting.{FormLemmas.{in_aborted, in_answer, in_choice, in_client_flags, in_exported, in_greeting, in_reply, in_request, refused_as, reply_length, request_length}, ReplyLemmas.{chunk_decision, chunk_refused, if_err, if_ok, no_reply_bad, reply_to, simple_decision, simple_refused}}, parsing.LeadingLemmas.{leading_simple-is}}
+use Rattle.nbd_session.proofs.{Common.{◌++◌, refl, sym, ◌∙◌, ap, subst, Some, BadMagic, same_Some, IsFormOf, form_length, expected_decision, rules}, expecting.{FormLemmas.{in_aborted, in_answer, in_choice, in_client_flags, in_exported, in_greeting, in_reply, in_request, refused_as, reply_length, request_length}, ReplyLemmas.{chunk_decision, chunk_refused, if_err, if_ok, no_reply_bad, reply_to, simple_decision, simple_refused}}, parsing.LeadingLemmas.{leading_simple-is}}
 use Rattle.nbd_session.specs.declared.deciding.Form.TheVariants as forms
 use Rattle.nbd_session.proofs.deciding.decide.Goals as goal
 
