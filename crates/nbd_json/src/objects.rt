@@ -1,4 +1,4 @@
-//! A writer that makes an object of each line.
+//! A writer of lines that makes an object of each, where objects are wanted.
 
 use crate::members::{tell_fields, tell_line, tell_words};
 use crate::object::Object;
@@ -13,6 +13,8 @@ const FORMAT: u64 = 1;
 /// Which lines are told as objects.
 #[derive(Clone, Copy, Drop)]
 pub enum Lines {
+    /// None: all is written as it comes.
+    Plain,
     /// Those of `show`.
     Messages,
     /// Those of `show --names`.
@@ -21,7 +23,7 @@ pub enum Lines {
     Others,
 }
 
-/// A writer of lines, which writes an object for each.
+/// A writer of lines, which writes an object for each, or what it is given where no object is wanted.
 #[derive(Drop)]
 pub struct Objects<W> {
     alloc: Global,
@@ -87,6 +89,9 @@ impl<W: Write> Objects<W> {
 impl<W: Write> Write for Objects<W> {
     // (up to the end of a line)
     fn write(&mut self, buf: &[u8]) -> io::Result<usize> {
+        if let Lines::Plain = self.lines {
+            return self.writer.write(buf);
+        }
         match memchr(b'\n', buf) {
             Some(place) => {
                 self.add(&buf[..place])?;

@@ -6,7 +6,7 @@ ghost use Rattle.nbd_explain.specs.Answering as answering;
 ghost use Rattle.nbd_explain.specs.Ordering as ordering;
 
 use crate::files::{
-    Output, check_inputs, contents_files, explain_files, lint_files, order_files, write_of,
+    Written, check_inputs, contents_files, explain_files, lint_files, order_files, write_of,
 };
 use nbd_explain::{Answer, Ordered, explain_status, order_status};
 use nbd_files::{Files, RunFault, complain, exit_status, tell};
@@ -56,8 +56,8 @@ fn run_asked(files: &mut Files<'_>, asked: &Asked<'_>) -> u8 {
         Command::Order => order(files, asked),
         Command::Arrival => arrival(files, asked),
         Command::Contents => contents(files, asked),
-        Command::Show => show(files, asked, Output::Lines(asked.profile)),
-        Command::Names => show(files, asked, Output::Names(asked.profile)),
+        Command::Show => show(files, asked, Written::Lines),
+        Command::Names => show(files, asked, Written::Names),
         Command::Lint(linting) => lint(files, asked, &linting),
         Command::Make => make(files, asked),
     }
@@ -136,12 +136,7 @@ fn ordered(files: &Files<'_>, answer: &Result<Ordered, RunFault>, asked: &Asked<
 
 /// `nbdcheck order CAPTURE --arrival`.
 fn arrival(files: &mut Files<'_>, asked: &Asked<'_>) -> u8 {
-    let answer = write_of(
-        files,
-        asked.input,
-        Output::Numbers(asked.profile),
-        asked.is_json,
-    );
+    let answer = write_of(files, asked, Written::Numbers);
     if let Ok(false) = answer {
         tell(files.rt, "no order: the session was refused");
     }
@@ -155,8 +150,8 @@ fn contents(files: &mut Files<'_>, asked: &Asked<'_>) -> u8 {
 }
 
 /// `nbdcheck show CAPTURE [--names]`.
-fn show(files: &mut Files<'_>, asked: &Asked<'_>, output: Output) -> u8 {
-    let answer = write_of(files, asked.input, output, asked.is_json);
+fn show(files: &mut Files<'_>, asked: &Asked<'_>, written: Written) -> u8 {
+    let answer = write_of(files, asked, written);
     reported(files, &answer, asked)
 }
 
@@ -172,7 +167,7 @@ fn lint(files: &mut Files<'_>, asked: &Asked<'_>, linting: &Linting) -> u8 {
 
 /// `nbdcheck make SCRIPT`.
 fn make(files: &mut Files<'_>, asked: &Asked<'_>) -> u8 {
-    let answer = write_of(files, asked.input, Output::Capture, false);
+    let answer = write_of(files, asked, Written::Capture);
     made(files, &answer, asked)
 }
 

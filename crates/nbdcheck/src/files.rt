@@ -14,38 +14,29 @@ use nbd_json::{Lines, Objects};
 use nbd_lines::run_make;
 use nbd_search::Progress;
 use nbd_tool::check_files;
-use nbd_wire::Profile;
 use nbd_words::{Asked, Linting};
 use std::alloc::Global;
 use std::fs::File;
 use std::io;
 use std::io::{BufRead, BufReader, BufWriter, Write};
 
-/// What is written on standard output, first to a buffer.
-type Buffered<'a> = BufWriter<FinalWriter<io::Printer<'a, HostRuntime>>>;
+/// Standard output, which holds what is written until it is flushed, and makes objects of lines where they are wanted.
+type Output<'a> = Objects<BufWriter<FinalWriter<io::Printer<'a, HostRuntime>>>>;
 
-/// Opens the files in the order capture, order, image, and then checks the session.
-pub fn check_inputs(files: &mut Files<'_>, asked: &Asked<'_>) -> Result<bool, RunFault> {
-    let rt = files.rt;
-    if asked.is_json {
-        let mut out = Objects::new(rt.alloc(), buffered(rt)?, Lines::Others);
-        let answer = check_into(files, asked, &mut out);
-        ended(&mut out, answer)
-    } else {
-        check_into(files, asked, &mut io::writer(rt))
+// Standard output for these lines, or for their objects where JSON is asked for.
+fn output_of<'a>(
+    rt: &'a HostRuntime,
+    asked: &Asked<'_>,
+    lines: Lines,
+) -> Result<Output<'a>, RunFault> {
+    let lines = if asked.is_json { lines } else { Lines::Plain };
+    match BufWriter::new(rt.alloc(), FinalWriter::new(io::writer(rt))) {
+        Ok(out) => Ok(Objects::new(rt.alloc(), out, lines)),
+        Err(_) => Err(RunFault::Memory),
     }
 }
 
-fn check_into<W: Write>(
-    files: &mut Files<'_>,
-    asked: &Asked<'_>,
-    out: &mut W,
-) -> Result<bool, RunFault> {
-    let order = asked.order.unwrap_or("");
-    check_files(files, asked.profile, asked.input, order, asked.start, out)
-}
-
-// The answer of what wrote the lines of objects, once all that is buffered is written; where memory was refused for an object, that.
+// The answer of what wrote to an output, once all that this holds is written; where memory was refused for an object, that.
 fn ended<W: Write, A: Drop>(
     out: &mut Objects<W>,
     answer: Result<A, RunFault>,
@@ -60,12 +51,19 @@ fn ended<W: Write, A: Drop>(
     }
 }
 
-// Standard output, of which all is written when it is flushed.
-fn buffered<'a>(rt: &'a HostRuntime) -> Result<Buffered<'a>, RunFault> {
-    match BufWriter::new(rt.alloc(), FinalWriter::new(io::writer(rt))) {
-        Ok(out) => Ok(out),
-        Err(_) => Err(RunFault::Memory),
-    }
+/// Opens the files in the order capture, order, image, and then checks the session.
+pub fn check_inputs(files: &mut Files<'_>, asked: &Asked<'_>) -> Result<bool, RunFault> {
+    let mut out = output_of(files.rt, asked, Lines::Others)?;
+    let order = asked.order.unwrap_or("");
+    let answer = check_files(
+        files,
+        asked.profile,
+        asked.input,
+        order,
+        asked.start,
+        &mut out,
+    );
+    ended(&mut out, answer)
 }
 
 /// Opens the files in the order capture, order, image, where there are such, and then explains.
@@ -102,13 +100,9 @@ fn explain_over(
     order: Option<File>,
     start: StartFrom<File>,
 ) -> Result<Answer, RunFault> {
-    if asked.is_json {
-        let mut out = Objects::new(rt.alloc(), buffered(rt)?, Lines::Others);
-        let answer = explain_into(rt, asked, capture, order, start, &mut out);
-        ended(&mut out, answer)
-    } else {
-        explain_into(rt, asked, capture, order, start, &mut io::writer(rt))
-    }
+    let mut out = output_of(rt, asked, Lines::Others)?;
+    let answer = explain_into(rt, asked, capture, order, start, &mut out);
+    ended(&mut out, answer)
 }
 
 fn explain_into<W: Write>(
@@ -137,14 +131,9 @@ fn explain_into<W: Write>(
 
 /// Opens the capture and then the image, if there is one, and looks for an order.
 pub fn order_files(files: &mut Files<'_>, asked: &Asked<'_>) -> Result<Ordered, RunFault> {
-    let rt = files.rt;
-    if asked.is_json {
-        let mut out = Objects::new(rt.alloc(), buffered(rt)?, Lines::Others);
-        let answer = order_into(files, asked, &mut out);
-        ended(&mut out, answer)
-    } else {
-        order_into(files, asked, &mut io::writer(rt))
-    }
+    let mut out = output_of(files.rt, asked, Lines::Others)?;
+    let answer = order_into(files, asked, &mut out);
+    ended(&mut out, answer)
 }
 
 fn order_into<W: Write>(
@@ -168,22 +157,9 @@ fn order_into<W: Write>(
 
 /// Opens the files in the order capture, order, start, image, where there are such, and then writes what the session leaves.
 pub fn contents_files(files: &mut Files<'_>, asked: &Asked<'_>) -> Result<bool, RunFault> {
-    let mut out = buffered(files.rt)?;
-    if asked.is_json {
-        let mut out = Objects::new(files.rt.alloc(), out, Lines::Others);
-        let answer = contents_into(files, asked, &mut out);
-        return ended(&mut out, answer);
-    }
-    let is_yes = contents_into(files, asked, &mut out)?;
-    flushed(&mut out, is_yes)
-}
-
-// The answer, once all that is buffered is written.
-fn flushed(out: &mut Buffered<'_>, answer: bool) -> Result<bool, RunFault> {
-    match out.flush() {
-        Ok(()) => Ok(answer),
-        Err(_) => Err(RunFault::Write),
-    }
+    let mut out = output_of(files.rt, asked, Lines::Others)?;
+    let answer = contents_into(files, asked, &mut out);
+    ended(&mut out, answer)
 }
 
 fn contents_into<W: Write>(
@@ -233,72 +209,50 @@ fn opened(
     }
 }
 
-/// What is written of a file.
+/// What is written of a file, in the profile that is asked for.
 #[derive(Clone, Copy)]
-pub enum Output {
-    /// The numbers of a capture's requests, in the order in which they came, in this profile.
-    Numbers(Profile),
-    /// A capture's messages as lines of a script, in this profile.
-    Lines(Profile),
-    /// A capture's messages in words, in this profile.
-    Names(Profile),
+pub enum Written {
+    /// The numbers of a capture's requests, in the order in which they came.
+    Numbers,
+    /// A capture's messages as lines of a script.
+    Lines,
+    /// A capture's messages in words.
+    Names,
     /// The capture of a script.
     Capture,
 }
 
-/// Opens a file and writes this of it, or objects of JSON; false where its session was refused.
+/// Opens the input and writes this of it, or objects of JSON; false where its session was refused.
 pub fn write_of(
     files: &mut Files<'_>,
-    path: &str,
-    output: Output,
-    is_json: bool,
+    asked: &Asked<'_>,
+    written: Written,
 ) -> Result<bool, RunFault> {
-    let fault = match output {
-        Output::Capture => RunFault::ScriptRead,
-        _ => RunFault::CaptureRead,
+    let (lines, fault) = match written {
+        Written::Numbers => (Lines::Others, RunFault::CaptureRead),
+        Written::Lines => (Lines::Messages, RunFault::CaptureRead),
+        Written::Names => (Lines::Words, RunFault::CaptureRead),
+        Written::Capture => (Lines::Plain, RunFault::ScriptRead),
     };
-    let input = files.open_buffered(path, fault)?;
-    write_buffered(files.rt, input, output, is_json)
+    let input = files.open_buffered(asked.input, fault)?;
+    let mut out = output_of(files.rt, asked, lines)?;
+    let answer = write_to(files.rt.alloc(), input, asked, written, &mut out);
+    ended(&mut out, answer)
 }
 
-// Writes this of an input, and all that is buffered of it.
-fn write_buffered(
-    rt: &HostRuntime,
-    input: BufReader<File>,
-    output: Output,
-    is_json: bool,
-) -> Result<bool, RunFault> {
-    let mut out = buffered(rt)?;
-    if is_json {
-        let mut out = Objects::new(rt.alloc(), out, lines_of(output));
-        let answer = write_to(rt.alloc(), input, output, true, &mut out);
-        return ended(&mut out, answer);
-    }
-    let is_accepted = write_to(rt.alloc(), input, output, false, &mut out)?;
-    flushed(&mut out, is_accepted)
-}
-
-fn lines_of(output: Output) -> Lines {
-    match output {
-        Output::Lines(_) => Lines::Messages,
-        Output::Names(_) => Lines::Words,
-        Output::Numbers(_) | Output::Capture => Lines::Others,
-    }
-}
-
-// Writes this of an input, with the names of numbers where it is marked.
+// Writes this of an input, with the names of numbers where objects are made of it.
 fn write_to<W: Write>(
     alloc: Global,
     input: BufReader<File>,
-    output: Output,
-    is_marked: bool,
+    asked: &Asked<'_>,
+    written: Written,
     out: &mut W,
 ) -> Result<bool, RunFault> {
-    match output {
-        Output::Numbers(profile) => run_arrival_of(alloc, profile, input, out),
-        Output::Lines(profile) => run_show_of(alloc, profile, input, out),
-        Output::Names(profile) => run_names_of(alloc, profile, is_marked, input, out),
-        Output::Capture => run_make(alloc, input, out).map(|()| true),
+    match written {
+        Written::Numbers => run_arrival_of(alloc, asked.profile, input, out),
+        Written::Lines => run_show_of(alloc, asked.profile, input, out),
+        Written::Names => run_names_of(alloc, asked.profile, asked.is_json, input, out),
+        Written::Capture => run_make(alloc, input, out).map(|()| true),
     }
 }
 
