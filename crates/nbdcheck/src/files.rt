@@ -7,9 +7,7 @@ use nbd_explain::{
     Answer, Ordered, run_arrival_of, run_contents, run_explain_of, run_lint, run_names_of,
     run_order_of, run_show_of, write_rules,
 };
-use nbd_files::{
-    Files, FinalWriter, Opener, RunFault, StartFrom, open_inputs, open_start, terminal,
-};
+use nbd_files::{Files, FinalWriter, Opener, RunFault, StartFrom, open_start, terminal};
 use nbd_json::{Lines, Objects};
 use nbd_lines::run_make;
 use nbd_search::Progress;
@@ -68,56 +66,23 @@ pub fn check_inputs(files: &mut Files<'_>, asked: &Asked<'_>) -> Result<bool, Ru
 
 /// Opens the files in the order capture, order, image, where there are such, and then explains.
 pub fn explain_files(files: &mut Files<'_>, asked: &Asked<'_>) -> Result<Answer, RunFault> {
-    match asked.order {
-        Some(order) => {
-            let inputs = open_inputs(files, asked.input, order, asked.start)?;
-            explain_over(
-                files.rt,
-                asked,
-                inputs.capture,
-                Some(inputs.order),
-                inputs.start,
-            )
-        }
-        None => explain_capture(files, asked),
-    }
-}
-
-// The same without an order.
-fn explain_capture(files: &mut Files<'_>, asked: &Asked<'_>) -> Result<Answer, RunFault> {
-    let Ok(capture) = files.open(asked.input) else {
-        return Err(RunFault::CaptureRead);
-    };
-    let start = open_start(files, asked.start)?;
-    explain_over(files.rt, asked, capture, None, start)
-}
-
-// Explains a session from the files that were opened.
-fn explain_over(
-    rt: &HostRuntime,
-    asked: &Asked<'_>,
-    capture: File,
-    order: Option<File>,
-    start: StartFrom<File>,
-) -> Result<Answer, RunFault> {
-    let mut out = output_of(rt, asked, Lines::Others)?;
-    let answer = explain_into(rt, asked, capture, order, start, &mut out);
+    let capture = files.open_buffered(asked.input, RunFault::CaptureRead)?;
+    let mut out = output_of(files.rt, asked, Lines::Others)?;
+    let answer = explain_over(files, asked, capture, &mut out);
     ended(&mut out, answer)
 }
 
-fn explain_into<W: Write>(
-    rt: &HostRuntime,
+// The same over a capture that was opened.
+fn explain_over<C: BufRead + Drop, W: Write>(
+    files: &mut Files<'_>,
     asked: &Asked<'_>,
-    capture: File,
-    order: Option<File>,
-    start: StartFrom<File>,
+    capture: C,
     out: &mut W,
 ) -> Result<Answer, RunFault> {
-    let Ok(capture) = BufReader::new(rt.alloc(), capture) else {
-        return Err(RunFault::Memory);
-    };
+    let order = opened(files, asked.order, RunFault::OrderRead)?;
+    let start = open_start(files, asked.start)?;
     run_explain_of(
-        rt.alloc(),
+        files.rt.alloc(),
         asked.profile,
         asked.is_json,
         capture,
@@ -125,7 +90,7 @@ fn explain_into<W: Write>(
         start,
         asked.scope.limits,
         out,
-        &mut Progress::new(terminal(rt)),
+        &mut Progress::new(terminal(files.rt)),
     )
 }
 
@@ -157,18 +122,10 @@ fn order_into<W: Write>(
 
 /// Opens the files in the order capture, order, start, image, where there are such, and then writes what the session leaves.
 pub fn contents_files(files: &mut Files<'_>, asked: &Asked<'_>) -> Result<bool, RunFault> {
-    let mut out = output_of(files.rt, asked, Lines::Others)?;
-    let answer = contents_into(files, asked, &mut out);
-    ended(&mut out, answer)
-}
-
-fn contents_into<W: Write>(
-    files: &mut Files<'_>,
-    asked: &Asked<'_>,
-    out: &mut W,
-) -> Result<bool, RunFault> {
     let capture = files.open_buffered(asked.input, RunFault::CaptureRead)?;
-    contents_over(files, asked, capture, out)
+    let mut out = output_of(files.rt, asked, Lines::Others)?;
+    let answer = contents_over(files, asked, capture, &mut out);
+    ended(&mut out, answer)
 }
 
 // The same over a capture that was opened.
