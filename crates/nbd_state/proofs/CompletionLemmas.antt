@@ -1,5 +1,5 @@
 -- What a state shows once a message has completed.
-use Rattle.nbd_state.proofs.Common.{◌≡◌, ℕ, zero, suc, ◌<◌, ◌==◌, ◌&&◌, List, [], ◌∷◌, ◌++◌, length, refl, sym, ◌∙◌, ap, subst, Option, Some, None, Bool, false, if◌then◌else◌, arith, slice_get, slice_index_or, slice_set, Result, IfOk, OnOk, ◌^◌, slice_get_read, place_at, Message, Operation, Exporting, ends_reply, is_finished, cookie_of, core_with_reply, noted, reply_to, shown_with, Context, Core, Transmission, with_reply_at, operation, target, with_reply, export_in, in_force, Asked, Exchange, Counts, Export, State, AddsUnanswered, IsShown, exporting, IsReached, AreAskedWith, asked_answered, asked_snoc, AreShown, HasSelection, Shows, ended_if, phase_shown, place_of, shown_if, shown_in, IsNotedWith, InPhase, open_target, sound, known_if, option_and_then}
+use Rattle.nbd_state.proofs.Common.{◌≡◌, ℕ, zero, suc, ◌<◌, ◌==◌, ◌&&◌, List, [], ◌∷◌, ◌++◌, length, refl, sym, ◌∙◌, ap, subst, Option, Some, None, Bool, false, if◌then◌else◌, arith, slice_get, slice_index_or, slice_set, Result, IfOk, OnOk, ◌^◌, slice_get_read, place_at, Message, Operation, Exporting, ends_reply, is_finished, cookie_of, core_with_reply, noted, reply_to, shown_with, Context, Core, Transmission, with_reply_at, operation, target, with_reply, export_in, in_force, Asked, Exchange, Export, State, AddsUnanswered, IsShown, exporting, IsReached, AreAskedWith, asked_answered, asked_snoc, AreShown, HasSelection, Shows, ended_if, phase_shown, place_of, shown_if, shown_in, IsNotedWith, InPhase, open_target, sound, known_if, option_and_then}
 use Rattle.nbd_state.proofs.{NotingLemmas.{ended_added, ended_set, fresh, shown_added, shown_set}, PlacedLemmas.{IsPlaced, are_shown_in, place_shows_operation, shown_length}, TargetLemmas.{distinct_reached, target_replied, target_requested}}
 use Rattle.nbd_wire.specs.protocol.States as definitions
 use Rattle.nbd_state.specs.declared.state.Phase.TheVariants as shown
@@ -105,8 +105,8 @@ pub on_one : {A E : Type 0} {P : A → Type 0} {C : Type 0} (r : Result A E) →
 on_one r f p = grind arith
 
 -- the count at a message's end is that of the exchanges
-pub counted_now : {x y : Asked} {m : Message} (e : Operation) (xs : List Exchange) {known : ℕ} {counts : Counts} → counts ≡ record { known = known; now = length xs } → IsNotedWith e m counts.now x y → IsNotedWith e m (length xs) x y
-counted_now {x} {y} {m} e xs q h = subst (λ n. IsNotedWith e m n x y) (ap (λ (k : Counts). k.now) q) h
+pub counted_now : {x y : Asked} {m : Message} (e : Operation) (xs : List Exchange) {count : ℕ} → count ≡ length xs → IsNotedWith e m count x y → IsNotedWith e m (length xs) x y
+counted_now {x} {y} {m} e xs q h = subst (λ n. IsNotedWith e m n x y) q h
 
 pub on_all : {A E : Type 0} {P Q R : Type 0} {C : Type 0} (r : Result A E) → (P → Q → R → C) → OnOk r P → OnOk r Q → OnOk r R → OnOk r C
 on_all r f p q s = grind arith

@@ -1,5 +1,5 @@
 -- What an index of pieces tells, and what one more piece changes.
-use Rattle.nbd_state.proofs.Common.{◌≡◌, ℕ, IsTrue, nat_lt, ◌-◌, ◌+◌, ◌<◌, ◌≤◌, inl, inr, List, [], ◌∷◌, ◌++◌, refl, sym, ◌∙◌, ap, Option, Some, None, Bool, false, IsSome, MatchBool, arith, ◌&&◌, ◌||◌, nat_le, eqb-true, eq-eqb, subst, length, slice_index_or, and-true, and-false, and_parts, leb-true, le-leb, lt-ltb, ltb-false, ltb-true, cases_order, BTreeMap, btree_map_len, is_at, list_all, lookup, nat_cmp, Piece, is_in, piece_offset, piece_size, is_apart, is_apart_from, Span, span_of, HasMore, IsApart, IsBare, IsHeldFrom, IsIndex, size_from}
+use Rattle.nbd_state.proofs.Common.{◌≡◌, ℕ, IsTrue, nat_lt, ◌-◌, ◌+◌, ◌<◌, ◌≤◌, inl, inr, List, [], ◌∷◌, ◌++◌, refl, sym, ◌∙◌, ap, Option, Some, None, Bool, false, IsSome, MatchBool, arith, ◌&&◌, nat_le, eqb-true, eq-eqb, length, slice_index_or, and-true, and-false, and_parts, leb-true, le-leb, lt-ltb, ltb-false, ltb-true, cases_order, BTreeMap, btree_map_len, is_at, lookup, nat_cmp, Piece, is_in, piece_offset, piece_size, is_apart, is_apart_from, HasMore, IsApart, IsBare, IsHeldFrom, IsIndex, size_from}
 
 pub bounds_in : (offset len x : ℕ) → offset ≤ x → x < offset + len → IsTrue (is_in offset len x)
 bounds_in offset len x lo hi = ap (λ b. b && nat_lt x (offset + len)) (le-leb offset x lo) ∙ lt-ltb x (offset + len) hi
@@ -50,12 +50,3 @@ index-first m new q e more = index-more (size_from m) new [] q (index-none (size
 pub only-piece : (ps : List Piece) (q : Piece) → length ps ≡ 1 → q ≡ slice_index_or ps 0 q → ps ≡ q ∷ []
 only-piece (p ∷ []) q l e = ap (λ r. r ∷ []) (sym e)
 only-piece ps q l e = grind arith
-
--- apart from each
-pub all-apart : (piece : Piece) (span : Span) (ps : List Piece) → span_of piece ≡ span →
-    list_all (λ p. nat_le (span.offset + span.size) (piece_offset p) || nat_le (piece_offset p + piece_size p) span.offset) ps ≡ is_apart_from piece ps
-all-apart piece span ps e = subst (λ s. list_all (λ p. nat_le (s.offset + s.size) (piece_offset p) || nat_le (piece_offset p + piece_size p) s.offset) ps ≡ is_apart_from piece ps) e (go ps)
-  where
-    go : (ps : List Piece) → list_all (λ p. nat_le (piece_offset piece + piece_size piece) (piece_offset p) || nat_le (piece_offset p + piece_size p) (piece_offset piece)) ps ≡ is_apart_from piece ps
-    go [] = refl
-    go (p ∷ ps) = ap (λ b. is_apart piece p && b) (go ps)

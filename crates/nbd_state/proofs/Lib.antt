@@ -5,7 +5,6 @@ pub mod FilterLemmas
 pub mod HeadLemmas
 pub mod IndexLemmas
 pub mod PhaseLemmas
-pub mod PlaceLemmas
 pub mod PlacedLemmas
 pub mod RecordingLemmas
 pub mod SelectionLemmas

@@ -1,5 +1,5 @@
 -- What one more reply message notes.
-use Rattle.nbd_state.proofs.Common.{◌≡◌, ℕ, suc, List, [], ◌∷◌, ◌++◌, ◌==◌, ◌&&◌, append-nil, length, map, refl, ◌∙◌, ap, Bool, false, not, if◌then◌else◌, Option, Some, None, is_some, length-append, arith, take, eqb-true, eq-eqb, ne_eqb, slice_get, slice_set, Message, Piece, Exporting, Operation, ends_reply, is_finished, is_proper, pieces, flat_map, option_to_list, piece_of, piece_offset, piece_size, noted, shown_with, Shown, with_reply, status_in, zeroes, zeroes_told, Exchange, shown_in, with_counts, IsShown, ended_if, shown_if, pieces-snoc, noted_none, same_number}
+use Rattle.nbd_state.proofs.Common.{◌≡◌, ℕ, suc, List, [], ◌∷◌, ◌++◌, ◌==◌, ◌&&◌, append-nil, length, map, refl, ◌∙◌, ap, Bool, false, not, if◌then◌else◌, Option, Some, None, is_some, length-append, arith, take, eqb-true, eq-eqb, ne_eqb, slice_get, slice_set, Message, Piece, Exporting, Operation, ends_reply, is_finished, is_proper, flat_map, option_to_list, piece_of, piece_offset, piece_size, noted, shown_with, Shown, status_in, zeroes, zeroes_told, Exchange, shown_in, with_counts, IsShown, ended_if, shown_if, noted_none, same_number}
 use Rattle.nbd_wire.specs.declared.commands.TheConstants as commands
 
 -- the range of a piece, with a count
@@ -48,10 +48,6 @@ none_noted export e x s u none q = empty x.asked.pieces.counts ((s.is_open u).1 
     empty [] h = refl
     empty (c ∷ cs) h = absurd (omega (arith, h))
 
--- what a message without a piece leaves
-pub counted_none : (export : Exporting) (e : Operation) (m : Message) (ps : List Piece) → e.replies ≡ [] → piece_of e.offset m ≡ [] → ps ≡ zeroes export (with_reply e m) ++ pieces (with_reply e m) → e.command ≡ commands.READ → ps ≡ []
-counted_none export e m ps none p q c = grind (arith, none_told, pieces-snoc)
-
 -- a message with this piece is noted
 pub noted_piece : (export : Exporting) (e : Operation) (m : Message) (x : Exchange) (piece : Option Piece) (ends : Bool) (n : ℕ) (ps : List Piece) (cs : List ℕ) → IsShown export e x → is_finished e ≡ false → ends_reply m ≡ ends → piece_of e.offset m ≡ option_to_list piece →
     ps ≡ x.asked.pieces.items ++ option_to_list piece → cs ≡ x.asked.pieces.counts ++ more_counts piece ends n →
@@ -61,10 +57,10 @@ noted_piece export e m x piece ends n ps cs s u d p pieces_are counts_are = grin
 pub shows_none : (e : Operation) (m : Message) (n : ℕ) → piece_of e.offset m ≡ [] → shown_with (Some e) m n ≡ []
 shows_none e m n p = grind arith
 
--- a first status is noted
-pub noted_first : (export : Exporting) (e : Operation) (m : Message) (x : Exchange) (n : ℕ) (ps : List Piece) → IsShown export e x → is_finished e ≡ false → e.replies ≡ [] → piece_of e.offset m ≡ [] →
-    (if x.asked.command == commands.READ then with_counts ps x.asked.pieces.counts else []) ≡ shown_in x.asked ++ shown_with (Some e) m n
-noted_first export e m x n ps s u none p = grind (arith, append-nil, shows_none, none_noted, eqb-true, without_counts)
+-- a status is noted, which gives no piece of a READ
+pub noted_status : (e : Operation) (m : Message) (x : Exchange) (n : ℕ) (ps : List Piece) (cs : List ℕ) (more : List Piece) → ps ≡ x.asked.pieces.items ++ more → cs ≡ x.asked.pieces.counts → (x.asked.command ≡ commands.READ → more ≡ []) → piece_of e.offset m ≡ [] →
+    (if x.asked.command == commands.READ then with_counts ps cs else []) ≡ shown_in x.asked ++ shown_with (Some e) m n
+noted_status e m x n ps cs more is counts none p = grind (arith, append-nil, shows_none, eqb-true)
 
 -- what has not ended has no end noted
 pub open_still : (o : Option ℕ) (ends : Bool) (n : ℕ) → o ≡ None → ends ≡ false → noted o ends n ≡ None

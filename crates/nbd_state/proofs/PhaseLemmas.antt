@@ -110,12 +110,22 @@ module _ (old new : State) (core : Core) (s : Shows old core) where
 pub shows_same : {new : State} (core : Core) (m n : Message) → m ≡ n → Shows new (complete core n) → Shows new (complete core m)
 shows_same {new} core m n e s = subst (λ x. Shows new (complete core x)) (sym e) s
 
--- the state of a request that may complete is in transmission
-pub transmits : (state : State) (flags command cookie offset len : ℕ) (payload : List ℕ) → MayTake state (Request flags command cookie offset len payload) → IsTransmitting state.phase
-transmits state flags command cookie offset len payload t = grind (arith, asked_in)
+-- where a message may complete that is none of the negotiation, the state is in transmission
+pub transmits : (state : State) (m : Message) → MayTake state m → ((flags : ℕ) → m ≡ Greeting flags → ⊥) → ((flags : ℕ) → m ≡ ClientFlags flags → ⊥) → ((id : ℕ) (payload : List ℕ) → m ≡ Choice id payload → ⊥) →
+    ((option kind : ℕ) (payload : List ℕ) → m ≡ Answer option kind payload → ⊥) → ((size flags : ℕ) (padded : Bool) → m ≡ Exported size flags padded → ⊥) → IsTransmitting state.phase
+transmits state (Request flags command cookie offset len payload) t a b c d e = grind (arith, asked_in)
+transmits state (ExtendedRequest flags command cookie offset len payload) t a b c d e = grind (arith, extended_asked_in)
+transmits state (Simple error cookie payload) t a b c d e = grind (arith, simple_in)
+transmits state (Chunk flags kind cookie payload) t a b c d e = grind (arith, chunk_in)
+transmits state (ExtendedChunk flags kind cookie offset payload) t a b c d e = grind (arith, extended_chunk_in)
+transmits state m t a b c d e = absurd (grind (arith, a, b, c, d, e))
 
-pub extended_transmits : (state : State) (flags command cookie offset len : ℕ) (payload : List ℕ) → MayTake state (ExtendedRequest flags command cookie offset len payload) → IsTransmitting state.phase
-extended_transmits state flags command cookie offset len payload t = grind (arith, extended_asked_in)
+-- and there no other may
+pub no_other : (state : State) (m : Message) → MayTake state m → IsTransmitting state.phase → ((flags command cookie offset len : ℕ) (payload : List ℕ) → m ≡ Request flags command cookie offset len payload → ⊥) →
+    ((flags command cookie offset len : ℕ) (payload : List ℕ) → m ≡ ExtendedRequest flags command cookie offset len payload → ⊥) → ((error cookie : ℕ) (payload : List ℕ) → m ≡ Simple error cookie payload → ⊥) →
+    ((flags kind cookie : ℕ) (payload : List ℕ) → m ≡ Chunk flags kind cookie payload → ⊥) → ((flags kind cookie offset : ℕ) (payload : List ℕ) → m ≡ ExtendedChunk flags kind cookie offset payload → ⊥) → ⊥
+unfolding IsAllowed
+no_other state m t i a b c d e = grind (arith, allowed t.core t.core.phase m t.completes)
 
 -- the request that a reply answers has its exchange
 answered : (state : State) (core : Core) (export : Exporting) (cookie place : ℕ) → Shows state core → core.phase ≡ Transmission export → place_at state.outstanding cookie ≡ Some place → place < length state.exchanges.items

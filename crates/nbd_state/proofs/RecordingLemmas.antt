@@ -1,5 +1,5 @@
 -- An exchange after one more reply message.
-use Rattle.nbd_state.proofs.Common.{◌≡◌, ℕ, List, [], ◌∷◌, ◌++◌, ◌==◌, append_assoc, append-nil, sym, ◌∙◌, ap, Bool, true, false, not, ◌&&◌, ◌||◌, if◌then◌else◌, Option, Some, None, is_some, Result, IfOk, nat_lt, eqb-true, arith, take, Message, Operation, Exporting, ends_reply, is_failing, is_finished, is_proper, pieces, Piece, is_at, nat_cmp, eqb-false, Status, has_id, piece_of, is_allocation, is_settled, status_in, tells, zeroes, zeroes_in, zeroes_told, with_reply, Exchange, Success, Failure, AreCounted, IsShown, is_settled_by, TellsThese, Telling, pieces-snoc, length, flat_map}
+use Rattle.nbd_state.proofs.Common.{◌≡◌, ℕ, List, [], ◌∷◌, ◌++◌, ◌==◌, append_assoc, append-nil, refl, sym, ◌∙◌, ap, Bool, true, false, ◌&&◌, ◌||◌, if◌then◌else◌, Some, None, is_some, Result, IfOk, nat_lt, eqb-true, arith, take, Message, Operation, Exporting, ends_reply, is_failing, is_finished, is_proper, pieces, Piece, is_at, nat_cmp, eqb-false, Status, has_id, piece_of, is_allocation, is_settled, status_in, tells, zeroes, zeroes_in, zeroes_told, with_reply, Exchange, Success, Failure, AreCounted, IsShown, is_settled_by, TellsThese, Telling, pieces-snoc, length, flat_map}
 use Rattle.nbd_state.proofs.ReplyLemmas.{any-snoc, proper-same}
 use Rattle.std.proofs.Common.{ltb-true, ltb-false}
 use Rattle.nbd_wire.specs.declared.commands.TheConstants as commands
@@ -77,14 +77,18 @@ module _ (export : Exporting) (e : Operation) (m : Message) where
       y ≡ (if is_allocation e.contexts s.id && ((e.command == commands.BLOCK_STATUS) && is_proper export e) then zeroes_in e.offset e.length s.extents else []) → y ≡ zeroes export (with_reply e m) ++ pieces (with_reply e m)
   pieces_first y s none is p q = grind (arith, append-nil, pieces-snoc, proper-same)
 
--- where nothing is known of a first reply there is none
-pub no_reply_yet : (ms : List Message) (o : Option ℕ) → is_some o ≡ not (length ms == 0) → is_some o ≡ false → ms ≡ []
-no_reply_yet [] o h n = grind arith
-no_reply_yet (m ∷ ms) o h n = grind arith
-
-pub some_reply_yet : (ms : List Message) (o : Option ℕ) → is_some o ≡ not (length ms == 0) → is_some o ≡ true → ms ≡ [] → ⊥
-some_reply_yet ms o h n q = let w : true ≡ false = sym n ∙ h ∙ ap (λ l. not (length l == 0)) q in cc
+  -- a status, which tells zeroes where it is the first message
+  pub pieces_more : (x more y : List Piece) (s : Status) (told : Bool) → x ≡ zeroes export e ++ pieces e → status_in m ≡ s ∷ [] → piece_of e.offset m ≡ [] → told ≡ (is_allocation e.contexts s.id && (length e.replies == 0)) →
+      more ≡ (if told && ((e.command == commands.BLOCK_STATUS) && is_proper export e) then zeroes_in e.offset e.length s.extents else []) → y ≡ x ++ more → y ≡ zeroes export (with_reply e m) ++ pieces (with_reply e m)
+  pieces_more x more y s told was is p first q now = go e.replies refl
+    where
+      go : (ms : List Message) → e.replies ≡ ms → y ≡ zeroes export (with_reply e m) ++ pieces (with_reply e m)
+      go [] none = pieces_first y s none is p (grind (arith, none_before, was, now, first, q, none))
+      go (n ∷ ms) some = pieces_kept x y was (λ none. absurd (let w : n ∷ ms ≡ [] = sym some ∙ none in cc)) (grind (arith, now, first, q, some, p))
 
 -- what follows from what an Ok gives
 pub weaken : {A E : Type 0} {P Q : A → Type 0} (r : Result A E) → ((x : A) → P x → Q x) → IfOk r P → IfOk r Q
 weaken r f h = grind arith
+
+pub weaken_all : {A E : Type 0} {P Q R S : A → Type 0} (r : Result A E) → ((x : A) → P x → Q x → R x → S x) → IfOk r P → IfOk r Q → IfOk r R → IfOk r S
+weaken_all r f p q h = grind arith

@@ -1,5 +1,5 @@
 -- What descriptors call zero, one after the other.
-use Rattle.nbd_state.proofs.Common.{◌≡◌, ℕ, ◌+◌, ◌-◌, ◌<◌, ◌≤◌, ◌^◌, ◌==◌, ◌&&◌, List, [], min, refl, sym, ◌∙◌, ap, Bool, true, false, if◌then◌else◌, nat_le, arith, Piece, Extent, Status, is_allocation, zeroes_in, Exporting, Operation, is_proper, proper_range, none_of_none}
+use Rattle.nbd_state.proofs.Common.{◌≡◌, ℕ, ◌+◌, ◌-◌, ◌<◌, ◌≤◌, ◌^◌, ◌==◌, ◌&&◌, List, [], min, refl, sym, ◌∙◌, ap, Bool, true, false, if◌then◌else◌, nat_le, arith, Piece, Extent, Status, zeroes_in, Exporting, Operation, is_proper, proper_range, none_of_none}
 use Rattle.std.proofs.Common.{leb-true, leb-false}
 use Rattle.nbd_wire.specs.declared.commands.TheConstants as commands
 
@@ -25,8 +25,8 @@ next_zeroes offset length left x xs l = go (nat_le x.length left) refl
 
 -- what a request is told, by the exchange that shows it
 pub if_proper : (export : Exporting) (e : Operation) (command offset length : ℕ) (proper told : Bool) (y : List Piece) (s : Status) → export.size < 2 ^ 64 →
-    command ≡ e.command → offset ≡ e.offset → length ≡ e.length → proper ≡ is_proper export e → told ≡ is_allocation e.contexts s.id →
+    command ≡ e.command → offset ≡ e.offset → length ≡ e.length → proper ≡ is_proper export e →
     ((command ≡ commands.BLOCK_STATUS → proper ≡ true → offset + length < 2 ^ 64) →
     y ≡ (if told && ((command == commands.BLOCK_STATUS) && proper) then zeroes_in offset length s.extents else [])) →
-    y ≡ (if is_allocation e.contexts s.id && ((e.command == commands.BLOCK_STATUS) && is_proper export e) then zeroes_in e.offset e.length s.extents else [])
-if_proper export e command offset length proper told y s fits c o l p t q = grind (arith, proper_range)
+    y ≡ (if told && ((e.command == commands.BLOCK_STATUS) && is_proper export e) then zeroes_in e.offset e.length s.extents else [])
+if_proper export e command offset length proper told y s fits c o l p q = grind (arith, proper_range)

@@ -6,14 +6,15 @@ ghost use Rattle.nbd_wire.specs.{declared.payloads.Piece.Piece, Prelude.is_apart
 
 use crate::asked::Exchange;
 use crate::span::Span;
+use nbd_wire::Piece;
 
 impl Exchange {
     /// Whether the context in force with this id has its status, or is not asked.
     pub fn is_settled(&self, id: u32) -> bool
         ensures { result ≡ is_settled_by self.now.asked.pieces.told id }
     {
-        match self.asked.pieces.told() {
-            Some(told) => told.is_settled(id),
+        match self.asked.pieces.many() {
+            Some(many) => many.told.is_settled(id),
             None => false,
         }
     }
@@ -23,13 +24,21 @@ impl Exchange {
     pub fn is_apart_from(&self, span: Span) -> bool
         ensures { (piece : Piece) → span_of piece ≡ span → result ≡ is_apart_from piece self.now.asked.pieces.items }
     {
-        match self.asked.pieces.index() {
-            Some(index) if !index.is_empty() => index.is_apart(span),
-            _ => self
-                .asked
-                .pieces
-                .iter()
-                .all(|piece| span.is_apart(Span::of(piece))),
+        match self.asked.pieces.many() {
+            Some(many) if !many.index.is_empty() => many.index.is_apart(span),
+            _ => are_apart(&self.asked.pieces, span),
         }
     }
+}
+
+// Content lies before or after each of these pieces.
+fn are_apart(pieces: &[Piece], span: Span) -> bool
+    ensures { (piece : Piece) → span_of piece ≡ span → result ≡ is_apart_from piece pieces.now }
+{
+    for piece in pieces {
+        if !span.is_apart(Span::of(piece)) {
+            return false;
+        }
+    }
+    true
 }

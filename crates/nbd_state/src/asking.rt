@@ -60,19 +60,6 @@ impl Telling {
         self.ids.contains(&id) != self.filtered
     }
 
-    /// The context with this id has its status. After an `Err`, that memory ran out, all is as it was.
-    fn settle(&mut self, id: u32) -> Result<(), AllocError>
-        ensures settled { IfOk result (λ _. (q : ℕ) →
-            is_settled_by self.new q ≡ (if id == q then true else is_settled_by self.old q)) }
-    {
-        if self.filtered {
-            self.ids.remove(&id);
-        } else {
-            self.ids.insert(id)?;
-        }
-        Ok(())
-    }
-
     /// One more context is told; where the reply ends, none is kept. After an `Err`, that memory ran out, all is as it was.
     pub(crate) fn tell(&mut self, id: u32, ends: bool) -> Result<(), AllocError>
         ensures told { IfOk result (λ _. ends ≡ false → (q : ℕ) →
@@ -81,20 +68,12 @@ impl Telling {
     {
         if ends {
             self.ids.clear();
-            Ok(())
+        } else if self.filtered {
+            self.ids.remove(&id);
         } else {
-            self.settle(id)
+            put(&mut self.ids, id)?;
         }
-    }
-
-    /// Where the reply ends, no id is kept.
-    pub(crate) fn clear_if(&mut self, ends: bool)
-        ensures kept { ends ≡ false → self.new ≡ self.old }
-        ensures cleared { ends ≡ true → IsEmpty self.new.ids }
-    {
-        if ends {
-            self.ids.clear();
-        }
+        Ok(())
     }
 }
 
@@ -161,23 +140,19 @@ impl Selection {
         let mut once = true;
         let mut rest = ids;
         while let Some((id, later)) = first_id(rest) {
-            once &= self.take_id(asked, id)?;
+            once &= self.has_id(id) && put(asked, id)?;
             rest = later;
         }
         Ok(once)
     }
+}
 
-    // Puts an id that is in force into the set, and returns whether it is and did not stand there.
-    fn take_id(&self, asked: &mut BTreeSet<u32>, id: u32) -> Result<bool, AllocError>
-        ensures { IfOk result (λ is_new. (selection : contexts.Selection) → HasSelection self.now selection →
-            (is_new ≡ (has_id selection.contexts id && not (contains nat_cmp asked.old id))) × ((q : ℕ) →
-            contains nat_cmp asked.new q ≡ (has_id selection.contexts id && (id == q) || contains nat_cmp asked.old q))) }
-    {
-        if !self.has_id(id) {
-            return Ok(false);
-        }
-        Ok(asked.insert(id)?)
-    }
+// Puts an id into the set, and returns whether it did not stand there. After an `Err`, that memory ran out, all is as it was.
+pub(crate) fn put(ids: &mut BTreeSet<u32>, id: u32) -> Result<bool, AllocError>
+    ensures new { IfOk result (λ is_new. is_new ≡ not (contains nat_cmp ids.old id)) }
+    ensures all { IfOk result (λ _. (q : ℕ) → contains nat_cmp ids.new q ≡ ((id == q) || contains nat_cmp ids.old q)) }
+{
+    Ok(ids.insert(id)?)
 }
 
 // The length and the ids' bytes of the filter of a request with this head and payload, if it has one.

@@ -63,9 +63,36 @@ impl State {
                 payload,
             } => self.answer(*option, *kind, payload),
             Message::Exported { size, flags, .. } => {
-                self.phase = phase_after_export(*size, *flags);
+                self.phase = Phase::Transmission(Export {
+                    size: *size,
+                    flags: *flags,
+                });
                 Ok(())
             }
+            _ => self.transmit(alloc, message, place, known),
+        }
+    }
+
+    // The same of a message in transmission.
+    fn transmit(
+        &mut self,
+        alloc: Global,
+        message: &Message,
+        place: usize,
+        known: u64,
+    ) -> Result<(), AllocError>
+        requires transmits { IsTransmitting self.old.phase }
+        requires may { MayTake self.old message.now }
+        requires place { Answers self.old message.now place }
+        ensures profile { self.new.profile ≡ self.old.profile }
+        ensures shown { OnOk result ((core : Core) → IsReached core → Shows self.old core →
+            IsSendable message.now → MayComplete core core.phase message.now →
+            Shows self.new (complete core message.now)) }
+        ensures known { OnOk result ((core : Core) (before : ℕ → Option ℕ) → IsReached core →
+            Shows self.old core → AreKnown before self.old.exchanges.items →
+            AreKnown (λ k. noted (before k) (is_reply_to core message.now k) known) self.new.exchanges.items) }
+    {
+        match message {
             Message::Request {
                 flags,
                 command,
@@ -138,6 +165,7 @@ impl State {
                 };
                 self.chunk(alloc, &head, place, payload, known)
             }
+            _ => unreachable!(),
         }
     }
 
@@ -150,7 +178,7 @@ impl State {
             Shows self.new (complete core (Choice id payload.now))) }
     {
         let with = payload.as_slice();
-        self.brings_contexts = self.may_agree(id, with);
+        self.brings_contexts = self.structured && self.selection.agrees(id, with);
         self.phase = chosen(id, with);
         self.sizing = Sizing::at(id, with);
         self.selection.choose(id, with)
@@ -171,14 +199,6 @@ impl State {
         self.phase = phase_after_reply(phase, kind, answer);
         self.sizing = self.sizing.after(kind, answer);
         self.selection.answered(phase, kind, answer)
-    }
-
-    // Whether an option that is chosen leads, if it is granted, into transmission with what is selected.
-    fn may_agree(&self, option: u32, payload: &[u8]) -> bool
-        ensures { (core : Core) → Shows self.now core →
-            result ≡ (core.structured && agrees option payload.now core.selection) }
-    {
-        self.structured && self.selection.agrees(option, payload)
     }
 
     // A request has completed.
@@ -231,8 +251,7 @@ impl State {
     {
         let place = self.exchanges.len();
         self.exchanges.push(exchange)?;
-        self.outstanding.insert(cookie, place)?;
-        Ok(())
+        self.outstanding.insert(cookie, place)
     }
 
     // A simple reply has completed.
@@ -254,9 +273,9 @@ impl State {
         ensures tells { OnOk result (TellsOne (place_at self.old.outstanding cookie) known
             self.old.exchanges.items self.new.exchanges.items) }
     {
-        let counts = self.counts(known);
+        let now = self.exchanges.len() as u64;
         self.end_if(true, cookie);
-        self.exchanges[place].take_simple(alloc, error, payload, counts)
+        self.exchanges[place].take_simple(alloc, error, payload, Counts { known, now })
     }
 
     // A chunk with this head has completed.
@@ -278,19 +297,9 @@ impl State {
             self.old.exchanges.items self.new.exchanges.items) }
     {
         let zeroes = self.is_allocation_told(head, payload.as_slice());
-        let counts = self.counts(known);
+        let now = self.exchanges.len() as u64;
         self.end_if(has(head.flags, chunks::DONE), head.cookie);
-        self.exchanges[place].take_chunk(alloc, head, payload, zeroes, counts)
-    }
-
-    // So many requests had completed before the first byte of a message, which is whole now.
-    fn counts(&self, known: u64) -> Counts
-        ensures { result ≡ record { known = known; now = length self.now.exchanges.items } }
-    {
-        Counts {
-            known,
-            now: self.exchanges.len() as u64,
-        }
+        self.exchanges[place].take_chunk(alloc, head, payload, zeroes, Counts { known, now })
     }
 
     // A chunk is the status of a context in force that tells what reads as zeroes.
@@ -337,13 +346,6 @@ fn length_of(payload: &Bytes) -> u64
     ensures { result ≡ length payload.now }
 {
     payload.as_slice().len() as u64
-}
-
-/// Where the answer to EXPORT_NAME leads.
-fn phase_after_export(size: u64, flags: u16) -> Phase
-    ensures { result ≡ phase_shown (definitions.Transmission (record { size = size; flags = flags })) }
-{
-    Phase::Transmission(Export { size, flags })
 }
 
 /// Whether an answer puts structured replies in force.

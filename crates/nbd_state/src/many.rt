@@ -1,6 +1,6 @@
 //! The pieces of a reply of several messages.
 
-ghost use Rattle.std.specs.{Prelude.{◌≡◌, ◌==◌, ◌&&◌, ◌++◌, ◌∷◌, ℕ, [], false, not, true, IfOk, OnOk, if◌then◌else◌, is_some, option_to_list}, Option.option_copied};
+ghost use Rattle.std.specs.{Prelude.{◌≡◌, ◌==◌, ◌++◌, ◌∷◌, ℕ, [], false, not, true, IfOk, if◌then◌else◌}};
 ghost use Rattle.nbd_state.specs.{Filters.is_settled_by, Indexes.Indexes};
 
 use crate::asking::Telling;
@@ -45,86 +45,48 @@ impl Many {
         )?)
     }
 
-    /// A reply message gave this piece, if any, when so many requests had completed. An `Err` says that memory ran out.
+    /// A reply message gave this piece when so many requests had completed; it may end the reply. An `Err` says that memory
+    /// ran out.
     pub(crate) fn add(
         &mut self,
         alloc: Global,
-        piece: Option<Piece>,
+        piece: Piece,
         count: u64,
         ends: bool,
     ) -> Result<(), AllocError>
-        ensures pieces { IfOk result (λ _. self.new.pieces.items ≡ self.old.pieces.items ++ option_to_list piece) }
+        ensures pieces { IfOk result (λ _. self.new.pieces.items ≡ self.old.pieces.items ++ piece ∷ []) }
         ensures counts { IfOk result (λ _. self.new.counts.items ≡ self.old.counts.items
-            ++ (if is_some piece && not ends then count ∷ [] else [])) }
+            ++ (if not ends then count ∷ [] else [])) }
         ensures told { IfOk result (λ _. ends ≡ false → self.new.told ≡ self.old.told) }
     {
-        let gives = piece.is_some();
+        let place = self.pieces.len();
         let index = mem::replace(&mut self.index, SpanIndex::new(alloc));
-        let index = index_after(alloc, index, &self.pieces, piece.as_ref(), ends)?;
-        push_if(&mut self.pieces, piece)?;
-        self.index = index;
-        self.told.clear_if(ends);
-        count_if(&mut self.counts, gives, ends, count)
+        self.pieces.push(piece)?;
+        if ends {
+            self.told.ids.clear();
+            return Ok(());
+        }
+        self.index = index.with(alloc, &self.pieces[..place], &self.pieces[place])?;
+        self.counts.push(count)?;
+        Ok(())
     }
 
-    /// A reply message was the status of the context with this id, which told these pieces. An `Err` says that memory ran
-    /// out.
+    /// A reply message was the status of the context with this id, which told these pieces; they are taken. An `Err` says that
+    /// memory ran out.
     pub(crate) fn tell(
         &mut self,
         alloc: Global,
         id: u32,
-        mut zeroes: Vec<Piece>,
+        zeroes: &mut Vec<Piece>,
         ends: bool,
     ) -> Result<(), AllocError>
-        ensures pieces { IfOk result (λ _. self.new.pieces.items ≡ self.old.pieces.items ++ zeroes.items) }
+        ensures pieces { IfOk result (λ _. self.new.pieces.items ≡ self.old.pieces.items ++ zeroes.old.items) }
         ensures counts { IfOk result (λ _. self.new.counts ≡ self.old.counts) }
         ensures told { IfOk result (λ _. ends ≡ false → (q : ℕ) →
             is_settled_by self.new.told q ≡ (if id == q then true else is_settled_by self.old.told q)) }
     {
         self.told.tell(id, ends)?;
         self.index = SpanIndex::new(alloc);
-        self.pieces.append(&mut zeroes)?;
-        Ok(())
+        self.pieces.append(zeroes)
     }
-}
-
-// The index of these pieces and one more, if any; where the reply ends it holds none.
-fn index_after(
-    alloc: Global,
-    index: SpanIndex,
-    pieces: &[Piece],
-    piece: Option<&Piece>,
-    ends: bool,
-) -> Result<SpanIndex, AllocError>
-    requires { Indexes index.sizes pieces.now }
-    ensures { IfOk result (λ after. Indexes after.sizes (pieces.now ++ option_to_list (option_copied piece.entry))) }
-{
-    if ends {
-        return Ok(SpanIndex::new(alloc));
-    }
-    match piece {
-        Some(piece) => index.with(alloc, pieces, piece),
-        None => Ok(index),
-    }
-}
-
-// The piece, if any, after the others.
-fn push_if(pieces: &mut Vec<Piece>, piece: Option<Piece>) -> Result<(), AllocError>
-    ensures { IfOk result (λ _. pieces.new.items ≡ pieces.old.items ++ option_to_list piece) }
-{
-    if let Some(piece) = piece {
-        pieces.push(piece)?;
-    }
-    Ok(())
-}
-
-// The count after the others, unless the message gives no piece or ends the reply.
-fn count_if(counts: &mut Vec<u64>, gives: bool, ends: bool, count: u64) -> Result<(), AllocError>
-    ensures { OnOk result (counts.new.items ≡ counts.old.items
-        ++ (if gives && not ends then count ∷ [] else [])) }
-{
-    if gives && !ends {
-        counts.push(count)?;
-    }
-    Ok(())
 }

@@ -8,6 +8,7 @@ ghost use Rattle.nbd_wire.specs.protocol.ExportBytes as bytes;
 
 use crate::asked::{Asked, Outcome};
 use crate::proper::{has_range, is_change};
+use crate::span::Span;
 use nbd_wire::{Piece, commands};
 
 impl Asked {
@@ -77,20 +78,14 @@ fn byte_of(piece: &Piece, offset: u64) -> Option<u8>
     ensures { MatchOption result (holds piece.now offset ≡ false)
         (λ b. (holds piece.now offset ≡ true) × (b ≡ piece_byte piece.now offset)) }
 {
+    let first = Span::of(piece).offset;
+    if offset < first {
+        return None;
+    }
+    let at = offset - first;
     match piece {
-        Piece::Bytes {
-            offset: first,
-            bytes,
-        } => {
-            let at = offset.checked_sub(*first)?;
-            bytes.as_slice().get(at as usize).copied()
-        }
-        Piece::Hole {
-            offset: first,
-            size,
-        } => {
-            let at = offset.checked_sub(*first)?;
-            if at < *size { Some(0) } else { None }
-        }
+        Piece::Bytes { bytes, .. } => bytes.as_slice().get(at as usize).copied(),
+        Piece::Hole { size, .. } if at < *size => Some(0),
+        Piece::Hole { .. } => None,
     }
 }

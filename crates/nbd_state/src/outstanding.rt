@@ -1,6 +1,6 @@
 //! The places of the outstanding requests, by their cookies.
 
-ghost use Rattle.std.specs.Prelude.{◌≡◌, ◌==◌, ◌+◌, ◌≤◌, ◌^◌, ℕ, IfOk, IsTrue, MatchBool, None, OnOk, Option, Some, if◌then◌else◌, length};
+ghost use Rattle.std.specs.Prelude.{◌≡◌, ◌==◌, ◌&&◌, ◌+◌, ◌-◌, ◌≤◌, ◌^◌, false, get_or, nat_le, ℕ, IfOk, IsTrue, MatchBool, None, OnOk, Option, Some, if◌then◌else◌, length};
 
 use std::alloc::{AllocError, Global};
 use std::collections::BTreeMap;
@@ -45,9 +45,10 @@ impl Outstanding {
     pub fn get(&self, cookie: u64) -> Option<usize>
         ensures { result ≡ place_at self.now cookie }
     {
-        match self.row.get(cookie) {
-            Some(place) => Some(place),
-            None => self.others.get(&cookie).copied(),
+        if self.row.holds(cookie) {
+            Some(self.row.place + (cookie - self.row.cookie) as usize)
+        } else {
+            self.others.get(&cookie).copied()
         }
     }
 
@@ -55,10 +56,11 @@ impl Outstanding {
     pub fn insert(&mut self, cookie: u64, place: usize) -> Result<(), AllocError>
         ensures { OnOk result ((q : ℕ) → place_at self.new q ≡ (if cookie == q then Some place else place_at self.old q)) }
     {
-        if !self.row.extend(cookie, place)? {
-            self.row.remove(cookie);
-            self.others.insert(cookie, place)?;
+        if self.row.extend(cookie, place)? {
+            return Ok(());
         }
+        self.row.remove(cookie);
+        self.others.insert(cookie, place)?;
         Ok(())
     }
 
@@ -74,40 +76,33 @@ impl Outstanding {
 impl Row {
     ghost use Rattle.nbd_state.specs.Places.{place_in};
 
-    // The place of the request with this cookie, if it is outstanding.
-    fn get(&self, cookie: u64) -> Option<usize>
-        ensures { result ≡ place_in self.now cookie }
+    // Whether the request with this cookie stands in the row and is outstanding.
+    fn holds(&self, cookie: u64) -> bool
+        ensures { result ≡ (nat_le self.now.cookie cookie
+            && get_or self.now.outstanding.items (cookie - self.now.cookie) false) }
     {
-        let index = cookie.checked_sub(self.cookie)? as usize;
-        if *self.outstanding.get(index)? {
-            Some(self.place + index)
-        } else {
-            None
+        if cookie < self.cookie {
+            return false;
         }
+        let index = (cookie - self.cookie) as usize;
+        index < self.outstanding.len() && self.outstanding[index]
     }
 
-    // Takes a request in if it has the next cookie and the next place, and answers whether it does.
+    // Takes a request in if it has the next cookie and the next place, and answers whether it does; an empty row begins
+    // with it.
     fn extend(&mut self, cookie: u64, place: usize) -> Result<bool, AllocError>
         ensures { IfOk result (λ taken. MatchBool taken
             ((q : ℕ) → place_in self.new q ≡ (if cookie == q then Some place else place_in self.old q))
             ((q : ℕ) → place_in self.new q ≡ place_in self.old q)) }
     {
-        self.begin(cookie, place);
-        if !self.is_next(cookie, place) {
+        if self.outstanding.is_empty() {
+            self.cookie = cookie;
+            self.place = place;
+        } else if !self.is_next(cookie, place) {
             return Ok(false);
         }
         self.outstanding.push(true)?;
         Ok(true)
-    }
-
-    // An empty row begins with this request.
-    fn begin(&mut self, cookie: u64, place: usize)
-        ensures { (q : ℕ) → place_in self.new q ≡ place_in self.old q }
-    {
-        if self.outstanding.is_empty() {
-            self.cookie = cookie;
-            self.place = place;
-        }
     }
 
     // Whether a request has the next cookie and the next place.
@@ -116,18 +111,18 @@ impl Row {
             × (place ≡ self.now.place + length self.now.outstanding.items) }
     {
         let len = self.outstanding.len();
-        cookie.checked_sub(self.cookie) == Some(len as u64)
-            && place.checked_sub(self.place) == Some(len)
+        cookie >= self.cookie
+            && cookie - self.cookie == len as u64
+            && place >= self.place
+            && place - self.place == len
     }
 
     // The request with this cookie is no longer outstanding.
     fn remove(&mut self, cookie: u64)
         ensures { (q : ℕ) → place_in self.new q ≡ (if cookie == q then None else place_in self.old q) }
     {
-        if let Some(index) = cookie.checked_sub(self.cookie) {
-            if let Some(outstanding) = self.outstanding.get_mut(index as usize) {
-                *outstanding = false;
-            }
+        if self.holds(cookie) {
+            self.outstanding[(cookie - self.cookie) as usize] = false;
         }
     }
 }

@@ -1,7 +1,7 @@
 //! The pieces that a request was answered, and what stands beside them.
 
-ghost use Rattle.std.specs.Prelude.{◌≡◌, ◌==◌, ◌&&◌, ◌++◌, ◌∷◌, ℕ, [], false, not, true, IfOk, IfSome, MatchOption, OnOk, if◌then◌else◌, is_some, option_to_list};
-ghost use Rattle.nbd_state.specs.{Filters.is_settled_by, Indexes.Indexes, internal.Keeping.{nothing_told, pieces_kept}};
+ghost use Rattle.std.specs.Prelude.{◌≡◌, ◌==◌, ◌&&◌, ◌++◌, ◌∷◌, ℕ, [], false, not, true, IfOk, IfSome, MatchOption, if◌then◌else◌, is_some, option_to_list};
+ghost use Rattle.nbd_state.specs.{Filters.is_settled_by, Indexes.Indexes, internal.Keeping.pieces_kept};
 
 use crate::asking::Telling;
 use crate::index::SpanIndex;
@@ -56,12 +56,15 @@ impl Pieces {
         ensures counts { IfOk result (λ pieces. pieces.counts ≡ []) }
         ensures told { IfOk result (λ pieces. (id : ℕ) → is_settled_by pieces.told id ≡ is_settled_by told id) }
     {
-        let kept = if told.is_blank() {
-            Kept::Nothing
-        } else {
-            Kept::Many(Many::of(alloc, Vec::new(alloc), told)?)
-        };
-        Ok(Pieces { kept })
+        if told.is_blank() {
+            return Ok(Pieces {
+                kept: Kept::Nothing,
+            });
+        }
+        let many = Many::of(alloc, Vec::new(alloc), told)?;
+        Ok(Pieces {
+            kept: Kept::Many(many),
+        })
     }
 
     /// How many numbered requests had completed when the message with each piece had come; of the pieces that stand
@@ -75,22 +78,14 @@ impl Pieces {
         }
     }
 
-    /// What of the contexts the reply need not tell any more; None where it has to tell each.
-    pub(crate) fn told(&self) -> Option<&Telling>
-        ensures { MatchOption result ((id : ℕ) → is_settled_by self.now.told id ≡ false) (λ told. told.now ≡ self.now.told) }
+    /// The pieces with what stands beside them, an index and what of the contexts the reply need not tell any more; None
+    /// where it has to tell each.
+    pub(crate) fn many(&self) -> Option<&Many>
+        ensures told { MatchOption result ((id : ℕ) → is_settled_by self.now.told id ≡ false) (λ many. many.now.told ≡ self.now.told) }
+        ensures indexed { IfSome result (λ many. Indexes many.now.index.sizes self.now.items) }
     {
         match &self.kept {
-            Kept::Many(many) => Some(&many.told),
-            _ => None,
-        }
-    }
-
-    /// An index of the pieces, if there is one.
-    pub(crate) fn index(&self) -> Option<&SpanIndex>
-        ensures { IfSome result (λ index. Indexes index.now.sizes self.now.items) }
-    {
-        match &self.kept {
-            Kept::Many(many) => Some(&many.index),
+            Kept::Many(many) => Some(many),
             _ => None,
         }
     }
@@ -110,73 +105,81 @@ impl Pieces {
         ensures told { IfOk result (λ _. ends ≡ false → (id : ℕ) →
             is_settled_by self.new.told id ≡ is_settled_by self.old.told id) }
     {
-        let kept = mem::replace(&mut self.kept, Kept::Nothing);
-        self.kept = kept.with(alloc, piece, count, ends)?;
-        Ok(())
-    }
-
-    /// A reply message was the status of the context with this id, which told these pieces; it may end the reply. An `Err`
-    /// says that memory ran out.
-    pub(crate) fn tell(
-        &mut self,
-        alloc: Global,
-        id: u32,
-        zeroes: Vec<Piece>,
-        ends: bool,
-    ) -> Result<(), AllocError>
-        ensures items { IfOk result (λ _. self.new.items ≡ self.old.items ++ zeroes.items) }
-        ensures counts { IfOk result (λ _. self.new.counts ≡ self.old.counts) }
-        ensures told { IfOk result (λ _. ends ≡ false → (q : ℕ) →
-            is_settled_by self.new.told q ≡ (if id == q then true else is_settled_by self.old.told q)) }
-    {
-        match mem::replace(&mut self.kept, Kept::Nothing) {
-            Kept::Nothing if ends && zeroes.is_empty() => Ok(()),
-            kept => {
-                let mut many = kept.into_many(alloc)?;
-                many.tell(alloc, id, zeroes, ends)?;
-                self.kept = Kept::Many(many);
+        match piece {
+            Some(piece) => self.kept.push(alloc, piece, count, ends),
+            None => {
+                if ends {
+                    self.kept.end(alloc);
+                }
                 Ok(())
             }
         }
     }
+
+    /// A reply message was the status of the context with this id, which told these pieces, and they are taken; it may end
+    /// the reply. An `Err` says that memory ran out.
+    pub(crate) fn tell(
+        &mut self,
+        alloc: Global,
+        id: u32,
+        zeroes: &mut Vec<Piece>,
+        ends: bool,
+    ) -> Result<(), AllocError>
+        ensures items { IfOk result (λ _. self.new.items ≡ self.old.items ++ zeroes.old.items) }
+        ensures counts { IfOk result (λ _. self.new.counts ≡ self.old.counts) }
+        ensures told { IfOk result (λ _. ends ≡ false → (q : ℕ) →
+            is_settled_by self.new.told q ≡ (if id == q then true else is_settled_by self.old.told q)) }
+    {
+        self.kept = match mem::replace(&mut self.kept, Kept::Nothing) {
+            Kept::Nothing if ends && zeroes.is_empty() => Kept::Nothing,
+            kept => {
+                let mut many = kept.into_many(alloc)?;
+                many.tell(alloc, id, zeroes, ends)?;
+                Kept::Many(many)
+            }
+        };
+        Ok(())
+    }
 }
 
 impl Kept {
-    // The piece, if any, alone.
-    fn at_most_one(piece: Option<Piece>) -> Kept
-        ensures { pieces_kept result ≡ record { items = option_to_list piece; counts = []; told = nothing_told } }
-    {
-        match piece {
-            Some(piece) => Kept::One(piece),
-            None => Kept::Nothing,
-        }
-    }
-
-    // After a reply message that gave this piece, if any, when so many requests had completed.
-    fn with(
-        self,
+    // A reply message gave this piece.
+    fn push(
+        &mut self,
         alloc: Global,
-        piece: Option<Piece>,
+        piece: Piece,
         count: u64,
         ends: bool,
-    ) -> Result<Kept, AllocError>
-        ensures items { IfOk result (λ kept. (pieces_kept kept).items ≡ (pieces_kept self).items ++ option_to_list piece) }
-        ensures counts { IfOk result (λ kept. (pieces_kept kept).counts ≡ (pieces_kept self).counts
-            ++ (if is_some piece && not ends then count ∷ [] else [])) }
-        ensures told { IfOk result (λ kept. ends ≡ false → (id : ℕ) →
-            is_settled_by (pieces_kept kept).told id ≡ is_settled_by (pieces_kept self).told id) }
+    ) -> Result<(), AllocError>
+        ensures items { IfOk result (λ _. (pieces_kept self.new).items ≡ (pieces_kept self.old).items ++ piece ∷ []) }
+        ensures counts { IfOk result (λ _. (pieces_kept self.new).counts ≡ (pieces_kept self.old).counts
+            ++ (if not ends then count ∷ [] else [])) }
+        ensures told { IfOk result (λ _. ends ≡ false → (id : ℕ) →
+            is_settled_by (pieces_kept self.new).told id ≡ is_settled_by (pieces_kept self.old).told id) }
     {
-        match self {
-            Kept::Nothing if ends || piece.is_none() => Ok(Kept::at_most_one(piece)),
+        *self = match mem::replace(self, Kept::Nothing) {
+            Kept::Nothing if ends => Kept::One(piece),
             kept => {
                 let mut many = kept.into_many(alloc)?;
                 many.add(alloc, piece, count, ends)?;
-                Ok(Kept::Many(many))
+                Kept::Many(many)
             }
+        };
+        Ok(())
+    }
+
+    // The reply has ended: no index is kept, nor which contexts it need not tell.
+    fn end(&mut self, alloc: Global)
+        ensures items { (pieces_kept self.new).items ≡ (pieces_kept self.old).items }
+        ensures counts { (pieces_kept self.new).counts ≡ (pieces_kept self.old).counts }
+    {
+        if let Kept::Many(many) = self {
+            many.told.ids.clear();
+            many.index = SpanIndex::new(alloc);
         }
     }
 
-    // The same, with room for what stands beside pieces.
+    // The same pieces, with room for what stands beside them.
     fn into_many(self, alloc: Global) -> Result<Box<Many>, AllocError>
         ensures items { IfOk result (λ many. many.value.pieces.items ≡ (pieces_kept self).items) }
         ensures counts { IfOk result (λ many. many.value.counts.items ≡ (pieces_kept self).counts) }

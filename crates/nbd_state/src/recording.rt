@@ -1,7 +1,7 @@
 //! What the messages of transmission do to a request under way.
 
-ghost use Rattle.std.specs.Prelude.{◌≡◌, ◌<◌, ◌+◌, ◌^◌, ◌==◌, true, ◌++◌, ◌∷◌, ℕ, List, false, not, IfErr, IfOk, OnErr, [], if◌then◌else◌, is_some, length, ◌&&◌, None, OnOk, Option, IsTrue, vec_capacity, vec_len, option_to_list};
-ghost use Rattle.nbd_wire.specs.{declared.message.Message.{Message, TheVariants.Simple}, Prelude.{Context, Filter, Status, Operation, Exporting, ends_reply, is_error_chunk, is_failing, is_finished, extents_of, is_allocation, status_in, noted}};
+ghost use Rattle.std.specs.Prelude.{◌≡◌, ◌<◌, ◌^◌, true, ◌∷◌, ℕ, List, false, IfOk, [], if◌then◌else◌, is_some, length, ◌&&◌, None, Option, option_to_list};
+ghost use Rattle.nbd_wire.specs.{declared.message.Message.{Message, TheVariants.Simple}, Prelude.{Context, Filter, Operation, Exporting, ends_reply, is_error_chunk, is_failing, is_finished, extents_of, is_allocation, status_in, noted}};
 ghost use Rattle.nbd_wire.specs.protocol.Payloads as payloads;
 ghost use Rattle.nbd_wire.specs.protocol.Pieces as pieces;
 ghost use Rattle.nbd_state.specs.{internal.{is_allocation_told, carried, operation_of_head, HasTaken}, declared.asked.Outcome.TheVariants.{Failure, Success}, Filters.Asks, Places.chunk_of, Showing.{IsShown, exporting}};
@@ -110,25 +110,16 @@ impl Exchange {
     {
         let ends = has(head.flags, chunks::DONE);
         if let Some((id, descriptors)) = told_in(head, payload.as_slice()) {
-            if self.asked.known_at.is_some() {
-                return self.take_status(alloc, id, counts, ends);
-            }
-            return self.take_first_status(
-                alloc,
-                id,
-                head.at.is_some(),
-                descriptors,
-                zeroes,
-                counts,
-                ends,
-            );
+            let extended = head.at.is_some();
+            return self.take_status(alloc, id, extended, descriptors, zeroes, counts, ends);
         }
         let piece = content_piece(alloc, head.kind, payload)?;
         self.take(alloc, piece, counts, ends, is_error_chunk(head.kind))
     }
 
-    // The first message of the reply is the status of the context with this id; it may end the reply.
-    fn take_first_status(
+    // A message of the reply is the status of the context with this id; it may end the reply. What it calls zero counts if
+    // it is the first one.
+    fn take_status(
         &mut self,
         alloc: Global,
         id: u32,
@@ -139,8 +130,7 @@ impl Exchange {
         ends: bool,
     ) -> Result<(), AllocError>
         ensures taken { IfOk result (λ _. (export : Exporting) (e : Operation) (m : Message) →
-            IsShown export e self.old → is_finished e ≡ false → export.size < 2 ^ 64 →
-            is_some self.old.asked.known_at ≡ false → ends_reply m ≡ ends →
+            IsShown export e self.old → is_finished e ≡ false → export.size < 2 ^ 64 → ends_reply m ≡ ends →
             is_failing m ≡ false → pieces.piece_of e.offset m ≡ [] →
             status_in m ≡ record { id = id; extents = extents_of extended descriptors.now } ∷ [] →
             zeroes ≡ is_allocation e.contexts id → HasTaken export e m counts.now self.old self.new) }
@@ -148,32 +138,10 @@ impl Exchange {
             (λ _. self.new.asked.known_at ≡ (if is_some self.old.asked.known_at then self.old.asked.known_at
             else Some counts.known)) }
     {
-        let zeroes = zeroes_told(alloc, &self.asked, extended, descriptors, zeroes)?;
-        self.asked.pieces.tell(alloc, id, zeroes, ends)?;
+        let tells = zeroes && self.asked.known_at.is_none();
+        let mut zeroes = zeroes_told(alloc, &self.asked, extended, descriptors, tells)?;
         self.note(counts, ends);
-        Ok(())
-    }
-
-    // A later message of the reply is the status of the context with this id; it may end the reply.
-    fn take_status(
-        &mut self,
-        alloc: Global,
-        id: u32,
-        counts: Counts,
-        ends: bool,
-    ) -> Result<(), AllocError>
-        ensures taken { IfOk result (λ _. (export : Exporting) (e : Operation) (m : Message) (status : Status) →
-            IsShown export e self.old → is_finished e ≡ false → is_some self.old.asked.known_at ≡ true →
-            ends_reply m ≡ ends → is_failing m ≡ false → pieces.piece_of e.offset m ≡ [] →
-            status_in m ≡ status ∷ [] → status.id ≡ id →
-            HasTaken export e m counts.now self.old self.new) }
-        ensures first { IfOk result
-            (λ _. self.new.asked.known_at ≡ (if is_some self.old.asked.known_at then self.old.asked.known_at
-            else Some counts.known)) }
-    {
-        self.asked.pieces.tell(alloc, id, Vec::new(alloc), ends)?;
-        self.note(counts, ends);
-        Ok(())
+        self.asked.pieces.tell(alloc, id, &mut zeroes, ends)
     }
 
     // A reply message without a status gave this piece, if any; the last one ends the reply.
@@ -193,10 +161,9 @@ impl Exchange {
             (λ _. self.new.asked.known_at ≡ (if is_some self.old.asked.known_at then self.old.asked.known_at
             else Some counts.known)) }
     {
-        self.asked.pieces.add(alloc, piece, counts.now, ends)?;
         self.asked.failed |= fails;
         self.note(counts, ends);
-        Ok(())
+        self.asked.pieces.add(alloc, piece, counts.now, ends)
     }
 
     // A reply message has come, which may end the reply.
@@ -214,9 +181,11 @@ impl Exchange {
           };
         } }
     {
-        self.asked.known_at = first(self.asked.known_at, counts.known);
-        self.asked.ended_at = ended(self.asked.ended_at, ends, counts.now);
-        self.asked.outcome = outcome_after(self.asked.outcome, ends, self.asked.failed);
+        self.asked.known_at = self.asked.known_at.or(Some(counts.known));
+        if ends {
+            self.asked.ended_at = self.asked.ended_at.or(Some(counts.now));
+            self.asked.outcome = outcome_of(self.asked.failed);
+        }
     }
 }
 
@@ -230,34 +199,14 @@ fn carried(head: &RequestHead, payload: &Bytes) -> Result<Bytes, AllocError>
     payload.share()
 }
 
-// How many requests had completed when the reply ended, which it may do now.
-fn ended(before: Option<u64>, ends: bool, count: u64) -> Option<u64>
-    ensures { result ≡ noted before ends count }
+// What became of a request whose reply has ended.
+fn outcome_of(failed: bool) -> Outcome
+    ensures { result ≡ (if failed then Failure else Success) }
 {
-    match before {
-        None if ends => Some(count),
-        _ => before,
-    }
-}
-
-// What was known at the first reply message, of which this may be the first.
-fn first(known_at: Option<u64>, known: u64) -> Option<u64>
-    ensures { result ≡ (if is_some known_at then known_at else Some known) }
-{
-    match known_at {
-        Some(known_at) => Some(known_at),
-        None => Some(known),
-    }
-}
-
-// What became of a request of which one more reply message came.
-fn outcome_after(before: Outcome, ends: bool, failed: bool) -> Outcome
-    ensures { result ≡ (if ends then (if failed then Failure else Success) else before) }
-{
-    match (ends, failed) {
-        (false, _) => before,
-        (true, true) => Outcome::Failure,
-        (true, false) => Outcome::Success,
+    if failed {
+        Outcome::Failure
+    } else {
+        Outcome::Success
     }
 }
 

@@ -1,13 +1,14 @@
 //! What SET_META_CONTEXT selects (proto.md, "Option types", "Metadata querying").
 
-ghost use Rattle.std.specs.{Prelude.{ℕ, ◌≡◌, ◌==◌, [], List, Bool, MatchOption, false, OnOk, length}, BTreeSet.contains, Ordering.nat_cmp};
+ghost use Rattle.std.specs.{Prelude.{ℕ, ◌≡◌, ◌==◌, ◌||◌, Bool, MatchOption, false, OnOk, length}, List.list_all};
 ghost use Rattle.nbd_wire.specs.protocol.Contexts as contexts;
-ghost use Rattle.nbd_wire.specs.Prelude.{no_selection, has_id, agrees, selection_after, selection_at, context_of, are_settled, is_allocation, selection_told};
+ghost use Rattle.nbd_wire.specs.Prelude.{no_selection, has_id, agrees, selection_after, selection_at, context_of, are_settled, is_allocation, is_this, selection_told};
 ghost use Rattle.nbd_wire.specs.protocol.States as definitions;
 ghost use Rattle.nbd_state.specs.{Filters.is_settled_by, declared.asking.Telling.Telling, Shows.{HasSelection, TellsThese, phase_shown}};
 ghost use Rattle.nbd_wire.specs.declared.answers.TheConstants as answers;
 
-use crate::asking::Telling;
+use crate::asking::{Telling, put};
+use crate::many::Many;
 use crate::state::{Chosen, Phase};
 use nbd_wire::{answers, context_of, name_in, options};
 use std::alloc::{AllocError, Global};
@@ -66,15 +67,16 @@ impl Selection {
         self.ids.is_empty()
     }
 
-    /// Whether each of the contexts is settled, or is the one with this id; without a telling none is settled.
-    pub(crate) fn are_told(&self, told: Option<&Telling>, id: Option<u32>) -> bool
+    /// Whether each of the contexts is settled, or is the one with this id; where nothing stands beside the pieces none is
+    /// settled.
+    pub(crate) fn are_told(&self, many: Option<&Many>, id: Option<u32>) -> bool
         ensures { (selection : contexts.Selection) (settled : ℕ → Bool) (telling : Telling) →
             HasSelection self.now selection →
-            MatchOption told.entry ((i : ℕ) → is_settled_by telling i ≡ false) (λ t. t.now ≡ telling) →
+            MatchOption many.entry ((i : ℕ) → is_settled_by telling i ≡ false) (λ m. m.now.told ≡ telling) →
             TellsThese settled selection.contexts telling id → result ≡ are_settled settled selection.contexts }
     {
-        match told {
-            Some(told) => self.are_told_by(told, id),
+        match many {
+            Some(many) => self.are_told_by(&many.told, id),
             None => self.are_told_by(&Telling::none(*self.export_name.allocator()), id),
         }
     }
@@ -85,13 +87,9 @@ impl Selection {
             TellsThese settled selection.contexts told.now id → result ≡ are_settled settled selection.contexts }
     {
         if told.filtered {
-            told.ids
-                .iter()
-                .all(|i| id == Some(*i) || !self.ids.contains(i))
+            are_all(&told.ids, &self.ids, true, id)
         } else {
-            self.ids
-                .iter()
-                .all(|i| id == Some(*i) || told.ids.contains(i))
+            are_all(&self.ids, &told.ids, false, id)
         }
     }
 
@@ -100,12 +98,12 @@ impl Selection {
         ensures { (selection : contexts.Selection) → HasSelection self.now selection →
             result ≡ agrees option payload.now selection }
     {
-        self.granted
-            && match option {
-                options::EXPORT_NAME => payload == self.export_name.as_slice(),
-                options::GO => name_in(payload) == self.export_name.as_slice(),
-                _ => false,
-            }
+        let name = match option {
+            options::EXPORT_NAME => payload,
+            options::GO => name_in(payload),
+            _ => return false,
+        };
+        self.granted && name == self.export_name.as_slice()
     }
 
     /// An option was chosen. After an `Err`, that memory ran out, nothing is known of the selection.
@@ -116,12 +114,11 @@ impl Selection {
         if option != options::SET_META_CONTEXT {
             return Ok(());
         }
-        self.export_name.clear();
-        self.export_name.extend_from_slice(name_in(payload))?;
         self.ids.clear();
         self.allocations.clear();
         self.granted = false;
-        Ok(())
+        self.export_name.clear();
+        self.export_name.extend_from_slice(name_in(payload))
     }
 
     /// An answer came in this phase. After an `Err`, that memory ran out, the selection is as it was.
@@ -163,12 +160,26 @@ impl Selection {
         ensures { OnOk result ((selection : contexts.Selection) → HasSelection self.old selection →
             HasSelection self.new (selection_told answers.META_CONTEXT answer.now selection)) }
     {
-        if let Some((id, name)) = context_of(answer) {
-            self.ids.insert(id)?;
-            if name == ALLOCATION {
-                self.allocations.insert(id)?;
-            }
+        let Some((id, name)) = context_of(answer) else {
+            return Ok(());
+        };
+        if name == ALLOCATION {
+            put(&mut self.allocations, id)?;
         }
+        put(&mut self.ids, id)?;
         Ok(())
     }
+}
+
+// Whether each of these ids is this one, or stands among the others; or is not among them, where it has to be outside.
+fn are_all(ids: &BTreeSet<u32>, others: &BTreeSet<u32>, outside: bool, id: Option<u32>) -> bool
+    ensures { result ≡ list_all (λ i. is_this id i || is_settled_by (record { filtered = outside; ids = others.now }) i)
+        ids.now.keys }
+{
+    for i in ids {
+        if id != Some(*i) && others.contains(i) == outside {
+            return false;
+        }
+    }
+    true
 }

@@ -135,7 +135,7 @@ impl State {
             TellsThese settled (in_force core) exchange.now.asked.pieces.told id →
             result ≡ are_settled settled (in_force core) }
     {
-        !self.brings_contexts || self.selection.are_told(exchange.asked.pieces.told(), id)
+        !self.brings_contexts || self.selection.are_told(exchange.asked.pieces.many(), id)
     }
 
     /// What a session that ends here states: its export, if it reached transmission, and its numbered

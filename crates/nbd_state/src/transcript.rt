@@ -47,7 +47,8 @@ impl Transcript {
         ensures export { result ≡ size_and_flags self.now.export }
         ensures facts { IsSoundReport self.now }
     {
-        self.export.map(|export| (export.size, export.flags))
+        let export = self.export?;
+        Some((export.size, export.flags))
     }
 
     /// How many requests have a number: all that completed but DISC.
@@ -62,7 +63,9 @@ impl Transcript {
     pub fn asked(&self, k: u64) -> Option<&Asked>
         ensures { report_of_request_if (option_copied result) ≡ asked_at k self.now.asked }
     {
-        let place = k.checked_sub(1)?;
-        Some(&self.exchanges.get(place as usize)?.asked)
+        if k == 0 || k > self.count() {
+            return None;
+        }
+        Some(&self.exchanges[k as usize - 1].asked)
     }
 }

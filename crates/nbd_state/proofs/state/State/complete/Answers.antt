@@ -1,5 +1,4 @@
-use Rattle.nbd_state.proofs.{Common.{arith, ap, refl, subst, MayAsk, ExtendedRequest, MayComplete, complete, cookie_of, MayTake}, CompletionLemmas.on, PhaseLemmas.{answered_chunk, answered_extended, answered_simple, asked_in, chunk_in, extended_asked_in, extended_chunk_in, extended_transmits, shows_exported, shows_flags, shows_greeted, shows_same, simple_in, transmits}}
-use Rattle.nbd_state.proofs.TellingLemmas.{known_asked, known_told}
+use Rattle.nbd_state.proofs.{Common.{arith, ap, refl, subst, MayComplete, cookie_of}, CompletionLemmas.on, PhaseLemmas.{shows_exported, shows_flags, shows_greeted, shows_same, transmits}, TellingLemmas.known_asked}
 use Rattle.nbd_state.proofs.state.State.complete.Goals as goal
 
 pub returns-in-Greeting-clause-shown : goal.returns-in-Greeting-clause-shown
@@ -33,71 +32,10 @@ returns-in-Answer-clause-known c = grind (arith, on, known_asked)
 pub returns-in-Exported-clause-shown : goal.returns-in-Exported-clause-shown
 returns-in-Exported-clause-shown c = λ core r s sn ok.
     shows_same core c.args.message.now _ c.in-Exported.is
-    (shows_exported c.args.self.now _ core s c.in-Exported.size c.in-Exported.flags c.in-Exported.padded c.phase_after_export-self.result (subst (λ m. MayComplete core core.phase m) c.in-Exported.is ok) c.phase_after_export-self.ensures refl)
+    (shows_exported c.args.self.now _ core s c.in-Exported.size c.in-Exported.flags c.in-Exported.padded _ (subst (λ m. MayComplete core core.phase m) c.in-Exported.is ok) refl refl)
 
 pub returns-in-Exported-clause-known : goal.returns-in-Exported-clause-known
 returns-in-Exported-clause-known c = λ core noted r s h. known_asked core c.args.message.now c.args.known noted _ _ (ap cookie_of c.in-Exported.is) (λ place. refl) h
 
-pub request-requires : goal.request-requires
-request-requires c = transmits c.args.self.now c.in-Request.flags c.in-Request.command c.in-Request.cookie c.in-Request.offset c.in-Request.length c.in-Request.payload (subst (MayTake c.args.self.now) c.in-Request.is c.requires.may)
-
-pub simple-requires : goal.simple-requires
-simple-requires c =
-    let place = c.requires.place c.in-Simple.cookie (ap cookie_of c.in-Simple.is) in
-    record { place = place; within = answered_simple c.args.self.now c.in-Simple.error c.in-Simple.cookie c.in-Simple.payload c.args.place (subst (MayTake c.args.self.now) c.in-Simple.is c.requires.may) place }
-
-pub chunk-requires : goal.chunk-requires
-chunk-requires c =
-    let place = c.requires.place c.in-Chunk.cookie (ap cookie_of c.in-Chunk.is) in
-    record { place = place; within = answered_chunk c.args.self.now c.in-Chunk.flags c.in-Chunk.kind c.in-Chunk.cookie c.in-Chunk.payload c.args.place (subst (MayTake c.args.self.now) c.in-Chunk.is c.requires.may) place }
-
-pub request-requires-in-ExtendedRequest : goal.request-requires-in-ExtendedRequest
-request-requires-in-ExtendedRequest c =
-    let q = c.in-ExtendedRequest in
-    extended_transmits c.args.self.now q.flags q.command q.cookie q.offset q.length q.payload (subst (MayTake c.args.self.now) q.is c.requires.may)
-
-pub chunk-requires-in-ExtendedChunk-clause-within : goal.chunk-requires-in-ExtendedChunk-clause-within
-chunk-requires-in-ExtendedChunk-clause-within c =
-    let q = c.in-ExtendedChunk in
-    answered_extended c.args.self.now q.flags q.kind q.cookie q.offset q.payload c.args.place (subst (MayTake c.args.self.now) q.is c.requires.may)
-    (c.requires.place q.cookie (ap cookie_of q.is))
-
-pub returns-in-Request-clause-shown : goal.returns-in-Request-clause-shown
-unfolding complete
-returns-in-Request-clause-shown c = grind (arith, on, asked_in, shows_same)
-
-pub returns-in-Request-clause-known : goal.returns-in-Request-clause-known
-returns-in-Request-clause-known c = grind (arith, on, known_asked)
-
-pub returns-in-ExtendedRequest-clause-shown : goal.returns-in-ExtendedRequest-clause-shown
-unfolding complete
-returns-in-ExtendedRequest-clause-shown c = on c.request-in-ExtendedRequest.result (λ f core r s sn ok.
-    let q = c.in-ExtendedRequest in
-    let a = extended_asked_in core core.phase q.flags q.command q.cookie q.offset q.length q.payload (subst (λ m. MayComplete core core.phase m) q.is ok) in
-    shows_same core c.args.message.now (ExtendedRequest q.flags q.command q.cookie q.offset q.length q.payload) q.is
-    (f core a.0 s a.1 (λ d. subst (λ b. MayAsk b core q.cookie q.offset q.length) d a.2)))
-    c.request-in-ExtendedRequest.ensures.shown
-
-pub returns-in-ExtendedRequest-clause-known : goal.returns-in-ExtendedRequest-clause-known
-returns-in-ExtendedRequest-clause-known c = grind (arith, on, known_asked)
-
-pub returns-in-Simple-clause-shown : goal.returns-in-Simple-clause-shown
-unfolding complete
-returns-in-Simple-clause-shown c = grind (arith, on, simple_in, shows_same)
-
-pub returns-in-Simple-clause-known : goal.returns-in-Simple-clause-known
-returns-in-Simple-clause-known c = grind (arith, on, known_told)
-
-pub returns-in-Chunk-clause-shown : goal.returns-in-Chunk-clause-shown
-unfolding complete
-returns-in-Chunk-clause-shown c = grind (arith, on, chunk_in, shows_same)
-
-pub returns-in-Chunk-clause-known : goal.returns-in-Chunk-clause-known
-returns-in-Chunk-clause-known c = grind (arith, on, known_told)
-
-pub returns-in-ExtendedChunk-clause-shown : goal.returns-in-ExtendedChunk-clause-shown
-unfolding complete
-returns-in-ExtendedChunk-clause-shown c = grind (arith, on, extended_chunk_in, shows_same)
-
-pub returns-in-ExtendedChunk-clause-known : goal.returns-in-ExtendedChunk-clause-known
-returns-in-ExtendedChunk-clause-known c = grind (arith, on, known_told)
+pub transmit-requires-clause-transmits : goal.transmit-requires-clause-transmits
+transmit-requires-clause-transmits c = transmits c.args.self.now c.args.message.now c.requires.may c.in_default.not-Greeting c.in_default.not-ClientFlags c.in_default.not-Choice c.in_default.not-Answer c.in_default.not-Exported

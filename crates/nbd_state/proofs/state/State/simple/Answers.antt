@@ -1,4 +1,4 @@
-use Rattle.nbd_state.proofs.{Common.{◌<◌, ◌∙◌, ap, length, refl, sym, subst, slice_set, place_at, Simple, ends_reply, State, Counts, if◌then◌else◌, is_some, Some}, CompletionLemmas.{counted_now, indexed, on_one, replied_shows}, TellingLemmas.tells_at}
+use Rattle.nbd_state.proofs.{Common.{rules, ◌<◌, ap, length, refl, sym, subst, slice_set, place_at, Simple, ends_reply, State}, CompletionLemmas.{counted_now, indexed, on_one, replied_shows}, TellingLemmas.tells_at}
 use Rattle.nbd_state.proofs.state.State.simple.Goals as goal
 
 pub returns-clause-shown : goal.returns-clause-shown
@@ -11,7 +11,7 @@ returns-clause-shown c = on_one c.take_simple.result (λ _ taken core export r s
     replied_shows state mid _ core export c.args.cookie place (Simple c.args.error c.args.cookie c.args.payload.now) x c.take_simple.new.self r s p refl
     c.requires.place
     (indexed state mid place x c.end_if.ensures.kept (subst (λ (z : State). place < length z.exchanges.items) (sym c.end_if.ensures.kept) c.requires.within) c.index_mut.ensures.value)
-    (λ e q x u. let t = taken export e c.args.cookie x u in (t.0, counted_now e state.exchanges.items c.counts-counts.ensures t.1))
+    (λ e q x u. let t = taken export e c.args.cookie x u in (t.0, counted_now e state.exchanges.items (search rules) t.1))
     c.end_if.ensures.kept
     c.end_if.ensures.left refl
     (ap (λ (z : State). slice_set z.exchanges.items place c.take_simple.new.self) c.end_if.ensures.kept))
@@ -26,6 +26,6 @@ returns-clause-tells c = on_one c.take_simple.result (λ _ first.
     tells_at (place_at state.outstanding c.args.cookie) c.args.known place state.exchanges.items (slice_set mid.exchanges.items place c.take_simple.new.self) x c.take_simple.new.self
     c.requires.place
     (indexed state mid place x c.end_if.ensures.kept (subst (λ (z : State). place < length z.exchanges.items) (sym c.end_if.ensures.kept) c.requires.within) c.index_mut.ensures.value)
-    (first ∙ ap (λ (k : Counts). if is_some c.index_mut.result.now.asked.known_at then c.index_mut.result.now.asked.known_at else Some k.known) c.counts-counts.ensures)
+    first
     (ap (λ (z : State). slice_set z.exchanges.items place c.take_simple.new.self) c.end_if.ensures.kept))
     c.take_simple.ensures.first
