@@ -7,7 +7,6 @@ use nbd_export::{Contents, Extents, HeldPart, Kind, Start};
 use nbd_state::{ends_by, is_change};
 use nbd_wire::{Part, Side, commands};
 use std::alloc::AllocError;
-use std::rc::Rc;
 
 /// A part of the export, and what a request got of it.
 #[derive(Clone, Copy)]
@@ -90,22 +89,17 @@ impl Sources<'_> {
 
     // What it held at first.
     fn at_first(&self) -> Result<Extents, AllocError> {
+        let alloc = self.story.alloc();
         match self.start {
-            Some(Start::Zeroes) => Extents::new(self.story.alloc(), u64::MAX, Start::Zeroes),
-            Some(Start::Image(image)) => self.of_image(image.clone()?),
-            Some(Start::Contents(contents)) => self.of_contents(contents.clone()?),
-            _ => self.story.unknown(),
+            Some(Start::Zeroes) => Extents::new(alloc, u64::MAX, Start::Zeroes),
+            Some(Start::Image(image)) => {
+                Extents::new(alloc, image.len() as u64, Start::Image(image.clone()?))
+            }
+            Some(Start::Contents(contents)) => {
+                Extents::new(alloc, contents.size(), Start::Contents(contents.clone()?))
+            }
+            _ => Extents::new(alloc, u64::MAX, Start::Unknown),
         }
-    }
-
-    fn of_image(&self, image: Rc<Vec<u8>>) -> Result<Extents, AllocError> {
-        let size = image.len() as u64;
-        Extents::new(self.story.alloc(), size, Start::Image(image))
-    }
-
-    fn of_contents(&self, contents: Rc<Extents>) -> Result<Extents, AllocError> {
-        let size = contents.size();
-        Extents::new(self.story.alloc(), size, Start::Contents(contents))
     }
 
     /// What a part held before the entry at a place of the order.

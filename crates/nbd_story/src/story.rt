@@ -42,6 +42,10 @@ pub struct Story {
     pub sizing: Sizing,
     /// Extended headers are in force.
     pub is_extended: bool,
+    /// How many READs are outstanding whose reply has begun.
+    replying: u64,
+    /// A request came whole behind the first byte of a READ's reply and before its last one.
+    has_chunks_apart: bool,
     /// What is told of it has the names of numbers.
     pub is_marked: bool,
     /// Memory was refused for something of this.
@@ -65,6 +69,8 @@ impl Story {
             contexts: Contexts::none(alloc),
             sizing: Sizing::none(),
             is_extended: false,
+            replying: 0,
+            has_chunks_apart: false,
             is_marked,
             is_refused: false,
         }
@@ -156,23 +162,29 @@ impl Story {
         if let Ok(asking) = &asking {
             request.proper = is_proper(self.export, asking, head);
         }
+        self.has_chunks_apart |= self.replying != 0;
         self.is_refused |= self.requests.push(request).is_err();
         self.is_refused |= self.outstanding.insert(head.cookie, told.number).is_err();
     }
 
     // A message of a reply has come; after the last one its cookie is free.
     fn answer(&mut self, told: &Told, cookie: u64, is_last: bool) {
+        let asked = self.request(self.requests.len() as u64).last;
         if let Some(request) = self.requests.get_mut(told.number.wrapping_sub(1) as usize) {
+            let read = u64::from(request.head.command == commands::READ);
             if request.replied == 0 {
                 request.replied = told.first;
                 request.due = told.first;
+                self.replying = self.replying.saturating_add(read);
             }
             if request.error == 0 {
                 request.error = told.error;
             }
             if is_last {
                 request.finished = told.last;
+                self.replying = self.replying.saturating_sub(read);
             }
+            self.has_chunks_apart |= (read != 0) & (asked > request.replied);
         }
         if is_last {
             self.outstanding.remove(&cookie);
@@ -219,17 +231,7 @@ impl Story {
     /// Whether a request came whole behind the first byte of a READ's reply and before its last one. Without that the profile `Wide`
     /// serves each READ as `Base` does.
     pub fn has_chunks_apart(&self) -> bool {
-        for read in &self.requests {
-            let replied = read.replied;
-            let next = self.requests.partition_point(|one| one.last < replied);
-            let one = self.requests.get(next).unwrap_or(&NO_REQUEST);
-            let is_around = (read.finished == 0) | (one.last < read.finished);
-            let is_answered = (read.head.command == commands::READ) & (replied != 0);
-            if is_answered & one.is_there() & is_around {
-                return true;
-            }
-        }
-        false
+        self.has_chunks_apart
     }
 
     /// The outstanding request with this cookie.
