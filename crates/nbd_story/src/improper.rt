@@ -5,9 +5,7 @@ use crate::text::Text;
 use crate::told::Request;
 use nbd_state::{ends_by, has_range, is_change, is_outside};
 use nbd_wire::command_flags::{DF, FAST_ZERO, FUA, NO_HOLE, PAYLOAD_LEN, REQ_ONE};
-use nbd_wire::commands::{
-    BLOCK_STATUS, DISC, FLUSH, READ, TRIM, WRITE, WRITE_ZEROES,
-};
+use nbd_wire::commands::{BLOCK_STATUS, DISC, FLUSH, READ, TRIM, WRITE, WRITE_ZEROES};
 use nbd_wire::flags::{has, has_only};
 use nbd_wire::transmission::{
     BLOCK_STATUS_PAYLOAD, READ_ONLY, SEND_DF, SEND_FAST_ZERO, SEND_FLUSH, SEND_FUA, SEND_TRIM,
@@ -19,24 +17,33 @@ use nbd_wire::{Profile, RequestHead, Sizes, sizes_for};
 const LISTED: u64 = 10;
 
 /// What an export has to allow (proto.md, "Command flags", "Transmission flags"): a flag of requests, 0 of those without one too; a
-/// type, and whether those of any other type are meant; the flag by which the export allows it, 0 where none does; and what is wrong
-/// with a request that it does not allow.
-const ALLOWED: &[(u16, u16, bool, u16, &str)] = &[
-    (0, FLUSH, false, SEND_FLUSH, "the export does not offer FLUSH: it lacks SEND_FLUSH"),
-    (0, TRIM, false, SEND_TRIM, "the export does not offer TRIM: it lacks SEND_TRIM"),
-    (0, WRITE_ZEROES, false, SEND_WRITE_ZEROES, NOT_ZEROING),
-    (FUA, DISC, true, SEND_FUA, "it carries FUA, and the export lacks SEND_FUA"),
-    (NO_HOLE, WRITE_ZEROES, true, 0, "it carries NO_HOLE, which only a WRITE_ZEROES may"),
-    (DF, READ, true, 0, "it carries DF, which only a READ may"),
-    (DF, READ, false, SEND_DF, "it carries DF, and the export lacks SEND_DF"),
-    (REQ_ONE, BLOCK_STATUS, true, 0, "it carries REQ_ONE, which only a BLOCK_STATUS may"),
-    (FAST_ZERO, WRITE_ZEROES, true, 0, "it carries FAST_ZERO, which only a WRITE_ZEROES may"),
-    (FAST_ZERO, WRITE_ZEROES, false, SEND_FAST_ZERO, NOT_FAST),
+/// type, and whether those of any other type are meant; and the flag by which the export allows it, 0 where none does.
+const ALLOWED: [(u16, u16, bool, u16); 10] = [
+    (0, FLUSH, false, SEND_FLUSH),
+    (0, TRIM, false, SEND_TRIM),
+    (0, WRITE_ZEROES, false, SEND_WRITE_ZEROES),
+    (FUA, DISC, true, SEND_FUA),
+    (NO_HOLE, WRITE_ZEROES, true, 0),
+    (DF, READ, true, 0),
+    (DF, READ, false, SEND_DF),
+    (REQ_ONE, BLOCK_STATUS, true, 0),
+    (FAST_ZERO, WRITE_ZEROES, true, 0),
+    (FAST_ZERO, WRITE_ZEROES, false, SEND_FAST_ZERO),
 ];
 
-const NOT_ZEROING: &str = "the export does not offer WRITE_ZEROES: it lacks SEND_WRITE_ZEROES";
-
-const NOT_FAST: &str = "it carries FAST_ZERO, and the export lacks SEND_FAST_ZERO";
+/// What is wrong where one of these is not allowed.
+const REASONS: [&str; 10] = [
+    "the export does not offer FLUSH: it lacks SEND_FLUSH",
+    "the export does not offer TRIM: it lacks SEND_TRIM",
+    "the export does not offer WRITE_ZEROES: it lacks SEND_WRITE_ZEROES",
+    "it carries FUA, and the export lacks SEND_FUA",
+    "it carries NO_HOLE, which only a WRITE_ZEROES may",
+    "it carries DF, which only a READ may",
+    "it carries DF, and the export lacks SEND_DF",
+    "it carries REQ_ONE, which only a BLOCK_STATUS may",
+    "it carries FAST_ZERO, which only a WRITE_ZEROES may",
+    "it carries FAST_ZERO, and the export lacks SEND_FAST_ZERO",
+];
 
 /// The flags of a request that proto.md has and nbdcheck follows; with an extended header PAYLOAD_LEN is one too.
 const FLAGS: u16 = FUA | NO_HOLE | DF | REQ_ONE | FAST_ZERO;
@@ -50,8 +57,7 @@ const UNKNOWN_FLAG: &str =
     "it carries a flag that is none of FUA, NO_HOLE, DF, REQ_ONE and FAST_ZERO";
 
 /// Why one has no PAYLOAD_LEN, or not this payload.
-const UNALLOWED_PAYLOAD: &str =
-    "it carries PAYLOAD_LEN, and the export lacks BLOCK_STATUS_PAYLOAD";
+const UNALLOWED_PAYLOAD: &str = "it carries PAYLOAD_LEN, and the export lacks BLOCK_STATUS_PAYLOAD";
 
 const NO_FILTER: &str =
     "its payload is no filter, which has a length of 8 bytes and ids of 4 bytes each";
@@ -65,8 +71,8 @@ impl Story {
             Profile::Base => None,
             Profile::Wide => self.sizing.kept(),
         };
-        let kept = sizes_for(self.contexts.structured, head.command, sizes);
-        let in_force = self.contexts.are_in_force();
+        let kept = sizes_for(self.is_structured, head.command, sizes);
+        let in_force = self.has_contexts();
         if is_outside(kept, in_force, head.command, head.offset, head.length) {
             sizes
         } else {
@@ -102,7 +108,7 @@ impl Text {
             .end()
             .improper(request, story);
         match story.broken_sizes(&request.head) {
-            Some(sizes) => text.unfit(&request.head, sizes, story.contexts.structured),
+            Some(sizes) => text.unfit(&request.head, sizes, story.is_structured),
             None => text,
         }
     }
@@ -135,7 +141,7 @@ impl Text {
     pub fn improper(self, request: &Request, story: &Story) -> Text {
         let head = &request.head;
         let flags = story.export.flags;
-        if request.is_status() & !story.contexts.are_in_force() {
+        if request.is_status() & !story.has_contexts() {
             return self.wrong(match story.profile {
                 Profile::Base => UNKNOWN_TYPE,
                 Profile::Wide => "it asks for a status, and no metadata context is in force",
@@ -150,10 +156,11 @@ impl Text {
     // What of the type and the flags of a request an export with these flags does not allow.
     fn not_allowed(self, head: &RequestHead, flags: u16) -> Text {
         let mut text = self;
-        for (flag, command, is_other, by, reason) in ALLOWED {
-            let is_carried = (*flag == 0) | has(head.flags, *flag);
-            let is_meant = (*command == head.command) != *is_other;
-            text = text.wrong_if(is_carried & is_meant & !has(flags, *by), reason);
+        for row in 0..ALLOWED.len() {
+            let (flag, command, is_other, by) = ALLOWED[row];
+            let is_carried = (flag == 0) | has(head.flags, flag);
+            let is_meant = (command == head.command) != is_other;
+            text = text.wrong_if(is_carried & is_meant & !has(flags, by), REASONS[row]);
         }
         text
     }
@@ -165,7 +172,10 @@ impl Text {
         let own = if head.extended { PAYLOAD_LEN } else { 0 };
         let is_known = has_only(u32::from(head.flags), u32::from(FLAGS | own));
         self.wrong_if(is_flush & (head.offset | head.length != 0), FLUSH_OF_RANGE)
-            .wrong_if(is_changing, "it changes an export that is read-only: it has READ_ONLY")
+            .wrong_if(
+                is_changing,
+                "it changes an export that is read-only: it has READ_ONLY",
+            )
             .wrong_if(!is_flush & !has_range(head.command), UNKNOWN_TYPE)
             .wrong_if(!is_known, UNKNOWN_FLAG)
     }
@@ -180,7 +190,10 @@ impl Text {
         self.wrong_if(is_status & !is_allowed, UNALLOWED_PAYLOAD)
             .wrong_if(is_status & filter.is_none(), NO_FILTER)
             .bad_filter(request, story)
-            .wrong_if(is_flagged & !request.is_status() & (head.command != WRITE), NEEDLESS_PAYLOAD)
+            .wrong_if(
+                is_flagged & !request.is_status() & (head.command != WRITE),
+                NEEDLESS_PAYLOAD,
+            )
     }
 
     // A range that passes the end of an export of this size, and by how much, where 64 bits hold that.

@@ -2,6 +2,7 @@
 
 use crate::explanation::Sources;
 use crate::story::Story;
+use crate::stream::bytes_behind;
 use crate::told::{EMPTY, Request, Told, between, common, end_of, part_in};
 use nbd_export::{Contents, Extents, HeldPart, Kind, Start};
 use nbd_state::{ends_by, is_change};
@@ -21,7 +22,7 @@ impl<'a> Brought<'a> {
         match self.held {
             HeldPart::Bytes(bytes) => {
                 let skipped = offset.saturating_sub(self.part.offset) as usize;
-                HeldPart::Bytes(bytes.get(skipped..).unwrap_or(&[]))
+                HeldPart::Bytes(bytes_behind(bytes, skipped))
             }
             held => held,
         }
@@ -49,7 +50,11 @@ impl Story {
 
     /// The byte that a change left at an offset, where that is known.
     pub fn byte_by(&self, change: &Request, offset: u64) -> Option<u8> {
-        first_of(self.left_in(Part { offset, length: 1 }, change))
+        match self.left_in(Part { offset, length: 1 }, change) {
+            HeldPart::Unknown => None,
+            HeldPart::Zeroes => Some(0),
+            HeldPart::Bytes(bytes) => bytes.first().copied(),
+        }
     }
 
     /// What a message brings of a part.
@@ -87,8 +92,8 @@ impl Sources<'_> {
         }
     }
 
-    // What it held at first.
-    fn at_first(&self) -> Result<Extents, AllocError> {
+    /// What it held at first.
+    pub fn at_first(&self) -> Result<Extents, AllocError> {
         let alloc = self.story.alloc();
         match self.start {
             Some(Start::Zeroes) => Extents::new(alloc, u64::MAX, Start::Zeroes),
@@ -102,15 +107,13 @@ impl Sources<'_> {
         }
     }
 
-    /// What a part held before the entry at a place of the order.
-    pub fn held(&self, place: usize, part: Part) -> Result<Extents, AllocError> {
-        let mut held = self.at_first()?;
-        self.lay_changes(&mut held, place, part)?;
-        Ok(held)
-    }
-
-    // Lays the changes of a part before that entry over what was held.
-    fn lay_changes(&self, held: &mut Extents, place: usize, part: Part) -> Result<(), AllocError> {
+    /// Lays the changes of a part before the entry at a place of the order over what was held.
+    pub fn lay_changes(
+        &self,
+        held: &mut Extents,
+        place: usize,
+        part: Part,
+    ) -> Result<(), AllocError> {
         for at in 0..place.min(self.order.len()) {
             let entry = &self.order[at];
             let change = self.story.request(entry.request);
@@ -167,15 +170,6 @@ fn gap(contents: &Extents, part: Part, is_refused: bool) -> Result<Part, AllocEr
         Err(AllocError)
     } else {
         Ok(found)
-    }
-}
-
-/// The first byte of what is held, where it is known.
-pub fn first_of(held: HeldPart<'_>) -> Option<u8> {
-    match held {
-        HeldPart::Unknown => None,
-        HeldPart::Zeroes => Some(0),
-        HeldPart::Bytes(bytes) => bytes.first().copied(),
     }
 }
 

@@ -1,16 +1,15 @@
 //! The messages of a session with their places, and what became of its requests.
 
 use crate::content::bringer;
-use crate::contexts::Contexts;
 use crate::explanation::Sources;
 use crate::recording::Recording;
 use crate::told::{Form, NO_REQUEST, Request, Told};
 use nbd_export::Start;
-use nbd_state::{Export, is_proper};
+use nbd_state::{Export, Selection, is_proper};
 use nbd_wire::flags::{has, has_wide};
 use nbd_wire::{
     AnswerHead, Bytes, ChoiceHead, Entry, Info, Message, Part, Profile, RequestHead, Side, Sizing,
-    answers, chunks, commands, handshake, head_lengths, info_of, options, side_of,
+    answers, chunks, commands, context_of, handshake, head_lengths, info_of, options, side_of,
 };
 use std::alloc::{AllocError, Global};
 use std::collections::BTreeMap;
@@ -36,10 +35,16 @@ pub struct Story {
     pub option: u32,
     /// How many zeroes the answer to EXPORT_NAME ends with.
     pub padding: u64,
-    /// What was said of metadata contexts.
-    pub contexts: Contexts,
+    /// What the last SET_META_CONTEXT selected.
+    pub selection: Selection,
+    /// The answers that named these contexts, by their ids.
+    pub names: BTreeMap<u32, Told>,
+    /// In transmission: the selection is in force.
+    pub agreed: bool,
     /// What was said of block sizes.
     pub sizing: Sizing,
+    /// Structured replies are in force.
+    pub is_structured: bool,
     /// Extended headers are in force.
     pub is_extended: bool,
     /// How many READs are outstanding whose reply has begun.
@@ -66,8 +71,11 @@ impl Story {
             is_transmission: false,
             option: 0,
             padding: head_lengths::PADDING as u64,
-            contexts: Contexts::none(alloc),
+            selection: Selection::none(alloc),
+            names: BTreeMap::new(alloc),
+            agreed: false,
             sizing: Sizing::none(),
+            is_structured: false,
             is_extended: false,
             replying: 0,
             has_chunks_apart: false,
@@ -93,7 +101,8 @@ impl Story {
     /// Tells those of these messages, which are all so far, that it was not told of yet. The recording has their bytes: all but who
     /// sent them is read from there, and it then has their long payloads in common with them.
     pub fn tell(&mut self, messages: &[Message]) -> Result<(), AllocError> {
-        for message in messages.get(self.told.len()..).unwrap_or(&[]) {
+        for place in self.told.len()..messages.len() {
+            let message = &messages[place];
             let told = self.begun(side_of(message));
             self.note(&told);
             let stream = self.recording.stream_mut(told.side);
@@ -129,7 +138,11 @@ impl Story {
         let data = payload_of(&self.recording, told);
         self.option = head.id;
         self.sizing = Sizing::at(head.id, data);
-        self.is_refused |= self.contexts.choose(head.id, data).is_err();
+        self.agreed = self.is_structured & self.selection.agrees(head.id, data);
+        if head.id == options::SET_META_CONTEXT {
+            self.names.clear();
+        }
+        self.is_refused |= self.selection.choose(head.id, data).is_err();
     }
 
     // The server has answered it.
@@ -141,8 +154,15 @@ impl Story {
         }
         self.is_transmission = is_granted & (head.option == options::GO);
         self.is_extended |= is_granted & (head.option == options::EXTENDED_HEADERS);
+        self.is_structured |= is_granted & (head.option == options::STRUCTURED_REPLY);
+        self.is_structured |= self.is_extended;
         self.sizing = self.sizing.after(head.kind, data);
-        self.is_refused |= self.contexts.answer(told, head, data).is_err();
+        if head.option == options::SET_META_CONTEXT {
+            if let (answers::META_CONTEXT, Some((id, _))) = (head.kind, context_of(data)) {
+                self.is_refused |= self.names.insert(id, *told).is_err();
+            }
+            self.is_refused |= self.selection.told(head.kind, data).is_err();
+        }
     }
 
     // A request has come. DISC has no number. Where memory was refused it is not known whether a client should send it.
@@ -150,8 +170,6 @@ impl Story {
         if told.number == 0 {
             return;
         }
-        let asking = self.asking(head, self.behind(told));
-        self.is_refused |= asking.is_err();
         let mut request = NO_REQUEST;
         request.number = told.number;
         request.head = *head;
@@ -159,8 +177,9 @@ impl Story {
         request.payload = told.payload;
         request.first = told.first;
         request.last = told.last;
-        if let Ok(asking) = &asking {
-            request.proper = is_proper(self.export, asking, head);
+        match self.asking(head, self.behind(told)) {
+            Ok(asking) => request.proper = is_proper(self.export, &asking, head),
+            Err(_) => self.is_refused = true,
         }
         self.has_chunks_apart |= self.replying != 0;
         self.is_refused |= self.requests.push(request).is_err();
