@@ -61,14 +61,15 @@ impl Story {
     // Those of them of which its reply has no status, with this chunk.
     fn missing(&self, chunk: &Told, request: &Request) -> Result<BTreeSet<u32>, AllocError> {
         let mut missing = self.asked(request)?;
-        if let Some(id) = self.status_id(chunk) {
-            missing.remove(&id);
+        let status = self.status_in(chunk);
+        if status.count() != 0 {
+            missing.remove(&status.id);
         }
         for message in &self.told {
-            match self.status_id(message) {
-                Some(id) if message.answers(request.number) => missing.remove(&id),
-                _ => false,
-            };
+            let status = self.status_in(message);
+            if message.answers(request.number) & (status.count() != 0) {
+                missing.remove(&status.id);
+            }
         }
         Ok(missing)
     }
@@ -165,13 +166,18 @@ impl Text {
         let (_, ids) = filter.unwrap_or((0, &[] as &[u8]));
         for number in 0..count_of_ids(ids) {
             let id = id_in(ids, number);
-            let words = match (story.has_context(id), seen.insert(id)) {
-                (true, Ok(true)) => continue,
-                (true, Ok(false)) => "wrong: its filter asks context {context} twice\n",
-                (true, Err(_)) => return self.refused_if(true),
-                (false, _) => "wrong: its filter asks context {context}, which is not in force\n",
-            };
-            return self.number(words, u64::from(id));
+            if !story.has_context(id) {
+                let words = "wrong: its filter asks context {context}, which is not in force\n";
+                return self.number(words, u64::from(id));
+            }
+            match seen.insert(id) {
+                Ok(true) => {}
+                Ok(false) => {
+                    let words = "wrong: its filter asks context {context} twice\n";
+                    return self.number(words, u64::from(id));
+                }
+                Err(_) => return self.refused_if(true),
+            }
         }
         self
     }

@@ -152,20 +152,11 @@ impl Story {
         &NO_MESSAGE
     }
 
-    /// The id of the context of a status chunk.
-    pub fn status_id(&self, chunk: &Told) -> Option<u32> {
-        let status = self.status_in(chunk);
-        if status.count() == 0 {
-            None
-        } else {
-            Some(status.id)
-        }
-    }
-
     /// Whether the reply to the request with this number has a status of a context.
     pub fn is_told(&self, id: u32, number: u64) -> bool {
         for message in &self.told {
-            if message.answers(number) && self.status_id(message) == Some(id) {
+            let status = self.status_in(message);
+            if message.answers(number) & (status.count() != 0) & (status.id == id) {
                 return true;
             }
         }

@@ -189,23 +189,23 @@ impl Story {
     // A message of a reply has come; after the last one its cookie is free.
     fn answer(&mut self, told: &Told, cookie: u64, is_last: bool) {
         let asked = self.request(self.requests.len() as u64).last;
-        if let Some(request) = self.requests.get_mut(told.number.wrapping_sub(1) as usize) {
-            let read = u64::from(request.head.command == commands::READ);
-            if request.replied == 0 {
-                request.replied = told.first;
-                request.due = told.first;
-                self.replying = self.replying.saturating_add(read);
-            }
-            if request.error == 0 {
-                request.error = told.error;
-            }
-            if is_last {
-                request.finished = told.last;
-                self.replying = self.replying.saturating_sub(read);
-            }
-            self.has_chunks_apart |= (read != 0) & (asked > request.replied);
+        let place = told.number.wrapping_sub(1) as usize;
+        let Some(request) = self.requests.get_mut(place) else {
+            return;
+        };
+        let read = u64::from(request.head.command == commands::READ);
+        if request.replied == 0 {
+            request.replied = told.first;
+            request.due = told.first;
+            self.replying = self.replying.saturating_add(read);
         }
+        if request.error == 0 {
+            request.error = told.error;
+        }
+        self.has_chunks_apart |= (read != 0) & (asked > request.replied);
         if is_last {
+            request.finished = told.last;
+            self.replying = self.replying.saturating_sub(read);
             self.outstanding.remove(&cookie);
         }
     }
