@@ -3,8 +3,8 @@
 use crate::explanation::Sources;
 use crate::story::Story;
 use crate::stream::bytes_behind;
-use crate::told::{EMPTY, Request, Told, between, common, end_of, part_in};
-use nbd_export::{Contents, Extents, HeldPart, Kind, Start};
+use crate::told::{Request, Told, between, common, end_of, part_in};
+use nbd_export::{Contents, Extents, HeldPart, Start};
 use nbd_state::{ends_by, is_change};
 use nbd_wire::{Part, Side, commands};
 use std::alloc::AllocError;
@@ -30,11 +30,6 @@ impl<'a> Brought<'a> {
 }
 
 impl Story {
-    // An export of which nothing is known, as large as can be.
-    fn unknown(&self) -> Result<Extents, AllocError> {
-        Extents::new(self.alloc(), u64::MAX, Start::Unknown)
-    }
-
     // What a change leaves in a part of its range.
     fn left_in(&self, part: Part, change: &Request) -> HeldPart<'_> {
         match change.head.command {
@@ -71,13 +66,12 @@ impl Story {
 
     /// The first bytes of a READ that its reply does not bring, with the refused chunk.
     pub fn unread(&self, chunk: &Told, read: &Request) -> Result<Part, AllocError> {
-        let mut brought = self.unknown()?;
-        let mut is_refused = lay(&mut brought, chunk.part, HeldPart::Zeroes).is_err();
+        let mut brought = Vec::new(self.alloc());
+        let mut is_refused = add(&mut brought, chunk.part);
         for told in &self.told {
-            let part = told.content_to(read.number);
-            is_refused |= lay(&mut brought, part, HeldPart::Zeroes).is_err();
+            is_refused |= add(&mut brought, told.content_to(read.number));
         }
-        gap(&brought, read.range(), is_refused)
+        gap(&mut brought, read.range(), is_refused)
     }
 }
 
@@ -128,13 +122,12 @@ impl Sources<'_> {
 
     /// The first bytes of a part of the request with this number that no entry serves.
     pub fn unserved(&self, number: u64, part: Part) -> Result<Part, AllocError> {
-        let mut served = self.story.unknown()?;
+        let mut served = Vec::new(self.story.alloc());
         let mut is_refused = false;
         for entry in self.order {
-            let one = common(part_in(entry, number), part);
-            is_refused |= lay(&mut served, one, HeldPart::Zeroes).is_err();
+            is_refused |= add(&mut served, part_in(entry, number));
         }
-        gap(&served, part, is_refused)
+        gap(&mut served, part, is_refused)
     }
 }
 
@@ -151,25 +144,27 @@ fn lay(contents: &mut Extents, part: Part, held: HeldPart<'_>) -> Result<(), All
     }
 }
 
-// The first bytes of a part that are not known, where no memory was refused for what is; none where all are.
-fn gap(contents: &Extents, part: Part, is_refused: bool) -> Result<Part, AllocError> {
-    let end = end_of(part).min(contents.size());
+// Adds where a part begins and ends, if it has a byte; answers whether memory was refused for that.
+fn add(parts: &mut Vec<(u64, u64)>, part: Part) -> bool {
+    part.length != 0 && parts.push((part.offset, end_of(part))).is_err()
+}
+
+// The first bytes of a part that none of others has, where no memory was refused for these; none where they have all.
+fn gap(others: &mut [(u64, u64)], part: Part, is_refused: bool) -> Result<Part, AllocError> {
+    others.sort_unstable();
     let mut at = part.offset;
-    let mut found = EMPTY;
-    for _ in 0..contents.ranges() {
-        if (at >= end) | (found.length != 0) {
+    let mut next = end_of(part);
+    for (offset, end) in others.iter() {
+        if *offset > at {
+            next = next.min(*offset);
             break;
         }
-        let (kind, next) = contents.range_at(at);
-        if kind == Kind::Unknown {
-            found = between(at, next.min(end));
-        }
-        at = next;
+        at = at.max(*end);
     }
     if is_refused {
         Err(AllocError)
     } else {
-        Ok(found)
+        Ok(between(at, next))
     }
 }
 
