@@ -3,14 +3,11 @@
 use crate::story::Story;
 use crate::text::Text;
 use crate::told::{Form, Request, Told};
-use nbd_state::{Asking, Selection};
+use nbd_state::Asking;
 use nbd_wire::flags::has;
-use nbd_wire::{
-    AnswerHead, RequestHead, answers, bytes_in, command_flags, commands, context_of, filter_of,
-    first_id, options,
-};
-use std::alloc::{AllocError, Global};
-use std::collections::{BTreeMap, BTreeSet};
+use nbd_wire::{RequestHead, bytes_in, command_flags, commands, context_of, filter_of, first_id};
+use std::alloc::AllocError;
+use std::collections::BTreeSet;
 
 /// How many descriptors of a status chunk are listed, and how many contexts.
 pub const LISTED: u64 = 8;
@@ -18,72 +15,17 @@ pub const LISTED: u64 = 8;
 /// How many bytes of a longer name are told, so that it costs no more each time than a message.
 const NAMED: usize = 64;
 
-/// What the negotiation said of metadata contexts.
-#[derive(Drop)]
-pub struct Contexts {
-    /// What the last SET_META_CONTEXT selected.
-    pub selection: Selection,
-    /// The answers that named these contexts, by their ids.
-    names: BTreeMap<u32, Told>,
-    /// Structured replies are in force.
-    pub structured: bool,
-    /// In transmission: the selection is in force.
-    pub agreed: bool,
-}
-
-impl Contexts {
-    /// Before the first option; takes no memory.
-    pub fn none(alloc: Global) -> Contexts {
-        Contexts {
-            selection: Selection::none(alloc),
-            names: BTreeMap::new(alloc),
-            structured: false,
-            agreed: false,
-        }
-    }
-
-    /// Whether one is in force.
-    pub fn are_in_force(&self) -> bool {
+impl Story {
+    /// Whether a metadata context is in force.
+    pub fn has_contexts(&self) -> bool {
         self.agreed & !self.selection.is_empty()
     }
 
     /// Whether the one with this id is.
-    pub fn has(&self, id: u32) -> bool {
+    pub fn has_context(&self, id: u32) -> bool {
         self.agreed & self.selection.has_id(id)
     }
 
-    /// The client has chosen an option with these data.
-    pub fn choose(&mut self, option: u32, data: &[u8]) -> Result<(), AllocError> {
-        self.agreed = self.structured & self.selection.agrees(option, data);
-        if option == options::SET_META_CONTEXT {
-            self.names.clear();
-        }
-        self.selection.choose(option, data)
-    }
-
-    /// The server has answered it with these data.
-    pub fn answer(
-        &mut self,
-        told: &Told,
-        head: &AnswerHead,
-        data: &[u8],
-    ) -> Result<(), AllocError> {
-        match (head.option, head.kind, context_of(data)) {
-            (options::STRUCTURED_REPLY | options::EXTENDED_HEADERS, answers::ACK, _) => {
-                self.structured = true;
-                return Ok(());
-            }
-            (options::SET_META_CONTEXT, answers::META_CONTEXT, Some((id, _))) => {
-                self.names.insert(id, *told)?;
-            }
-            (options::SET_META_CONTEXT, _, _) => {}
-            _ => return Ok(()),
-        }
-        self.selection.told(head.kind, data)
-    }
-}
-
-impl Story {
     /// The filter of a request that has come whole, if it has one: the length of its range in bytes, and the bytes of the ids that it asks.
     pub fn filter_in(&self, told: &Told) -> Option<(u64, &[u8])> {
         let payload = self.behind(told);
@@ -99,7 +41,7 @@ impl Story {
     pub fn filter_of<'a>(&self, head: &RequestHead, payload: &'a [u8]) -> Option<(u64, &'a [u8])> {
         let is_flagged = head.extended & has(head.flags, command_flags::PAYLOAD_LEN);
         let is_status = head.command == commands::BLOCK_STATUS;
-        if is_flagged & is_status & self.contexts.are_in_force() {
+        if is_flagged & is_status & self.has_contexts() {
             filter_of(payload)
         } else {
             None
@@ -112,31 +54,31 @@ impl Story {
         if asking.told.filtered {
             Ok(asking.told.ids)
         } else {
-            self.contexts.selection.ids.clone()
+            self.selection.ids.clone()
         }
     }
 
     // Those of them of which its reply has no status, with this chunk.
     fn missing(&self, chunk: &Told, request: &Request) -> Result<BTreeSet<u32>, AllocError> {
         let mut missing = self.asked(request)?;
-        if let Some(id) = self.status_id(chunk) {
-            missing.remove(&id);
+        let status = self.status_in(chunk);
+        if status.count() != 0 {
+            missing.remove(&status.id);
         }
         for message in &self.told {
-            match self.status_id(message) {
-                Some(id) if message.answers(request.number) => missing.remove(&id),
-                _ => false,
-            };
+            let status = self.status_in(message);
+            if message.answers(request.number) & (status.count() != 0) {
+                missing.remove(&status.id);
+            }
         }
         Ok(missing)
     }
 
     /// What a request with this head and payload asks of the export.
     pub fn asking(&self, head: &RequestHead, payload: &[u8]) -> Result<Asking, AllocError> {
-        let (contexts, flags) = (&self.contexts, self.export.flags);
-        contexts
-            .selection
-            .asking(self.alloc(), contexts.agreed, flags, head, payload)
+        let flags = self.export.flags;
+        self.selection
+            .asking(self.alloc(), self.agreed, flags, head, payload)
     }
 
     /// Whether a request asks the context in force with this id.
@@ -169,7 +111,7 @@ fn id_in(ids: &[u8], number: u64) -> u32 {
 impl Text {
     /// A context by its name, if the last SET_META_CONTEXT selected it, and its id: `base:allocation (1)`.
     pub fn context(self, words: &str, id: u32, story: &Story) -> Text {
-        match story.contexts.names.get(&id) {
+        match story.names.get(&id) {
             Some(told) => self.context_in(words, story.behind(told)),
             None => self.say(words).number("context {context}", u64::from(id)),
         }
@@ -224,13 +166,18 @@ impl Text {
         let (_, ids) = filter.unwrap_or((0, &[] as &[u8]));
         for number in 0..count_of_ids(ids) {
             let id = id_in(ids, number);
-            let words = match (story.contexts.has(id), seen.insert(id)) {
-                (true, Ok(true)) => continue,
-                (true, Ok(false)) => "wrong: its filter asks context {context} twice\n",
-                (true, Err(_)) => return self.refused_if(true),
-                (false, _) => "wrong: its filter asks context {context}, which is not in force\n",
-            };
-            return self.number(words, u64::from(id));
+            if !story.has_context(id) {
+                let words = "wrong: its filter asks context {context}, which is not in force\n";
+                return self.number(words, u64::from(id));
+            }
+            match seen.insert(id) {
+                Ok(true) => {}
+                Ok(false) => {
+                    let words = "wrong: its filter asks context {context} twice\n";
+                    return self.number(words, u64::from(id));
+                }
+                Err(_) => return self.refused_if(true),
+            }
         }
         self
     }

@@ -35,11 +35,13 @@ impl<'a> Compared<'a> {
         let request = sources.story.request(entry.request);
         let inside = request.inside(sources.story.export.size);
         let part = entry.part.unwrap_or(inside);
+        let mut held = sources.at_first()?;
+        sources.lay_changes(&mut held, place, part)?;
         Ok(Compared {
             place,
             request,
             part,
-            held: sources.held(place, part)?,
+            held,
         })
     }
 
@@ -154,10 +156,11 @@ impl Text {
             offset: found.first,
             length: rest.min(SHOWN),
         };
-        let (among, came) = if compared.request.is_status() {
-            (" called zero", "  called  ")
+        let is_status = compared.request.is_status();
+        let came = if is_status {
+            "  called  "
         } else {
-            ("", "  came    ")
+            "  came    "
         };
         let places = if found.count == 1 {
             ", at offset {first}\nfrom offset {first}:\n"
@@ -166,7 +169,7 @@ impl Text {
         };
         let words = "differ: {count} of {length:byte}";
         self.fill(words, &[found.count, found.among])
-            .say(among)
+            .say_if(is_status, " called zero")
             .fill(places, &[found.first, found.last, found.first])
             .say(came)
             .row(shown, compared, true, story)

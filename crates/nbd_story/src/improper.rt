@@ -5,32 +5,44 @@ use crate::text::Text;
 use crate::told::Request;
 use nbd_state::{ends_by, has_range, is_change, is_outside};
 use nbd_wire::command_flags::{DF, FAST_ZERO, FUA, NO_HOLE, PAYLOAD_LEN, REQ_ONE};
+use nbd_wire::commands::{BLOCK_STATUS, DISC, FLUSH, READ, TRIM, WRITE, WRITE_ZEROES};
 use nbd_wire::flags::{has, has_only};
-use nbd_wire::names::{Name, name_in};
 use nbd_wire::transmission::{
     BLOCK_STATUS_PAYLOAD, READ_ONLY, SEND_DF, SEND_FAST_ZERO, SEND_FLUSH, SEND_FUA, SEND_TRIM,
     SEND_WRITE_ZEROES,
 };
-use nbd_wire::{Profile, RequestHead, Sizes, commands, flag_names, sizes_for};
+use nbd_wire::{Profile, RequestHead, Sizes, sizes_for};
 
 /// How many of them are listed.
 const LISTED: u64 = 10;
 
-/// The types that an export offers by a flag of its own (proto.md, "Transmission flags").
-const OFFERED: &[(u16, u16)] = &[
-    (commands::FLUSH, SEND_FLUSH),
-    (commands::TRIM, SEND_TRIM),
-    (commands::WRITE_ZEROES, SEND_WRITE_ZEROES),
+/// What an export has to allow (proto.md, "Command flags", "Transmission flags"): a flag of requests, 0 of those without one too; a
+/// type, and whether those of any other type are meant; and the flag by which the export allows it, 0 where none does.
+const ALLOWED: [(u16, u16, bool, u16); 10] = [
+    (0, FLUSH, false, SEND_FLUSH),
+    (0, TRIM, false, SEND_TRIM),
+    (0, WRITE_ZEROES, false, SEND_WRITE_ZEROES),
+    (FUA, DISC, true, SEND_FUA),
+    (NO_HOLE, WRITE_ZEROES, true, 0),
+    (DF, READ, true, 0),
+    (DF, READ, false, SEND_DF),
+    (REQ_ONE, BLOCK_STATUS, true, 0),
+    (FAST_ZERO, WRITE_ZEROES, true, 0),
+    (FAST_ZERO, WRITE_ZEROES, false, SEND_FAST_ZERO),
 ];
 
-/// A flag of requests, the type of those that may carry it, where not all may, and the flag of an export that allows it; 0 where none
-/// has to (proto.md, "Command flags", "Transmission flags").
-const CARRIED: &[(u16, Option<u16>, u16)] = &[
-    (FUA, None, SEND_FUA),
-    (NO_HOLE, Some(commands::WRITE_ZEROES), 0),
-    (DF, Some(commands::READ), SEND_DF),
-    (REQ_ONE, Some(commands::BLOCK_STATUS), 0),
-    (FAST_ZERO, Some(commands::WRITE_ZEROES), SEND_FAST_ZERO),
+/// What is wrong where one of these is not allowed.
+const REASONS: [&str; 10] = [
+    "the export does not offer FLUSH: it lacks SEND_FLUSH",
+    "the export does not offer TRIM: it lacks SEND_TRIM",
+    "the export does not offer WRITE_ZEROES: it lacks SEND_WRITE_ZEROES",
+    "it carries FUA, and the export lacks SEND_FUA",
+    "it carries NO_HOLE, which only a WRITE_ZEROES may",
+    "it carries DF, which only a READ may",
+    "it carries DF, and the export lacks SEND_DF",
+    "it carries REQ_ONE, which only a BLOCK_STATUS may",
+    "it carries FAST_ZERO, which only a WRITE_ZEROES may",
+    "it carries FAST_ZERO, and the export lacks SEND_FAST_ZERO",
 ];
 
 /// The flags of a request that proto.md has and nbdcheck follows; with an extended header PAYLOAD_LEN is one too.
@@ -39,6 +51,19 @@ const FLAGS: u16 = FUA | NO_HOLE | DF | REQ_ONE | FAST_ZERO;
 /// Why a request of another type is not sent.
 const UNKNOWN_TYPE: &str = "its type is none of READ, WRITE, FLUSH, TRIM, CACHE and WRITE_ZEROES";
 
+const FLUSH_OF_RANGE: &str = "a FLUSH has neither an offset nor a length";
+
+const UNKNOWN_FLAG: &str =
+    "it carries a flag that is none of FUA, NO_HOLE, DF, REQ_ONE and FAST_ZERO";
+
+/// Why one has no PAYLOAD_LEN, or not this payload.
+const UNALLOWED_PAYLOAD: &str = "it carries PAYLOAD_LEN, and the export lacks BLOCK_STATUS_PAYLOAD";
+
+const NO_FILTER: &str =
+    "its payload is no filter, which has a length of 8 bytes and ids of 4 bytes each";
+
+const NEEDLESS_PAYLOAD: &str = "it carries PAYLOAD_LEN, which only a WRITE and a BLOCK_STATUS may";
+
 impl Story {
     // The block sizes in force of which a request is outside, if it is; in Base no request counts as improper by them.
     fn broken_sizes(&self, head: &RequestHead) -> Option<Sizes> {
@@ -46,8 +71,8 @@ impl Story {
             Profile::Base => None,
             Profile::Wide => self.sizing.kept(),
         };
-        let kept = sizes_for(self.contexts.structured, head.command, sizes);
-        let in_force = self.contexts.are_in_force();
+        let kept = sizes_for(self.is_structured, head.command, sizes);
+        let in_force = self.has_contexts();
         if is_outside(kept, in_force, head.command, head.offset, head.length) {
             sizes
         } else {
@@ -83,7 +108,7 @@ impl Text {
             .end()
             .improper(request, story);
         match story.broken_sizes(&request.head) {
-            Some(sizes) => text.unfit(&request.head, sizes, story.contexts.structured),
+            Some(sizes) => text.unfit(&request.head, sizes, story.is_structured),
             None => text,
         }
     }
@@ -94,8 +119,8 @@ impl Text {
         let is_askew = !head.offset.is_multiple_of(least);
         let is_odd = !head.length.is_multiple_of(least);
         let has_payload = match head.command {
-            commands::READ => !structured,
-            command => command == commands::WRITE,
+            READ => !structured,
+            command => command == WRITE,
         };
         let is_long = has_payload & (head.length > largest);
         self.unfit_if(is_askew, sizes, "offset is no multiple of {unit}\n", least)
@@ -116,99 +141,59 @@ impl Text {
     pub fn improper(self, request: &Request, story: &Story) -> Text {
         let head = &request.head;
         let flags = story.export.flags;
-        if request.is_status() & !story.contexts.are_in_force() {
+        if request.is_status() & !story.has_contexts() {
             return self.wrong(match story.profile {
                 Profile::Base => UNKNOWN_TYPE,
                 Profile::Wide => "it asks for a status, and no metadata context is in force",
             });
         }
         self.beyond(head, story.export.size)
-            .not_offered(head.command, flags)
-            .wrong_flags(head, flags)
+            .not_allowed(head, flags)
             .wrong_type(head, has(flags, READ_ONLY))
             .wrong_payload(request, story)
     }
 
-    // That an export with these flags does not offer the type, where that is so.
-    fn not_offered(self, command: u16, flags: u16) -> Text {
+    // What of the type and the flags of a request an export with these flags does not allow.
+    fn not_allowed(self, head: &RequestHead, flags: u16) -> Text {
         let mut text = self;
-        for (offered, by) in OFFERED {
-            if (*offered == command) & !has(flags, *by) {
-                text = text
-                    .say("wrong: the export does not offer ")
-                    .command(command)
-                    .line(": it lacks ", name_of(flag_names::TRANSMISSION, *by));
-            }
+        for row in 0..ALLOWED.len() {
+            let (flag, command, is_other, by) = ALLOWED[row];
+            let is_carried = (flag == 0) | has(head.flags, flag);
+            let is_meant = (command == head.command) != is_other;
+            text = text.wrong_if(is_carried & is_meant & !has(flags, by), REASONS[row]);
         }
         text
     }
 
-    // Which flags a request carries that only others may, or that an export with these flags does not allow.
-    fn wrong_flags(self, head: &RequestHead, flags: u16) -> Text {
-        let mut text = self;
-        for (flag, by, needs) in CARRIED {
-            text = match *by {
-                _ if !has(head.flags, *flag) => text,
-                Some(command) if command != head.command => text
-                    .carries(*flag)
-                    .say(", which only a ")
-                    .command(command)
-                    .say(" may\n"),
-                _ if has_only(u32::from(*needs), u32::from(flags)) => text,
-                _ => text.carries(*flag).line(
-                    ", and the export lacks ",
-                    name_of(flag_names::TRANSMISSION, *needs),
-                ),
-            };
-        }
-        text
-    }
-
-    fn carries(self, flag: u16) -> Text {
-        self.say("wrong: it carries ")
-            .say(name_of(flag_names::COMMAND, flag))
+    // Why no request of this type and form, or with such flags, is sent to an export.
+    fn wrong_type(self, head: &RequestHead, is_read_only: bool) -> Text {
+        let is_flush = head.command == FLUSH;
+        let is_changing = is_read_only & is_change(head.command);
+        let own = if head.extended { PAYLOAD_LEN } else { 0 };
+        let is_known = has_only(u32::from(head.flags), u32::from(FLAGS | own));
+        self.wrong_if(is_flush & (head.offset | head.length != 0), FLUSH_OF_RANGE)
+            .wrong_if(
+                is_changing,
+                "it changes an export that is read-only: it has READ_ONLY",
+            )
+            .wrong_if(!is_flush & !has_range(head.command), UNKNOWN_TYPE)
+            .wrong_if(!is_known, UNKNOWN_FLAG)
     }
 
     // Why no request with an extended header has PAYLOAD_LEN and this payload.
     fn wrong_payload(self, request: &Request, story: &Story) -> Text {
         let head = &request.head;
         let is_flagged = head.extended & has(head.flags, PAYLOAD_LEN);
-        match head.command {
-            commands::BLOCK_STATUS if is_flagged => self
-                .wrong_if(
-                    !has(story.export.flags, BLOCK_STATUS_PAYLOAD),
-                    "it carries PAYLOAD_LEN, and the export lacks BLOCK_STATUS_PAYLOAD",
-                )
-                .wrong_if(
-                    story.filter_of(head, story.payload(request)).is_none(),
-                    "its payload is no filter, which has a length of 8 bytes and ids of 4 bytes each",
-                )
-                .bad_filter(request, story),
-            commands::WRITE => self,
-            _ => self.wrong_if(
-                is_flagged,
-                "it carries PAYLOAD_LEN, which only a WRITE and a BLOCK_STATUS may",
-            ),
-        }
-    }
-
-    // Why no request of this type and form, or with such flags, is sent to an export.
-    fn wrong_type(self, head: &RequestHead, is_read_only: bool) -> Text {
-        let is_flush = head.command == commands::FLUSH;
-        let own = if head.extended { PAYLOAD_LEN } else { 0 };
-        self.wrong_if(
-            is_flush & (head.offset | head.length != 0),
-            "a FLUSH has neither an offset nor a length",
-        )
-        .wrong_if(
-            is_read_only & is_change(head.command),
-            "it changes an export that is read-only: it has READ_ONLY",
-        )
-        .wrong_if(!is_flush & !has_range(head.command), UNKNOWN_TYPE)
-        .wrong_if(
-            !has_only(u32::from(head.flags), u32::from(FLAGS | own)),
-            "it carries a flag that is none of FUA, NO_HOLE, DF, REQ_ONE and FAST_ZERO",
-        )
+        let is_status = is_flagged & request.is_status();
+        let is_allowed = has(story.export.flags, BLOCK_STATUS_PAYLOAD);
+        let filter = story.filter_of(head, story.payload(request));
+        self.wrong_if(is_status & !is_allowed, UNALLOWED_PAYLOAD)
+            .wrong_if(is_status & filter.is_none(), NO_FILTER)
+            .bad_filter(request, story)
+            .wrong_if(
+                is_flagged & !request.is_status() & (head.command != WRITE),
+                NEEDLESS_PAYLOAD,
+            )
     }
 
     // A range that passes the end of an export of this size, and by how much, where 64 bits hold that.
@@ -226,9 +211,4 @@ impl Text {
             None => text.number("more than {past} bytes\n", u64::MAX),
         }
     }
-}
-
-// The name of a flag.
-fn name_of(table: &[Name], flag: u16) -> &'static str {
-    name_in(table, u32::from(flag)).unwrap_or("")
 }

@@ -2,12 +2,12 @@
 
 use crate::explanation::Sources;
 use crate::story::Story;
-use crate::told::{EMPTY, Request, Told, between, common, end_of, part_in};
-use nbd_export::{Contents, Extents, HeldPart, Kind, Start};
+use crate::stream::bytes_behind;
+use crate::told::{Request, Told, between, common, end_of, part_in};
+use nbd_export::{Contents, Extents, HeldPart, Start};
 use nbd_state::{ends_by, is_change};
 use nbd_wire::{Part, Side, commands};
 use std::alloc::AllocError;
-use std::rc::Rc;
 
 /// A part of the export, and what a request got of it.
 #[derive(Clone, Copy)]
@@ -22,7 +22,7 @@ impl<'a> Brought<'a> {
         match self.held {
             HeldPart::Bytes(bytes) => {
                 let skipped = offset.saturating_sub(self.part.offset) as usize;
-                HeldPart::Bytes(bytes.get(skipped..).unwrap_or(&[]))
+                HeldPart::Bytes(bytes_behind(bytes, skipped))
             }
             held => held,
         }
@@ -30,11 +30,6 @@ impl<'a> Brought<'a> {
 }
 
 impl Story {
-    // An export of which nothing is known, as large as can be.
-    fn unknown(&self) -> Result<Extents, AllocError> {
-        Extents::new(self.alloc(), u64::MAX, Start::Unknown)
-    }
-
     // What a change leaves in a part of its range.
     fn left_in(&self, part: Part, change: &Request) -> HeldPart<'_> {
         match change.head.command {
@@ -50,7 +45,11 @@ impl Story {
 
     /// The byte that a change left at an offset, where that is known.
     pub fn byte_by(&self, change: &Request, offset: u64) -> Option<u8> {
-        first_of(self.left_in(Part { offset, length: 1 }, change))
+        match self.left_in(Part { offset, length: 1 }, change) {
+            HeldPart::Unknown => None,
+            HeldPart::Zeroes => Some(0),
+            HeldPart::Bytes(bytes) => bytes.first().copied(),
+        }
     }
 
     /// What a message brings of a part.
@@ -67,13 +66,12 @@ impl Story {
 
     /// The first bytes of a READ that its reply does not bring, with the refused chunk.
     pub fn unread(&self, chunk: &Told, read: &Request) -> Result<Part, AllocError> {
-        let mut brought = self.unknown()?;
-        let mut is_refused = lay(&mut brought, chunk.part, HeldPart::Zeroes).is_err();
+        let mut brought = Vec::new(self.alloc());
+        let mut is_refused = add(&mut brought, chunk.part);
         for told in &self.told {
-            let part = told.content_to(read.number);
-            is_refused |= lay(&mut brought, part, HeldPart::Zeroes).is_err();
+            is_refused |= add(&mut brought, told.content_to(read.number));
         }
-        gap(&brought, read.range(), is_refused)
+        gap(&mut brought, read.range(), is_refused)
     }
 }
 
@@ -88,35 +86,28 @@ impl Sources<'_> {
         }
     }
 
-    // What it held at first.
-    fn at_first(&self) -> Result<Extents, AllocError> {
+    /// What it held at first.
+    pub fn at_first(&self) -> Result<Extents, AllocError> {
+        let alloc = self.story.alloc();
         match self.start {
-            Some(Start::Zeroes) => Extents::new(self.story.alloc(), u64::MAX, Start::Zeroes),
-            Some(Start::Image(image)) => self.of_image(image.clone()?),
-            Some(Start::Contents(contents)) => self.of_contents(contents.clone()?),
-            _ => self.story.unknown(),
+            Some(Start::Zeroes) => Extents::new(alloc, u64::MAX, Start::Zeroes),
+            Some(Start::Image(image)) => {
+                Extents::new(alloc, image.len() as u64, Start::Image(image.clone()?))
+            }
+            Some(Start::Contents(contents)) => {
+                Extents::new(alloc, contents.size(), Start::Contents(contents.clone()?))
+            }
+            _ => Extents::new(alloc, u64::MAX, Start::Unknown),
         }
     }
 
-    fn of_image(&self, image: Rc<Vec<u8>>) -> Result<Extents, AllocError> {
-        let size = image.len() as u64;
-        Extents::new(self.story.alloc(), size, Start::Image(image))
-    }
-
-    fn of_contents(&self, contents: Rc<Extents>) -> Result<Extents, AllocError> {
-        let size = contents.size();
-        Extents::new(self.story.alloc(), size, Start::Contents(contents))
-    }
-
-    /// What a part held before the entry at a place of the order.
-    pub fn held(&self, place: usize, part: Part) -> Result<Extents, AllocError> {
-        let mut held = self.at_first()?;
-        self.lay_changes(&mut held, place, part)?;
-        Ok(held)
-    }
-
-    // Lays the changes of a part before that entry over what was held.
-    fn lay_changes(&self, held: &mut Extents, place: usize, part: Part) -> Result<(), AllocError> {
+    /// Lays the changes of a part before the entry at a place of the order over what was held.
+    pub fn lay_changes(
+        &self,
+        held: &mut Extents,
+        place: usize,
+        part: Part,
+    ) -> Result<(), AllocError> {
         for at in 0..place.min(self.order.len()) {
             let entry = &self.order[at];
             let change = self.story.request(entry.request);
@@ -131,13 +122,12 @@ impl Sources<'_> {
 
     /// The first bytes of a part of the request with this number that no entry serves.
     pub fn unserved(&self, number: u64, part: Part) -> Result<Part, AllocError> {
-        let mut served = self.story.unknown()?;
+        let mut served = Vec::new(self.story.alloc());
         let mut is_refused = false;
         for entry in self.order {
-            let one = common(part_in(entry, number), part);
-            is_refused |= lay(&mut served, one, HeldPart::Zeroes).is_err();
+            is_refused |= add(&mut served, part_in(entry, number));
         }
-        gap(&served, part, is_refused)
+        gap(&mut served, part, is_refused)
     }
 }
 
@@ -154,34 +144,27 @@ fn lay(contents: &mut Extents, part: Part, held: HeldPart<'_>) -> Result<(), All
     }
 }
 
-// The first bytes of a part that are not known, where no memory was refused for what is; none where all are.
-fn gap(contents: &Extents, part: Part, is_refused: bool) -> Result<Part, AllocError> {
-    let end = end_of(part).min(contents.size());
+// Adds where a part begins and ends, if it has a byte; answers whether memory was refused for that.
+fn add(parts: &mut Vec<(u64, u64)>, part: Part) -> bool {
+    part.length != 0 && parts.push((part.offset, end_of(part))).is_err()
+}
+
+// The first bytes of a part that none of others has, where no memory was refused for these; none where they have all.
+fn gap(others: &mut [(u64, u64)], part: Part, is_refused: bool) -> Result<Part, AllocError> {
+    others.sort_unstable();
     let mut at = part.offset;
-    let mut found = EMPTY;
-    for _ in 0..contents.ranges() {
-        if (at >= end) | (found.length != 0) {
+    let mut next = end_of(part);
+    for (offset, end) in others.iter() {
+        if *offset > at {
+            next = next.min(*offset);
             break;
         }
-        let (kind, next) = contents.range_at(at);
-        if kind == Kind::Unknown {
-            found = between(at, next.min(end));
-        }
-        at = next;
+        at = at.max(*end);
     }
     if is_refused {
         Err(AllocError)
     } else {
-        Ok(found)
-    }
-}
-
-/// The first byte of what is held, where it is known.
-pub fn first_of(held: HeldPart<'_>) -> Option<u8> {
-    match held {
-        HeldPart::Unknown => None,
-        HeldPart::Zeroes => Some(0),
-        HeldPart::Bytes(bytes) => bytes.first().copied(),
+        Ok(between(at, next))
     }
 }
 

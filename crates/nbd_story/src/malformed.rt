@@ -7,6 +7,20 @@ use crate::told::{Form, Told};
 use nbd_wire::limits::{LEAST_SIZE, PREFERRED_SIZE};
 use nbd_wire::{Side, Sizes, WireFault, answers, infos, listed_of, options, sizes_of};
 
+/// A name whose length is not there whole, or passes the end of the data.
+const SHORT_NAME: &str =
+    "wrong: the data ends within the length of the name, 4 bytes from byte {first} on\n";
+
+const BAD_NAME: &str =
+    "wrong: at byte {first} the name has the length {length}, and the bytes behind that are {there}\n";
+
+/// A count of infos that is not there whole, or does not fit the bytes behind it.
+const SHORT_INFOS: &str =
+    "wrong: the data ends within the count of infos, 2 bytes from byte {first} on\n";
+
+const BAD_INFOS: &str =
+    "wrong: at byte {first} the count of infos is {count}, of 2 bytes each, and the bytes behind that are {there}\n";
+
 impl Text {
     /// Adds which part of its form an option lacks that was granted, or a refused reply to an option.
     pub fn negotiation_reason(self, fault: WireFault, told: &Told, story: &Story) -> Text {
@@ -35,42 +49,25 @@ impl Text {
             }
         };
         match listed_of(data) {
-            None => text.bad_name(data, first),
+            None => text.bad_count(data, first, 4, SHORT_NAME, BAD_NAME),
             Some((_, rest)) => {
                 let name = (data.len() as u64).saturating_sub(rest.len() as u64);
                 let place = first.saturating_add(name);
                 if has_queries {
                     text.bad_queries(rest, place)
                 } else {
-                    text.bad_infos(rest, place)
+                    text.bad_count(rest, place, 2, SHORT_INFOS, BAD_INFOS)
                 }
             }
         }
     }
 
-    // A name whose length is not there whole, or passes the end of the data.
-    fn bad_name(self, data: &[u8], first: u64) -> Text {
-        let length = number_in(data, 0, 4);
-        let words = if data.len() < 4 {
-            "wrong: the data ends within the length of the name, 4 bytes from byte {first} on\n"
-        } else {
-            "wrong: at byte {first} the name has the length {length}, and the bytes behind that are {there}\n"
-        };
-        self.fill(
-            words,
-            &[first, length, (data.len() as u64).saturating_sub(4)],
-        )
-    }
-
-    // A count of infos that is not there whole, or does not fit the bytes behind it.
-    fn bad_infos(self, data: &[u8], first: u64) -> Text {
-        let words = if data.len() < 2 {
-            "wrong: the data ends within the count of infos, 2 bytes from byte {first} on\n"
-        } else {
-            "wrong: at byte {first} the count of infos is {count}, of 2 bytes each, and the bytes behind that are {there}\n"
-        };
-        let there = (data.len() as u64).saturating_sub(2);
-        self.fill(words, &[first, number_in(data, 0, 2), there])
+    // A length or a count, of so many bytes, that is not there whole, or does not fit the bytes behind it.
+    fn bad_count(self, data: &[u8], first: u64, size: u64, short: &str, other: &str) -> Text {
+        let length = data.len() as u64;
+        let words = if length < size { short } else { other };
+        let count = number_in(data, 0, size);
+        self.fill(words, &[first, count, length.saturating_sub(size)])
     }
 
     // A count of queries that is not there whole, the first query that is not, or the bytes behind the last one.
@@ -108,7 +105,7 @@ impl Text {
     // A reply to an option that has not its form; of block sizes each that no server may announce.
     fn bad_reply(self, kind: u32, data: &[u8], first: u64) -> Text {
         match (kind, sizes_of(data)) {
-            (answers::SERVER, _) => self.bad_name(data, first),
+            (answers::SERVER, _) => self.bad_count(data, first, 4, SHORT_NAME, BAD_NAME),
             (answers::INFO, Some(sizes)) => self.bad_sizes(sizes),
             (answers::INFO, None) => self.wrong(info_reason(data)),
             (answers::META_CONTEXT, _) if data.len() < 4 => {

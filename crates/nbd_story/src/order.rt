@@ -8,7 +8,7 @@ use crate::told::{Request, common, has_offset, meet, outside, part_in};
 use nbd_wire::{Entry, OrderFault, Part, Profile};
 use std::alloc::AllocError;
 
-/// Where a fault may be none.
+/// Where a fault is of when a request was due, which can be at another moment in the profile `Wide`.
 const IN_WIDE: &str =
     "wide: each message of a READ's reply is served by itself there, so this may be no fault; try --profile wide\n";
 
@@ -16,9 +16,14 @@ impl Text {
     /// Adds what is wrong with this entry of the order, counted from 1, or of Missing and NotCovered with this request.
     pub fn order_fault(self, entry: u64, fault: OrderFault, sources: &Sources<'_>) -> Text {
         let request = sources.story.request(entry);
+        let is_due = matches!(
+            fault,
+            OrderFault::Late | OrderFault::Missing | OrderFault::NotCovered
+        );
+        let is_base = sources.story.profile == Profile::Base;
         let text = self
             .rule(&order_rule(fault), "the order that was given")
-            .say_if(is_wider(fault, sources.story), IN_WIDE);
+            .say_if(is_due & is_base & sources.story.has_chunks_apart(), IN_WIDE);
         match fault {
             OrderFault::Missing => text.moments("no entry: ", request),
             OrderFault::NotCovered => text
@@ -126,16 +131,6 @@ impl Text {
             "wrong: the part has offset {offset}, which lies outside the request's range\n"
         };
         self.fill_if(rest.length != 0, words, &[rest.offset])
-    }
-}
-
-// Whether a fault is one of when a request was due, and that can be at another moment in the profile `Wide`.
-fn is_wider(fault: OrderFault, story: &Story) -> bool {
-    match fault {
-        OrderFault::Late | OrderFault::Missing | OrderFault::NotCovered => {
-            (story.profile == Profile::Base) & story.has_chunks_apart()
-        }
-        _ => false,
     }
 }
 

@@ -122,11 +122,16 @@ impl Story {
         let payload = front(self.behind(told), head.length as usize);
         told.number = self.answered(head.cookie).number;
         if let Some(content) = content_of(head.kind, payload) {
-            let (offset, length) = match content {
-                Content::Bytes { offset, bytes } => (offset, bytes.len() as u64),
-                Content::Hole { offset, size } => (offset, size),
+            told.part = match content {
+                Content::Bytes { offset, bytes } => Part {
+                    offset,
+                    length: bytes.len() as u64,
+                },
+                Content::Hole { offset, size } => Part {
+                    offset,
+                    length: size,
+                },
             };
-            told.part = Part { offset, length };
         }
         if let Some(failure) = failure_of(read_as(self.profile, head.kind), payload) {
             told.error = failure.error;
@@ -142,15 +147,17 @@ fn front(bytes: &[u8], length: usize) -> &[u8] {
 
 // A request, by whether extended headers are in force. A payload follows a WRITE, and where its extended header says so.
 fn request(is_extended: bool, bytes: &[u8]) -> Begun {
-    let (length, head) = if is_extended {
-        let head = extended_request_head(front(bytes, EXTENDED_REQUEST))?;
-        (EXTENDED_REQUEST, head)
+    let (head, length) = if is_extended {
+        (
+            extended_request_head(front(bytes, EXTENDED_REQUEST)),
+            EXTENDED_REQUEST,
+        )
     } else {
-        (REQUEST, request_head(front(bytes, REQUEST))?)
+        (request_head(front(bytes, REQUEST)), REQUEST)
     };
-    let payload = if is_extended && carries_payload(head.flags, head.command)
-        || head.command == commands::WRITE
-    {
+    let head = head?;
+    let is_carrying = is_extended & carries_payload(head.flags, head.command);
+    let payload = if is_carrying | (head.command == commands::WRITE) {
         head.length
     } else {
         0
@@ -160,13 +167,13 @@ fn request(is_extended: bool, bytes: &[u8]) -> Begun {
 
 // A chunk, by whether extended headers are in force.
 fn chunk(is_extended: bool, bytes: &[u8]) -> Begun {
-    let (length, head) = if is_extended {
+    if is_extended {
         let head = extended_chunk_head(front(bytes, EXTENDED_CHUNK))?;
-        (EXTENDED_CHUNK, head)
+        Some((Form::Chunk(head), EXTENDED_CHUNK, head.length))
     } else {
-        (CHUNK, chunk_head(front(bytes, CHUNK))?)
-    };
-    Some((Form::Chunk(head), length, head.length))
+        let head = chunk_head(front(bytes, CHUNK))?;
+        Some((Form::Chunk(head), CHUNK, head.length))
+    }
 }
 
 /// The number that so many bytes from an index on are; of bytes that are not there all, 0.

@@ -16,6 +16,12 @@ const SHORT_STATUS: &str =
 const WIDE_STATUS: &str =
     "the payload of a status has an id and the number of its descriptors, of 4 bytes each, and so many descriptors of 16 bytes, at least one";
 
+/// Each byte of an export: content of a READ with DF may share none of them with other content.
+const EACH: Part = Part {
+    offset: 0,
+    length: u64::MAX,
+};
+
 impl Text {
     /// Adds what is wrong.
     pub fn wrong(self, reason: &str) -> Text {
@@ -29,9 +35,14 @@ impl Text {
 
     /// Adds why a chunk with content, or with the offset of an error, does not fit its request, and the content that it rivals.
     pub fn bad_content(self, told: &Told, request: &Request, story: &Story) -> Text {
-        let number = request.number;
         let status = story.status_in(told);
-        let before = bringer(&story.told, number, rivalled(told.part, request));
+        let is_rivalling_all = has(request.head.flags, command_flags::DF);
+        let rivalled = if is_rivalling_all & (told.part.length != 0) {
+            EACH
+        } else {
+            told.part
+        };
+        let before = bringer(&story.told, request.number, rivalled);
         let reason = if status.count() != 0 {
             status_reason(status.id, request, story)
         } else if told.part.length != 0 {
@@ -76,7 +87,7 @@ pub fn form_reason(head: &ChunkHead, payload: &[u8], story: &Story) -> &'static 
 
 // Why a status chunk has not its form: these words where its payload has a wrong length.
 fn status_form(is_odd: bool, words: &'static str, story: &Story) -> &'static str {
-    if !story.contexts.are_in_force() {
+    if !story.has_contexts() {
         "it gives a status, and no metadata context is in force"
     } else if is_odd {
         words
@@ -102,7 +113,7 @@ fn failure_reason(kind: u16, payload: &[u8]) -> &'static str {
 fn status_reason(id: u32, request: &Request, story: &Story) -> &'static str {
     if !request.is_status() {
         "a status answers only a BLOCK_STATUS"
-    } else if !story.contexts.has(id) {
+    } else if !story.has_context(id) {
         "no metadata context in force has its id"
     } else if !story.asks(request, id) {
         "the filter of the request does not ask its context"
@@ -125,17 +136,5 @@ fn misplaced(part: Part, request: &Request, before: &Told) -> &'static str {
         "the content shares an offset with content before it"
     } else {
         "the READ has DF, so it gets one piece, and this is a second one"
-    }
-}
-
-// What other content may not share with this part of a READ: with DF any offset.
-fn rivalled(part: Part, request: &Request) -> Part {
-    if (part.length != 0) & has(request.head.flags, command_flags::DF) {
-        Part {
-            offset: 0,
-            length: u64::MAX,
-        }
-    } else {
-        part
     }
 }

@@ -9,7 +9,6 @@ use crate::text::Text;
 use crate::told::Request;
 use nbd_state::is_change;
 use nbd_wire::Part;
-use std::alloc::AllocError;
 
 /// The most requests whose states are told.
 const MOST: usize = 64;
@@ -23,18 +22,6 @@ struct Party {
     request: Request,
     /// What it left at the offset, where that is known, or got for it.
     byte: Option<u8>,
-}
-
-// The changes of a refutation, and behind them its READs.
-fn parties(contest: &Contest<'_>, sources: &Sources<'_>) -> Result<Vec<Party>, AllocError> {
-    let mut parties = Vec::new(sources.story.alloc());
-    let is_refused = add_parties(&mut parties, contest.changes, contest.offset, sources.story)
-        | add_parties(&mut parties, contest.reads, contest.offset, sources.story);
-    if is_refused {
-        Err(AllocError)
-    } else {
-        Ok(parties)
-    }
 }
 
 // Adds the requests with these numbers; answers whether memory was refused for one.
@@ -70,11 +57,11 @@ impl Text {
         if contest.changes.len().saturating_add(contest.reads.len()) > MOST {
             return self.say("states: not told of more than 64 requests\n");
         }
-        let Ok(parties) = parties(contest, sources) else {
-            return self.refused_if(true);
-        };
+        let mut parties = Vec::new(sources.story.alloc());
+        let is_refused = add_parties(&mut parties, contest.changes, contest.offset, sources.story)
+            | add_parties(&mut parties, contest.reads, contest.offset, sources.story);
         let count = contest.states.len();
-        let mut text = self.say(
+        let mut text = self.refused_if(is_refused).say(
             "states: a change that is next leads to a state that has it, where nothing that is next got its byte; no state has all that got one\n",
         );
         for place in 0..count.min(LISTED) {

@@ -2,6 +2,7 @@
 
 use crate::contexts::LISTED;
 use crate::story::Story;
+use crate::stream::bytes_behind;
 use crate::text::Text;
 use crate::told::{EMPTY, Form, NO_MESSAGE, Told, common, end_of, has_offset};
 use nbd_wire::flags::has_long;
@@ -57,7 +58,7 @@ impl Status<'_> {
     /// The first descriptor, or the one behind another.
     pub fn after(&self, last: &Descriptor) -> Descriptor {
         let from = last.number.saturating_mul(self.length()) as usize;
-        match first_extent(self.extended, self.bytes.get(from..).unwrap_or(&[])) {
+        match first_extent(self.extended, bytes_behind(self.bytes, from)) {
             Some((extent, _)) => Descriptor {
                 number: last.number.saturating_add(1),
                 part: Part {
@@ -108,54 +109,54 @@ impl Status<'_> {
 impl Story {
     /// What a status chunk says; of another message nothing.
     pub fn status_in<'a>(&'a self, chunk: &'a Told) -> Status<'a> {
-        let payload = self.behind(chunk);
-        let (extended, read) = match chunk.form {
-            Form::Chunk(head) => match (head.at, head.kind) {
-                (Some(_), chunks::BLOCK_STATUS_EXT) => (true, status_ext_of(payload)),
-                (None, chunks::BLOCK_STATUS) => (false, status_of(payload)),
-                _ => (false, None),
-            },
-            _ => (false, None),
-        };
-        let (id, bytes) = read.unwrap_or((0, &[] as &[u8]));
-        Status {
-            id,
+        let mut status = Status {
+            id: 0,
             chunk,
-            extended,
-            bytes,
+            extended: false,
+            bytes: &[],
             range: self.request(chunk.number).range(),
+        };
+        if let Form::Chunk(head) = chunk.form {
+            let payload = self.behind(chunk);
+            let is_extended = head.at.is_some();
+            let read = match head.kind {
+                chunks::BLOCK_STATUS_EXT if is_extended => status_ext_of(payload),
+                chunks::BLOCK_STATUS if !is_extended => status_of(payload),
+                _ => None,
+            };
+            if let Some((id, bytes)) = read {
+                status.id = id;
+                status.extended = is_extended;
+                status.bytes = bytes;
+            }
         }
+        status
     }
 
     /// What the request with this number calls zero, if it is a BLOCK_STATUS whose reply begins with a status of `base:allocation`.
     pub fn zeroes_of(&self, number: u64) -> Status<'_> {
-        let mut first = &NO_MESSAGE;
-        for message in self.told.iter().rev() {
-            if message.answers(number) {
-                first = message;
-            }
-        }
-        let mut status = self.status_in(first);
-        if !self.contexts.selection.is_allocation(status.id) {
+        let mut status = self.status_in(self.first_answer(number));
+        if !self.selection.is_allocation(status.id) {
             status.bytes = &[];
         }
         status
     }
 
-    /// The id of the context of a status chunk.
-    pub fn status_id(&self, chunk: &Told) -> Option<u32> {
-        let status = self.status_in(chunk);
-        if status.count() == 0 {
-            None
-        } else {
-            Some(status.id)
+    // The first message of the reply to the request with this number, if there is one.
+    fn first_answer(&self, number: u64) -> &Told {
+        for message in &self.told {
+            if message.answers(number) {
+                return message;
+            }
         }
+        &NO_MESSAGE
     }
 
     /// Whether the reply to the request with this number has a status of a context.
     pub fn is_told(&self, id: u32, number: u64) -> bool {
         for message in &self.told {
-            if message.answers(number) && self.status_id(message) == Some(id) {
+            let status = self.status_in(message);
+            if message.answers(number) & (status.count() != 0) & (status.id == id) {
                 return true;
             }
         }
@@ -171,7 +172,7 @@ impl Text {
         if count == 0 {
             return self;
         }
-        let is_allocation = story.contexts.selection.is_allocation(status.id);
+        let is_allocation = story.selection.is_allocation(status.id);
         let mut text = self.context(", ", status.id, story);
         let mut mark = ": ";
         let mut one = NO_DESCRIPTOR;

@@ -1,16 +1,15 @@
 //! The messages of a session with their places, and what became of its requests.
 
 use crate::content::bringer;
-use crate::contexts::Contexts;
 use crate::explanation::Sources;
 use crate::recording::Recording;
 use crate::told::{Form, NO_REQUEST, Request, Told};
 use nbd_export::Start;
-use nbd_state::{Export, is_proper};
+use nbd_state::{Export, Selection, is_proper};
 use nbd_wire::flags::{has, has_wide};
 use nbd_wire::{
     AnswerHead, Bytes, ChoiceHead, Entry, Info, Message, Part, Profile, RequestHead, Side, Sizing,
-    answers, chunks, commands, handshake, head_lengths, info_of, options, side_of,
+    answers, chunks, commands, context_of, handshake, head_lengths, info_of, options, side_of,
 };
 use std::alloc::{AllocError, Global};
 use std::collections::BTreeMap;
@@ -36,12 +35,22 @@ pub struct Story {
     pub option: u32,
     /// How many zeroes the answer to EXPORT_NAME ends with.
     pub padding: u64,
-    /// What was said of metadata contexts.
-    pub contexts: Contexts,
+    /// What the last SET_META_CONTEXT selected.
+    pub selection: Selection,
+    /// The answers that named these contexts, by their ids.
+    pub names: BTreeMap<u32, Told>,
+    /// In transmission: the selection is in force.
+    pub agreed: bool,
     /// What was said of block sizes.
     pub sizing: Sizing,
+    /// Structured replies are in force.
+    pub is_structured: bool,
     /// Extended headers are in force.
     pub is_extended: bool,
+    /// How many READs are outstanding whose reply has begun.
+    replying: u64,
+    /// A request came whole behind the first byte of a READ's reply and before its last one.
+    has_chunks_apart: bool,
     /// What is told of it has the names of numbers.
     pub is_marked: bool,
     /// Memory was refused for something of this.
@@ -62,9 +71,14 @@ impl Story {
             is_transmission: false,
             option: 0,
             padding: head_lengths::PADDING as u64,
-            contexts: Contexts::none(alloc),
+            selection: Selection::none(alloc),
+            names: BTreeMap::new(alloc),
+            agreed: false,
             sizing: Sizing::none(),
+            is_structured: false,
             is_extended: false,
+            replying: 0,
+            has_chunks_apart: false,
             is_marked,
             is_refused: false,
         }
@@ -87,7 +101,8 @@ impl Story {
     /// Tells those of these messages, which are all so far, that it was not told of yet. The recording has their bytes: all but who
     /// sent them is read from there, and it then has their long payloads in common with them.
     pub fn tell(&mut self, messages: &[Message]) -> Result<(), AllocError> {
-        for message in messages.get(self.told.len()..).unwrap_or(&[]) {
+        for place in self.told.len()..messages.len() {
+            let message = &messages[place];
             let told = self.begun(side_of(message));
             self.note(&told);
             let stream = self.recording.stream_mut(told.side);
@@ -123,7 +138,11 @@ impl Story {
         let data = payload_of(&self.recording, told);
         self.option = head.id;
         self.sizing = Sizing::at(head.id, data);
-        self.is_refused |= self.contexts.choose(head.id, data).is_err();
+        self.agreed = self.is_structured & self.selection.agrees(head.id, data);
+        if head.id == options::SET_META_CONTEXT {
+            self.names.clear();
+        }
+        self.is_refused |= self.selection.choose(head.id, data).is_err();
     }
 
     // The server has answered it.
@@ -135,8 +154,15 @@ impl Story {
         }
         self.is_transmission = is_granted & (head.option == options::GO);
         self.is_extended |= is_granted & (head.option == options::EXTENDED_HEADERS);
+        self.is_structured |= is_granted & (head.option == options::STRUCTURED_REPLY);
+        self.is_structured |= self.is_extended;
         self.sizing = self.sizing.after(head.kind, data);
-        self.is_refused |= self.contexts.answer(told, head, data).is_err();
+        if head.option == options::SET_META_CONTEXT {
+            if let (answers::META_CONTEXT, Some((id, _))) = (head.kind, context_of(data)) {
+                self.is_refused |= self.names.insert(id, *told).is_err();
+            }
+            self.is_refused |= self.selection.told(head.kind, data).is_err();
+        }
     }
 
     // A request has come. DISC has no number. Where memory was refused it is not known whether a client should send it.
@@ -144,8 +170,6 @@ impl Story {
         if told.number == 0 {
             return;
         }
-        let asking = self.asking(head, self.behind(told));
-        self.is_refused |= asking.is_err();
         let mut request = NO_REQUEST;
         request.number = told.number;
         request.head = *head;
@@ -153,28 +177,35 @@ impl Story {
         request.payload = told.payload;
         request.first = told.first;
         request.last = told.last;
-        if let Ok(asking) = &asking {
-            request.proper = is_proper(self.export, asking, head);
+        match self.asking(head, self.behind(told)) {
+            Ok(asking) => request.proper = is_proper(self.export, &asking, head),
+            Err(_) => self.is_refused = true,
         }
+        self.has_chunks_apart |= self.replying != 0;
         self.is_refused |= self.requests.push(request).is_err();
         self.is_refused |= self.outstanding.insert(head.cookie, told.number).is_err();
     }
 
     // A message of a reply has come; after the last one its cookie is free.
     fn answer(&mut self, told: &Told, cookie: u64, is_last: bool) {
-        if let Some(request) = self.requests.get_mut(told.number.wrapping_sub(1) as usize) {
-            if request.replied == 0 {
-                request.replied = told.first;
-                request.due = told.first;
-            }
-            if request.error == 0 {
-                request.error = told.error;
-            }
-            if is_last {
-                request.finished = told.last;
-            }
+        let asked = self.request(self.requests.len() as u64).last;
+        let place = told.number.wrapping_sub(1) as usize;
+        let Some(request) = self.requests.get_mut(place) else {
+            return;
+        };
+        let read = u64::from(request.head.command == commands::READ);
+        if request.replied == 0 {
+            request.replied = told.first;
+            request.due = told.first;
+            self.replying = self.replying.saturating_add(read);
         }
+        if request.error == 0 {
+            request.error = told.error;
+        }
+        self.has_chunks_apart |= (read != 0) & (asked > request.replied);
         if is_last {
+            request.finished = told.last;
+            self.replying = self.replying.saturating_sub(read);
             self.outstanding.remove(&cookie);
         }
     }
@@ -219,17 +250,7 @@ impl Story {
     /// Whether a request came whole behind the first byte of a READ's reply and before its last one. Without that the profile `Wide`
     /// serves each READ as `Base` does.
     pub fn has_chunks_apart(&self) -> bool {
-        for read in &self.requests {
-            let replied = read.replied;
-            let next = self.requests.partition_point(|one| one.last < replied);
-            let one = self.requests.get(next).unwrap_or(&NO_REQUEST);
-            let is_around = (read.finished == 0) | (one.last < read.finished);
-            let is_answered = (read.head.command == commands::READ) & (replied != 0);
-            if is_answered & one.is_there() & is_around {
-                return true;
-            }
-        }
-        false
+        self.has_chunks_apart
     }
 
     /// The outstanding request with this cookie.

@@ -61,18 +61,18 @@ impl Stream {
 
     /// Takes the first so many bytes behind the messages for the next one, which ends with this payload.
     pub fn tell(&mut self, length: u64, payload: Option<&Bytes>) -> Result<(), AllocError> {
-        match payload {
-            Some(payload) if payload.as_slice().len() >= LONG => self.carry(length, payload)?,
-            _ => self.keep(length)?,
-        }
+        let kept = match payload {
+            Some(payload) if payload.as_slice().len() >= LONG => self.carry(length, payload),
+            _ => self.keep(length),
+        };
         self.from = self.from.saturating_add(length as usize);
         self.told = self.told.saturating_add(length);
-        Ok(())
+        kept
     }
 
     // Keeps the first so many bytes behind the messages.
     fn keep(&mut self, count: u64) -> Result<(), AllocError> {
-        let open = self.open.get(self.from..).unwrap_or(&[]);
+        let open = bytes_behind(&self.open, self.from);
         self.kept
             .extend_from_slice(open.get(..count as usize).unwrap_or(open))
     }
@@ -91,9 +91,7 @@ impl Stream {
 
     // The bytes behind the messages that have so many of these before them.
     fn behind(&self, count: u64) -> &[u8] {
-        self.open
-            .get(self.from.saturating_add(count as usize)..)
-            .unwrap_or(&[])
+        bytes_behind(&self.open, self.from.saturating_add(count as usize))
     }
 
     /// The bytes that have so many of this side before them, as far as they stand together: up to a message's long payload, up to its
@@ -123,7 +121,7 @@ impl Stream {
         let payload = carried.payload.as_slice();
         match count.checked_sub(payload.len() as u64) {
             Some(behind) => self.kept_within(carried.kept.saturating_add(behind), end),
-            None => payload.get(count as usize..).unwrap_or(&[]),
+            None => bytes_behind(payload, count as usize),
         }
     }
 
@@ -131,4 +129,9 @@ impl Stream {
     fn kept_within(&self, from: u64, end: usize) -> &[u8] {
         self.kept.get(from as usize..end).unwrap_or(&[])
     }
+}
+
+/// The bytes from an index on; none where there are not so many.
+pub fn bytes_behind(bytes: &[u8], from: usize) -> &[u8] {
+    bytes.get(from..).unwrap_or(&[])
 }

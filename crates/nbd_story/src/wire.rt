@@ -4,6 +4,7 @@ use crate::rules::{Breaker, Rule, wire_rule};
 use crate::story::Story;
 use crate::text::Text;
 use crate::told::{Form, NO_MESSAGE, Told};
+use nbd_wire::names::{Name, name_in};
 use nbd_wire::{Profile, Side, WireFault, head_lengths, options};
 
 /// Who broke a rule where a request was answered before it was whole.
@@ -26,11 +27,38 @@ const OF_READ: &str =
 
 const SHOULD: &str = "the client, a SHOULD";
 
-/// What metadata contexts are for, and in which profile they are followed.
-const CONTEXTS: &str = "metadata contexts, which block status needs";
+/// What an option is for that a server may grant and nbdcheck does not follow in some profile; which profile goes further, where the other
+/// one does; and how its client or its server is told to do without.
+const EXTENSIONS: &[Name] = &[
+    (
+        options::STARTTLS,
+        "TLS\n\
+        record without TLS: a client of nbd: in place of nbds:, qemu without tls-creds, nbdkit --tls=off",
+    ),
+    (
+        options::LIST_META_CONTEXT,
+        "metadata contexts, which block status needs\n\
+        try --profile wide, which follows metadata contexts and block status; or \n\
+        record without listing contexts: nbdinfo --size, nbdsh without opt_list_meta_context; qemu-nbd --list always asks",
+    ),
+    (
+        options::SET_META_CONTEXT,
+        "metadata contexts, which block status needs\n\
+        try --profile wide, which follows metadata contexts and block status; or \n\
+        record without block status: nbdsh without --base-allocation and add_meta_context, nbdcopy --no-extents; qemu always asks, \
+        so serve without structured replies: nbdkit --no-sr",
+    ),
+    (
+        options::EXTENDED_HEADERS,
+        "extended headers, of 64 bits\n\
+        try --profile wide, which follows extended headers; or \n\
+        record without them: in libnbd h.set_request_extended_headers(False), or a server that has none",
+    ),
+];
 
-const CONTEXTS_IN_WIDE: &str =
-    "try --profile wide, which follows metadata contexts and block status; or ";
+/// The same of another option.
+const EXTENSION: &str = "an extension that nbdcheck has no name for\n\
+    record with a client that does not ask for it, or a server that refuses it";
 
 /// What of a message with an extended header nbdcheck does not follow: how a session is recorded without it.
 const BEYOND: &str = "record requests and chunks whose payload has at most 4294967295 bytes";
@@ -76,7 +104,9 @@ impl Text {
         if story.is_transmission {
             return self.line("instead: ", BEYOND);
         }
-        let (purpose, wider, advice) = extension_of(story.option);
+        let words = name_in(EXTENSIONS, story.option).unwrap_or(EXTENSION);
+        let (purpose, behind) = words.split_once("\n").unwrap_or((words, ""));
+        let (wider, advice) = behind.split_once("\n").unwrap_or(("", behind));
         self.say("granted: ")
             .option(story.option)
             .line(", for ", purpose)
@@ -115,19 +145,15 @@ impl Text {
     fn headless(self, side: Side, taken: u64, is_bad: bool, story: &Story) -> Text {
         let before = story.count(side);
         let last = before.saturating_add(taken).saturating_sub(1);
-        let words = match (side, is_bad) {
-            (Side::Client, true) =>
-                "message: {length:byte} of the client, which begin no message; ",
-            (Side::Server, true) =>
-                "message: {length:byte} of the server, which begin no message; ",
-            (Side::Client, false) =>
-                "message: {length:byte} of the client, no whole head of a message; ",
-            (Side::Server, false) =>
-                "message: {length:byte} of the server, no whole head of a message; ",
+        let words = if is_bad {
+            ", which begin no message; "
+        } else {
+            ", no whole head of a message; "
         };
         let first = story.recording.place(side, before);
-        self.number(words, taken)
-            .places("", first, story.recording.place(side, last))
+        self.number("message: {length:byte} of ", taken)
+            .say(breaker_name(Breaker::Sender, Some(side)))
+            .places(words, first, story.recording.place(side, last))
             .end()
             .say_if(is_bad, magic_of(side, story))
     }
@@ -189,37 +215,5 @@ fn breaker_name(breaker: Breaker, sender: Option<Side>) -> &'static str {
         (Breaker::Client, _) | (Breaker::Sender, Some(Side::Client)) => "the client",
         (Breaker::Nobody, _) => "nobody, where the recording was cut off; else the sender",
         _ => "the server",
-    }
-}
-
-// What an option is for that a server may grant and nbdcheck does not follow in some profile; which profile goes further, where the other
-// one does; and how its client or its server is told to do without.
-fn extension_of(option: u32) -> (&'static str, &'static str, &'static str) {
-    match option {
-        options::STARTTLS => (
-            "TLS",
-            "",
-            "record without TLS: a client of nbd: in place of nbds:, qemu without tls-creds, nbdkit --tls=off",
-        ),
-        options::LIST_META_CONTEXT => (
-            CONTEXTS,
-            CONTEXTS_IN_WIDE,
-            "record without listing contexts: nbdinfo --size, nbdsh without opt_list_meta_context; qemu-nbd --list always asks",
-        ),
-        options::SET_META_CONTEXT => (
-            CONTEXTS,
-            CONTEXTS_IN_WIDE,
-            "record without block status: nbdsh without --base-allocation and add_meta_context, nbdcopy --no-extents; qemu always asks, so serve without structured replies: nbdkit --no-sr",
-        ),
-        options::EXTENDED_HEADERS => (
-            "extended headers, of 64 bits",
-            "try --profile wide, which follows extended headers; or ",
-            "record without them: in libnbd h.set_request_extended_headers(False), or a server that has none",
-        ),
-        _ => (
-            "an extension that nbdcheck has no name for",
-            "",
-            "record with a client that does not ask for it, or a server that refuses it",
-        ),
     }
 }
