@@ -5,7 +5,7 @@ use crate::text::Text;
 use crate::told::Request;
 use nbd_state::{ends_by, has_range, is_change, is_outside};
 use nbd_wire::command_flags::{DF, FAST_ZERO, FUA, NO_HOLE, PAYLOAD_LEN, REQ_ONE};
-use nbd_wire::commands::{BLOCK_STATUS, DISC, FLUSH, READ, TRIM, WRITE, WRITE_ZEROES};
+use nbd_wire::commands::{BLOCK_STATUS, FLUSH, READ, TRIM, WRITE, WRITE_ZEROES};
 use nbd_wire::flags::{has, has_only};
 use nbd_wire::transmission::{
     BLOCK_STATUS_PAYLOAD, READ_ONLY, SEND_DF, SEND_FAST_ZERO, SEND_FLUSH, SEND_FUA, SEND_TRIM,
@@ -16,33 +16,87 @@ use nbd_wire::{Profile, RequestHead, Sizes, sizes_for};
 /// How many of them are listed.
 const LISTED: u64 = 10;
 
-/// What an export has to allow (proto.md, "Command flags", "Transmission flags"): a flag of requests, 0 of those without one too; a
-/// type, and whether those of any other type are meant; and the flag by which the export allows it, 0 where none does.
-const ALLOWED: [(u16, u16, bool, u16); 10] = [
-    (0, FLUSH, false, SEND_FLUSH),
-    (0, TRIM, false, SEND_TRIM),
-    (0, WRITE_ZEROES, false, SEND_WRITE_ZEROES),
-    (FUA, DISC, true, SEND_FUA),
-    (NO_HOLE, WRITE_ZEROES, true, 0),
-    (DF, READ, true, 0),
-    (DF, READ, false, SEND_DF),
-    (REQ_ONE, BLOCK_STATUS, true, 0),
-    (FAST_ZERO, WRITE_ZEROES, true, 0),
-    (FAST_ZERO, WRITE_ZEROES, false, SEND_FAST_ZERO),
-];
+/// Which types are meant.
+#[derive(Clone, Copy)]
+enum Types {
+    All,
+    Only(u16),
+    AllBut(u16),
+}
 
-/// What is wrong where one of these is not allowed.
-const REASONS: [&str; 10] = [
-    "the export does not offer FLUSH: it lacks SEND_FLUSH",
-    "the export does not offer TRIM: it lacks SEND_TRIM",
-    "the export does not offer WRITE_ZEROES: it lacks SEND_WRITE_ZEROES",
-    "it carries FUA, and the export lacks SEND_FUA",
-    "it carries NO_HOLE, which only a WRITE_ZEROES may",
-    "it carries DF, which only a READ may",
-    "it carries DF, and the export lacks SEND_DF",
-    "it carries REQ_ONE, which only a BLOCK_STATUS may",
-    "it carries FAST_ZERO, which only a WRITE_ZEROES may",
-    "it carries FAST_ZERO, and the export lacks SEND_FAST_ZERO",
+impl Types {
+    fn have(self, command: u16) -> bool {
+        match self {
+            Types::All => true,
+            Types::Only(one) => command == one,
+            Types::AllBut(one) => command != one,
+        }
+    }
+}
+
+/// What not every export or not every type allows (proto.md, "Command flags", "Transmission flags"): a flag that a request carries, or 0
+/// where it need carry none; the types that are meant; the flag by which an export allows it, 0 where none does; and what is wrong else.
+const BANS: [(u16, Types, u16, &str); 10] = [
+    (
+        0,
+        Types::Only(FLUSH),
+        SEND_FLUSH,
+        "the export does not offer FLUSH: it lacks SEND_FLUSH",
+    ),
+    (
+        0,
+        Types::Only(TRIM),
+        SEND_TRIM,
+        "the export does not offer TRIM: it lacks SEND_TRIM",
+    ),
+    (
+        0,
+        Types::Only(WRITE_ZEROES),
+        SEND_WRITE_ZEROES,
+        "the export does not offer WRITE_ZEROES: it lacks SEND_WRITE_ZEROES",
+    ),
+    (
+        FUA,
+        Types::All,
+        SEND_FUA,
+        "it carries FUA, and the export lacks SEND_FUA",
+    ),
+    (
+        NO_HOLE,
+        Types::AllBut(WRITE_ZEROES),
+        0,
+        "it carries NO_HOLE, which only a WRITE_ZEROES may",
+    ),
+    (
+        DF,
+        Types::AllBut(READ),
+        0,
+        "it carries DF, which only a READ may",
+    ),
+    (
+        DF,
+        Types::Only(READ),
+        SEND_DF,
+        "it carries DF, and the export lacks SEND_DF",
+    ),
+    (
+        REQ_ONE,
+        Types::AllBut(BLOCK_STATUS),
+        0,
+        "it carries REQ_ONE, which only a BLOCK_STATUS may",
+    ),
+    (
+        FAST_ZERO,
+        Types::AllBut(WRITE_ZEROES),
+        0,
+        "it carries FAST_ZERO, which only a WRITE_ZEROES may",
+    ),
+    (
+        FAST_ZERO,
+        Types::Only(WRITE_ZEROES),
+        SEND_FAST_ZERO,
+        "it carries FAST_ZERO, and the export lacks SEND_FAST_ZERO",
+    ),
 ];
 
 /// The flags of a request that proto.md has and nbdcheck follows; with an extended header PAYLOAD_LEN is one too.
@@ -156,11 +210,10 @@ impl Text {
     // What of the type and the flags of a request an export with these flags does not allow.
     fn not_allowed(self, head: &RequestHead, flags: u16) -> Text {
         let mut text = self;
-        for row in 0..ALLOWED.len() {
-            let (flag, command, is_other, by) = ALLOWED[row];
-            let is_carried = (flag == 0) | has(head.flags, flag);
-            let is_meant = (command == head.command) != is_other;
-            text = text.wrong_if(is_carried & is_meant & !has(flags, by), REASONS[row]);
+        for (flag, types, by, reason) in &BANS {
+            let is_carried = (*flag == 0) | has(head.flags, *flag);
+            let is_banned = types.have(head.command) & !has(flags, *by);
+            text = text.wrong_if(is_carried & is_banned, reason);
         }
         text
     }

@@ -8,7 +8,7 @@ use crate::told::{Request, common, has_offset, meet, outside, part_in};
 use nbd_wire::{Entry, OrderFault, Part, Profile};
 use std::alloc::AllocError;
 
-/// Where a fault is of when a request was due, which can be at another moment in the profile `Wide`.
+/// Said behind a fault that hangs on when a request was due, which can be at another moment in the profile `Wide`.
 const IN_WIDE: &str =
     "wide: each message of a READ's reply is served by itself there, so this may be no fault; try --profile wide\n";
 
