@@ -299,7 +299,10 @@ class Crate:
         module = ".".join([f"Rattle.{self.name}.proofs", *parts, ""])
         for file in sorted(proof.glob("*.antt")):
             folder.mkdir(exist_ok=True)
-            (folder / file.name).write_text(file.read_text().replace(f"{module}{edit.function[1]}.", f"{module}{copy}."))
+            text = file.read_text().replace(f"{module}{edit.function[1]}.", f"{module}{copy}.")
+            # (its goals also stand among others behind `use Rattle.CRATE.proofs.{`)
+            goals = re.escape(".".join([*parts, edit.function[1], "Goals"]))
+            (folder / file.name).write_text(re.sub(rf"(?<=[ {{]){goals}\b", ".".join([*parts, copy, "Goals"]), text))
 
     def hollow(self, file, text, only):
         """A file of src/ in which only these functions have their bodies, and those of which rt ci said nothing, as copies."""

@@ -26,6 +26,10 @@ with open(os.environ["NOTES"], "a") as notes:
     assumed = {it for it in bodies if os.path.exists(f"proofs/{it}/Proof.antt")}
     if by == "prover" and assumed != (set(bodies) - set(only) if only else set()):
         notes.write(f"prover {crate} assumed {' '.join(sorted(assumed))}\n")
+    for name in bodies:
+        proof = f"proofs/{name}/Answers.antt"
+        if os.path.exists(proof) and set(re.findall(r"(\w+)\.Goals", open(proof).read())) != {name}:
+            notes.write(f"prover {crate} cites goals of another in {name}\n")
 if crate == os.environ.get("FAILS") or "unread" in bodies.values():
     sys.exit("src/lib.rt:1:1: error[parse]: what is that")
 refused = {"searched", "by_hand", "noted"} & set(bodies.values())
@@ -59,6 +63,8 @@ sys.exit(1 if bad else 0)
 """
 BODIES = {"one": "one", "two": "two", "three": "three, which calls three()"}
 LOW = "pub const LIMIT: u8 = 7;\n\n" + "\n".join(f"pub fn {name}() {{\n    right // {said}\n}}\n" for name, said in BODIES.items())
+# The proof of one of them, which names its goals in both ways.
+ANSWERS = "use Rattle.low.proofs.one.Goals as goal\nuse Rattle.low.proofs.{Lemmas.other, one.Goals.{then}}\n"
 HIGH = "pub fn main() {\n    right\n}\n"
 # What rt ci says of the two crates.
 SAID = "fn low::one: proved\nfn low::two: proved\nfn low::three: proved\nrt: low proved\nfn high::main: proved\nrt: high proved\n"
@@ -73,6 +79,8 @@ class Tree:
             (self.top / "crates" / name / "src").mkdir(parents=True)
             (self.top / "crates" / name / "src/lib.rt").write_text(text)
         (self.top / "crates/low/must-fail").mkdir()
+        (self.top / "crates/low/proofs/one").mkdir(parents=True)
+        (self.top / "crates/low/proofs/one/Answers.antt").write_text(ANSWERS)
         for name, text in edits.items():
             (self.top / f"crates/low/must-fail/{name}.edit").write_text(text)
         (self.top / "crates.txt").write_text("low: # 1\nhigh: low # 1\n")

@@ -2,7 +2,7 @@
 
 ghost use Rattle.std.specs.Prelude.{IfErr, OnOk};
 ghost use Rattle.nbd_explain.specs.{Ordering.LeavesOrdered, Shown.IsShowCause};
-ghost use Rattle.nbd_files.specs.Starts.{IsWithinLimit};
+ghost use Rattle.nbd_files.specs.{declared.fault.RunFault.TheVariants.Write, Starts.IsWithinLimit};
 
 use nbd_capture::write_whole;
 use nbd_files::RunFault;
@@ -47,16 +47,30 @@ pub fn run_lint<C: BufRead + Drop, W: Write>(
     ensures cause { IfErr result (IsShowCause (C.remaining capture)) }
     ensures left { IfErr result (LeavesOrdered (W.contents out.old) (W.contents out.new)) }
 {
-    let mut counter = Counter {
-        runs: Runs::none(alloc),
-    };
-    let session = session_over(alloc, profile, capture, &mut counter)?;
-    let report = report_of(alloc, session, &counter.runs, wanted)?;
+    let report = report_over(alloc, profile, capture, wanted)?;
     write_whole(out, report.text.as_bytes())?;
     Ok(is_kept(report.musts, report.is_refused))
 }
 
-// What is written of a session that was read whole.
+// What is written of a capture.
+fn report_over<C: BufRead + Drop>(
+    alloc: Global,
+    profile: Profile,
+    capture: C,
+    wanted: &Wanted,
+) -> Result<Report, RunFault>
+    ensures limited { OnOk result (IsWithinLimit (C.remaining capture)) }
+    ensures read { OnOk result (IsShowCause (C.remaining capture) Write) }
+    ensures cause { IfErr result (IsShowCause (C.remaining capture)) }
+{
+    let mut counter = Counter {
+        runs: Runs::none(alloc),
+    };
+    let session = session_over(alloc, profile, capture, &mut counter)?;
+    Ok(report_of(alloc, session, &counter.runs, wanted)?)
+}
+
+// The same of a session that was read whole.
 fn report_of(
     alloc: Global,
     session: Session,

@@ -31,16 +31,16 @@ pub fn form_of(message: &Message) -> Form
 pub fn numbers_of(message: &Message) -> [u64; MOST_NUMBERS]
     ensures { take (length (fields (line_form message.now))) result ≡ numbers message.now }
 {
-    match message {
-        Message::Greeting { flags } => [*flags as u64, 0, 0, 0, 0],
-        Message::ClientFlags { flags } => [*flags as u64, 0, 0, 0, 0],
-        Message::Choice { id, .. } => [*id as u64, 0, 0, 0, 0],
-        Message::Answer { option, kind, .. } => [*option as u64, *kind as u64, 0, 0, 0],
+    match *message {
+        Message::Greeting { flags } => [flags as u64, 0, 0, 0, 0],
+        Message::ClientFlags { flags } => [flags as u64, 0, 0, 0, 0],
+        Message::Choice { id, .. } => [id as u64, 0, 0, 0, 0],
+        Message::Answer { option, kind, .. } => [option as u64, kind as u64, 0, 0, 0],
         Message::Exported {
             size,
             flags,
             padded,
-        } => [*size, *flags as u64, *padded as u64, 0, 0],
+        } => [size, flags as u64, padded as u64, 0, 0],
         Message::Request {
             flags,
             command,
@@ -48,20 +48,14 @@ pub fn numbers_of(message: &Message) -> [u64; MOST_NUMBERS]
             offset,
             length,
             ..
-        } => [
-            *flags as u64,
-            *command as u64,
-            *cookie,
-            *offset,
-            *length as u64,
-        ],
-        Message::Simple { error, cookie, .. } => [*error as u64, *cookie, 0, 0, 0],
+        } => [flags as u64, command as u64, cookie, offset, length as u64],
+        Message::Simple { error, cookie, .. } => [error as u64, cookie, 0, 0, 0],
         Message::Chunk {
             flags,
             kind,
             cookie,
             ..
-        } => [*flags as u64, *kind as u64, *cookie, 0, 0],
+        } => [flags as u64, kind as u64, cookie, 0, 0],
         Message::ExtendedRequest {
             flags,
             command,
@@ -69,14 +63,14 @@ pub fn numbers_of(message: &Message) -> [u64; MOST_NUMBERS]
             offset,
             length,
             ..
-        } => [*flags as u64, *command as u64, *cookie, *offset, *length],
+        } => [flags as u64, command as u64, cookie, offset, length],
         Message::ExtendedChunk {
             flags,
             kind,
             cookie,
             offset,
             ..
-        } => [*flags as u64, *kind as u64, *cookie, *offset, 0],
+        } => [flags as u64, kind as u64, cookie, offset, 0],
     }
 }
 

@@ -64,16 +64,16 @@ fn put_off(served: &[Served], requests: &mut [Patch], work: &mut Work) -> Option
 
 /// The order in which each register has its own, and all else its moment: sorted by slots, so that no part is late on arrival.
 pub fn entries_of(requests: &[Patch], served: &[Served], work: &mut Work) -> Vec<Entry> {
-    // Up to where each is served, and the place behind its last piece: the registers of one stand by their offsets.
+    // Up to where each is served, the place of its last piece, and its moment: the registers of one stand by their offsets.
     let (mut pieces, mut ends) = (Vec::new(work.alloc), Vec::new(work.alloc));
     for one in requests {
-        work.keep(&mut ends, (one.lo, 0));
+        work.keep(&mut ends, (one.lo, NEVER, one.moment));
     }
     for register in served {
-        add_register(&mut pieces, &mut ends, requests, register, work);
+        add_register(&mut pieces, &mut ends, register, work);
     }
     for request in 1..ends.len().min(requests.len()) {
-        let (one, (end, _)) = (&requests[request], ends[request]);
+        let (one, (end, _, _)) = (&requests[request], ends[request]);
         if end < one.hi.max(one.lo.saturating_add(1)) {
             work.keep(&mut pieces, (one.moment, request, end, one.hi));
         }
@@ -85,27 +85,26 @@ pub fn entries_of(requests: &[Patch], served: &[Served], work: &mut Work) -> Vec
 // Adds what is served in a register, and what of the same requests lies before that.
 fn add_register(
     pieces: &mut Vec<Piece>,
-    ends: &mut [(u64, usize)],
-    requests: &[Patch],
+    ends: &mut [(u64, usize, Moment)],
     register: &Served,
     work: &mut Work,
 ) {
     let (mut first, lo, hi) = ((0, 0), register.lo, register.hi);
     for request in &register.requests {
-        if *request >= ends.len().min(requests.len()) {
+        if *request >= ends.len() {
             break;
         }
         first = first.max((*request, 0));
         let place = &mut ends[*request];
-        match pieces.get_mut(place.1.wrapping_sub(1)) {
+        match pieces.get_mut(place.1) {
             // It goes on with the one before, at the same moment.
             Some(last) if (last.0, last.3) == (first, lo) => last.3 = hi,
             _ => {
                 if place.0 < lo {
-                    work.keep(pieces, (requests[*request].moment, *request, place.0, lo));
+                    work.keep(pieces, (place.2, *request, place.0, lo));
                 }
-                work.keep(pieces, (first, *request, lo, hi));
                 place.1 = pieces.len();
+                work.keep(pieces, (first, *request, lo, hi));
             }
         }
         place.0 = hi;

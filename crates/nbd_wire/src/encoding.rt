@@ -38,16 +38,12 @@ fn head_of(message: &Message, size_of_tail: u32) -> Head
     requires { size_of_tail ≡ length (tail message.now) }
     ensures { result ≡ head message.now }
 {
-    match message {
-        Message::Greeting { flags } => Head::of(&greeting_bytes(*flags)),
-        Message::ClientFlags { flags } => Head::of(&client_flags_bytes(*flags)),
-        Message::Choice { id, .. } => Head::of(&choice_bytes(*id, size_of_tail)),
-        Message::Answer { option, kind, .. } => Head::of(&answer_bytes(
-            *option,
-            *kind,
-            size_of_tail,
-        )),
-        Message::Exported { size, flags, .. } => Head::of(&export_bytes(*size, *flags)),
+    match *message {
+        Message::Greeting { flags } => Head::of(&greeting_bytes(flags)),
+        Message::ClientFlags { flags } => Head::of(&client_flags_bytes(flags)),
+        Message::Choice { id, .. } => Head::of(&choice_bytes(id, size_of_tail)),
+        Message::Answer { option, kind, .. } => Head::of(&answer_bytes(option, kind, size_of_tail)),
+        Message::Exported { size, flags, .. } => Head::of(&export_bytes(size, flags)),
         Message::Request {
             flags,
             command,
@@ -55,14 +51,14 @@ fn head_of(message: &Message, size_of_tail: u32) -> Head
             offset,
             length,
             ..
-        } => Head::of(&request_bytes(*flags, *command, *cookie, *offset, *length)),
-        Message::Simple { error, cookie, .. } => Head::of(&simple_bytes(*error, *cookie)),
+        } => Head::of(&request_bytes(flags, command, cookie, offset, length)),
+        Message::Simple { error, cookie, .. } => Head::of(&simple_bytes(error, cookie)),
         Message::Chunk {
             flags,
             kind,
             cookie,
             ..
-        } => Head::of(&chunk_bytes(*flags, *kind, *cookie, size_of_tail)),
+        } => Head::of(&chunk_bytes(flags, kind, cookie, size_of_tail)),
         Message::ExtendedRequest {
             flags,
             command,
@@ -70,20 +66,14 @@ fn head_of(message: &Message, size_of_tail: u32) -> Head
             offset,
             length,
             ..
-        } => Head::of(&extended_request_bytes(*flags, *command, *cookie, *offset, *length)),
+        } => Head::of(&extended_request_bytes(flags, command, cookie, offset, length)),
         Message::ExtendedChunk {
             flags,
             kind,
             cookie,
             offset,
             ..
-        } => Head::of(&extended_chunk_bytes(
-            *flags,
-            *kind,
-            *cookie,
-            *offset,
-            u64::from(size_of_tail),
-        )),
+        } => Head::of(&extended_chunk_bytes(flags, kind, cookie, offset, u64::from(size_of_tail))),
     }
 }
 
