@@ -42,8 +42,9 @@ FUNCTION = re.compile(r"( *)(?:pub(?:\(\w+\))? )?(?:const )?fn (\w+)")
 IMPL = re.compile(r"impl(?:<.*?>)? (?:(?:\w+::)*(\w+)(?:<(\w+).*>)? for )?(\w+)")
 # A slice, as the prover writes it in a name.
 SLICE = re.compile(r"&\[(\w+)\]")
-# What is said of a proof that names what an edit took away, which says nothing of the contract.
+# What is said of a proof that names what an edit took away, which says nothing of the contract; behind a long name it begins a line.
 NAMES = re.compile("has no field|is not in scope|has no `|was not admitted")
+NAMES_BELOW = re.compile(rf"\n  (?={NAMES.pattern})")
 
 # What a check says of a function.
 FUNCTION_SAID = re.compile(r"(?m)^fn (\S+): (.*)$")
@@ -350,7 +351,7 @@ class Crate:
             (self.place / file).write_text(text)
         told = dict(FUNCTION_SAID.findall(said))
         self.told = self.told or told
-        return told, said, placed
+        return told, NAMES_BELOW.sub(" ", said), placed
 
     def say(self, edit, is_refused, what):
         """Tells what an edit came to."""

@@ -52,6 +52,7 @@ for name, body in bodies.items():
         print(f"note: src/lib.rt:{line}:5: it is not proved that the index is in bounds (`index`)")
     if body in ("named", "noted"):
         print(f"./proofs/{name}/Answers.antt:5:1: error: `returns`: `n` is not in scope")
+        print(f"./proofs/{name}/Answers.antt:6:1: error: `returns`: record `View` (nearest: `.m`)\n  has no field `n`")
     broken = name == "three" and limit == ["8"]
     print(f"fn {crate}::{name}: {'not proved' if broken else says[body]}")
 if limit == ["8"]:
