@@ -262,7 +262,7 @@ def longest_way_alone(tally, tree):
     tally.want("priorities of crates", {name: priority for name, (priority, _) in noted.items()},
                {name: str(nice) for name, nice in wanted.items()})
     tally.want("jobs of a crate beside the longest way", noted["short"][1], 1)
-    most = min(3, len(os.sched_getaffinity(0)))
+    most = min(2, len(os.sched_getaffinity(0)))
     tally.holds("jobs of the others", all(1 <= noted[name][1] <= most for name in ("low", "high", "nbdcheck")), noted)
     tally.holds("jobs with nothing beside", noted["nbdcheck"][1] == noted["low"][1] >= noted["high"][1], noted)
 
