@@ -15,6 +15,8 @@ from built import PROGRAM, TOP
 from messages import CLIENT, SERVER, begun, longest_runs, read, records_of, simple, text, write
 
 RECORD = TOP / "bin/nbdcheck-record"
+# Where the tool keeps what a test asks of it without a place of its own; goes with the tests.
+KEPT = tempfile.TemporaryDirectory(prefix="nbdcheck-kept-")
 SECONDS = 30
 MIB = 2**20
 # A WRITE and a READ of it, one after the other.
@@ -56,7 +58,7 @@ class Tool:
     """A run of nbdcheck-record, which asks `nbdcheck lint` where a test wants it."""
 
     def __init__(self, *words, limits=None, nbdcheck=PROGRAM, env_more=None, lints=False, **how):
-        env = {**os.environ, "NBDCHECK": str(nbdcheck), **(env_more or {})}
+        env = {**os.environ, "NBDCHECK": str(nbdcheck), "TMPDIR": KEPT.name, **(env_more or {})}
         how = {"stdin": subprocess.DEVNULL, "stdout": subprocess.PIPE, "stderr": subprocess.PIPE, **how}
         command = [sys.executable, str(RECORD), *([] if lints else ["--no-lint"]), *map(str, words)]
         self.process = subprocess.Popen(command, env=env, preexec_fn=limited(limits), text=True, **how)

@@ -263,8 +263,19 @@ def longest_way_alone(tally, tree):
                {name: str(nice) for name, nice in wanted.items()})
     tally.want("jobs of a crate beside the longest way", noted["short"][1], 1)
     most = min(2, len(os.sched_getaffinity(0)))
-    tally.holds("jobs of the others", all(1 <= noted[name][1] <= most for name in ("low", "high", "nbdcheck")), noted)
-    tally.holds("jobs with nothing beside", noted["nbdcheck"][1] == noted["low"][1] >= noted["high"][1], noted)
+    tally.holds("jobs of the others", all(1 <= noted[name][1] <= most for name in ("low", "high")), noted)
+    tally.holds("jobs with nothing beside", noted["low"][1] >= noted["high"][1], noted)
+    tally.want("jobs of a program", noted["nbdcheck"][1], 1)
+
+
+def many_below(tally, tree):
+    """A crate that needs more than ten others runs on one processor, also with nothing beside it."""
+    below = [f"low{number}" for number in range(11)]
+    write_crates(tree, {**{name: ([], 1) for name in below}, "high": (below, 9), "nbdcheck": (["high"], 1)})
+    (status, out, _), built = tree.run(JOBS="yes")
+    tally.want("many below", (status, out), (0, "program \n"))
+    noted = {it.split()[0]: it.split()[2] for it in built if it.split()[1].isdigit()}
+    tally.want("many below: jobs", noted["high"], "1")
 
 
 def on_a_terminal(tally, tree):
@@ -290,5 +301,5 @@ def run(tally):
         tree = Tree(folder)
         for part in (first_build, later_runs, plain_check, faster_than_told, failed_build, on_a_terminal, ended_build, two_builds):
             part(tally, tree)
-        for part in (side_by_side, longest_way_first, longest_way_alone):
+        for part in (side_by_side, longest_way_first, longest_way_alone, many_below):
             part(tally, tree)

@@ -101,7 +101,13 @@ fn told_kept(
         scope,
         progress,
     )?;
-    told_found(alloc, profile, transcript, found, kept, is_wider, story)
+    let sources = story.with(&[], kept_of(&kept));
+    let explanation = found_explanation(alloc, found, is_wider, sources);
+    let text = joined(
+        line_of(alloc, profile, transcript, found, kept),
+        explanation,
+    )?;
+    Ok((text, found_answer(found)))
 }
 
 // Whether no order explains the session in the profile `Base`, and one is found that does in `Wide`.
@@ -134,42 +140,6 @@ fn is_explained_in_wide(
     let start = copy_of(start)?;
     let found = find_order(alloc, Profile::Wide, transcript, start, scope, progress)?;
     Ok(matches!(found, Found::Order(_)))
-}
-
-// The line of what was found, and what that says, and the answer.
-fn told_found(
-    alloc: Global,
-    profile: Profile,
-    transcript: Transcript,
-    found: &Found,
-    start: Beginning,
-    is_wider: bool,
-    story: &Story,
-) -> Result<(String, Answer), AllocError>
-    ensures begins { IfOk result (λ told. BeginsWithLineOf profile transcript found.now start told.0.bytes.items) }
-    ensures answer { IfOk result (λ told. told.1 ≡ answer_to found.now) }
-{
-    let text = text_of(alloc, profile, transcript, found, start, is_wider, story)?;
-    Ok((text, found_answer(found)))
-}
-
-// The line of what was found, and what that says.
-fn text_of(
-    alloc: Global,
-    profile: Profile,
-    transcript: Transcript,
-    found: &Found,
-    start: Beginning,
-    is_wider: bool,
-    story: &Story,
-) -> Result<String, AllocError>
-    ensures { IfOk result (λ text. BeginsWithLineOf profile transcript found.now start text.bytes.items) }
-{
-    let explanation = found_explanation(alloc, found, is_wider, story.with(&[], kept_of(&start)));
-    joined(
-        line_of(alloc, profile, transcript, found, start),
-        explanation,
-    )
 }
 
 // A text and one behind it, where there was memory for both.
