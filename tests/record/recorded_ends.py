@@ -10,13 +10,12 @@ import tempfile
 import threading
 import time
 from pathlib import Path
+from unittest.mock import patch
 
 from built import PROGRAM, TOP
 from messages import CLIENT, SERVER, begun, longest_runs, read, records_of, simple, text, write
 
 RECORD = TOP / "bin/nbdcheck-record"
-# Where the tool keeps what a test asks of it without a place of its own; goes with the tests.
-KEPT = tempfile.TemporaryDirectory(prefix="nbdcheck-kept-")
 SECONDS = 30
 MIB = 2**20
 # A WRITE and a READ of it, one after the other.
@@ -58,7 +57,7 @@ class Tool:
     """A run of nbdcheck-record, which asks `nbdcheck lint` where a test wants it."""
 
     def __init__(self, *words, limits=None, nbdcheck=PROGRAM, env_more=None, lints=False, **how):
-        env = {**os.environ, "NBDCHECK": str(nbdcheck), "TMPDIR": KEPT.name, **(env_more or {})}
+        env = {**os.environ, "NBDCHECK": str(nbdcheck), **(env_more or {})}
         how = {"stdin": subprocess.DEVNULL, "stdout": subprocess.PIPE, "stderr": subprocess.PIPE, **how}
         command = [sys.executable, str(RECORD), *([] if lints else ["--no-lint"]), *map(str, words)]
         self.process = subprocess.Popen(command, env=env, preexec_fn=limited(limits), text=True, **how)
@@ -242,7 +241,8 @@ def sizes_of(records):
 
 
 def run_parts(tally, parts):
-    """Runs each part in a folder of its own."""
+    """Runs each part in a folder of its own; what is kept without a place goes into another one, and with it."""
     for part in parts:
-        with tempfile.TemporaryDirectory(prefix="nbdcheck-") as folder:
-            part(tally, folder)
+        with tempfile.TemporaryDirectory(prefix="nbdcheck-") as folder, tempfile.TemporaryDirectory(prefix="nbdcheck-") as kept:
+            with patch.dict(os.environ, TMPDIR=kept):
+                part(tally, folder)
