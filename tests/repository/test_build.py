@@ -1,4 +1,4 @@
-"""The wrapper `nbdcheck` and tools/build behind it, over a small tree and a stand-in for rt: what is built, when, and what is said."""
+"""The wrapper `nbdcheck` and tools/build behind it, over a small tree and stand-ins for the kit: what is built, when, and what is said."""
 
 import os
 import pty
@@ -11,9 +11,9 @@ from pathlib import Path
 
 from built import TOP
 
-# A stand-in for rattle: notes where it runs and what it makes there, and where JOBS is set with which priority and on how many processors. It
-# fails where a library that it is given is not there, and in the crate that FAILS names. It takes SLOW seconds. In the crate that HANGS names
-# it notes its process and does not end.
+# A stand-in for rattle: notes where it runs and what it makes there, and where JOBS is set with which priority and on how many processors.
+# It fails where a library that it is given is not there, and in the crate that FAILS names. It takes SLOW seconds. In the crate that HANGS
+# names it notes its process and does not end.
 RATTLE = """#!/usr/bin/env bash
 own=$(basename "$PWD") jobs=$5 made=${@: -1}
 [ "$1 $2 $3 $4" = "build --crate-name $own --jobs" ] || exit 1

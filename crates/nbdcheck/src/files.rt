@@ -209,7 +209,10 @@ fn write_to<W: Write>(
         Written::Numbers => run_arrival_of(alloc, asked.profile, input, out),
         Written::Lines => run_show_of(alloc, asked.profile, input, out),
         Written::Names => run_names_of(alloc, asked.profile, asked.is_json, input, out),
-        Written::Capture => run_make(alloc, input, out).map(|()| true),
+        Written::Capture => {
+            run_make(alloc, input, out)?;
+            Ok(true)
+        }
     }
 }
 
