@@ -13,7 +13,7 @@ from built import TOP
 
 # A stand-in for rattle: notes where it runs and what it makes there, and where JOBS is set with which priority and on how many processors.
 # It fails where a library that it is given is not there, and in the crate that FAILS names. It takes SLOW seconds. In the crate that HANGS
-# names it notes its process and does not end.
+# names it notes its process and does not end. While it builds the crate that EDITED names, a source there changes.
 RATTLE = """#!/usr/bin/env bash
 own=$(basename "$PWD") jobs=$5 made=${@: -1}
 [ "$1 $2 $3 $4" = "build --crate-name $own --jobs" ] || exit 1
@@ -28,6 +28,7 @@ if [ "$own" = "${HANGS:-}" ]; then
     echo "$own process $$" >>"$NOTES"
     exec sleep 60
 fi
+[ "$own" != "${EDITED:-}" ] || echo "// edited" >>src/part.rt
 if [ -n "${SLOW:-}" ]; then
     sleep "$SLOW"
     echo "$own ends" >>"$NOTES"
@@ -194,6 +195,17 @@ def failed_build(tally, tree):
     tally.want("what was built stands", tree.run("check")[1], BUILDS[1:])
 
 
+def edited_build(tally, tree):
+    """What was built while a source changed counts for nothing, nor does what stands on it, also where the source is as it was before."""
+    tree.change()
+    source = tree.top / "crates/low/src/part.rt"
+    before = source.read_text()
+    tally.want("a source that changes", tree.run(EDITED="low")[1], BUILDS)
+    source.write_text(before)
+    tally.want("a source that is as it was", tree.run()[1], BUILDS)
+    tally.want("a source that stays", tree.run()[1], [])
+
+
 def no_kit(tally, tree):
     """Without the kit nothing is built, and it is said what is lacking."""
     tree.change()
@@ -320,7 +332,7 @@ def on_a_terminal(tally, tree):
 def run(tally):
     with tempfile.TemporaryDirectory(prefix="nbdcheck-") as folder:
         tree = Tree(folder)
-        for part in (first_build, later_runs, plain_check, faster_than_told, failed_build, no_kit, on_a_terminal, ended_build, two_builds):
+        for part in (first_build, later_runs, plain_check, faster_than_told, failed_build, edited_build, no_kit, on_a_terminal, ended_build, two_builds):
             part(tally, tree)
         for part in (side_by_side, longest_way_first, longest_way_alone):
             part(tally, tree)
