@@ -41,11 +41,12 @@ class Nbdcheck:
         """Raises what nbdcheck said, where its status is none of those that are taken."""
         if status in taken:
             return
-        first = said.decode(errors="backslashreplace").strip().split("\n")[0]
+        # A fault, and with hints the name of a file and the reason, or what is wrong with a line.
+        words = ": ".join(said.decode(errors="backslashreplace").strip().split("\n")[:2])
         if status == OUT_OF_MEMORY:
-            raise Fault(MEMORY, first or "out of memory")
-        if first and status > 0:
-            raise Fault(FAILED, first)
+            raise Fault(MEMORY, words or "out of memory")
+        if words and status > 0:
+            raise Fault(FAILED, words)
         how = f"ended with status {status}" if status >= 0 else f"was ended by signal {-status}"
         raise Fault(FAILED, f"{printable(self.program)} {how}")
 
@@ -77,7 +78,7 @@ class Nbdcheck:
     def explain(self):
         """The objects of `explain`, and what it said beside them."""
         order = [] if self.order is None else [self.order]
-        objects, said = self._objects(["explain", self.capture, *order, "--start", self.start, *self.profile], (YES, NO, GAVE_UP))
+        objects, said = self._objects(["explain", self.capture, *order, "--start", self.start, *self.profile, "--hints"], (YES, NO, GAVE_UP))
         if not objects:
             raise Fault(FAILED, f"{printable(self.program)} explain: it wrote no verdict")
         return objects, said

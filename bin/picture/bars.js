@@ -115,8 +115,9 @@ function drawByte(drawing) {
 function drawRefused(drawing) {
   for (const [side, first, last] of guilt.messages) {
     if (last < view.from || first - 1 > view.to) continue;
+    const words = `${isCutOff ? "Cut off" : "Refused"}: message of the ${side === "C" ? "client" : "server"}, bytes ${first} to ${last}`;
     const x = xOf(first - 1), part = rect(x, Math.max(xOf(last), x + 3), side === "C" ? CLIENT_ROW - 1 : SERVER_ROW - 1, ROW + 2, "#c40000",
-      { role: "img", "aria-label": `Refused: message of the ${side === "C" ? "client" : "server"}, bytes ${first} to ${last}` });
+      { role: "img", "aria-label": words });
     drawing.append(part);
   }
 }

@@ -68,13 +68,14 @@ findReplies();
 findEnds();
 
 const services = {
-  count: data.services.requests.length,
   request: data.services.requests,
   begin: data.services.offsets.map((offset) => (offset === null ? null : BigInt(offset))),
   length: data.services.lengths,
   at: data.services.at,
   of: new Map(),
 };
+// One without an entry is an order too: it serves nothing.
+const hasOrder = data.source !== null;
 services.request.forEach((number, at) => {
   if (!services.of.has(number)) services.of.set(number, []);
   services.of.get(number).push(at);
@@ -102,8 +103,11 @@ const inQuestion = new Set([
 // Of one READ the answer says that its byte is wrong, of several that in each order one of them has a wrong one.
 const isWrong = guilt.kind === "content" || guilt.kind === "any";
 const isNo = data.verdict.startsWith("no ");
-// A session that is outside of the profile, or of what can be judged, shows no mistake.
-const isMistake = isNo && !["OutOfProfile", "ExportTooLarge"].includes(guilt.fault);
+// A session that is not followed shows no mistake, nor does one whose capture ends within a message.
+const isCutOff = guilt.fault === "Unfinished";
+const isMistake = isNo && !isCutOff && !["OutOfProfile", "ExportTooLarge", "NotFixedNewstyle"].includes(guilt.fault);
+// Whether the picture has something that is red; an image's size has no place in it, nor an entry whose request there is not.
+const isMarked = isNo && (guilt.place !== null || inQuestion.size > 0);
 
 // The rules of proto.md that were not kept, by the messages that first show it.
 const breachesOf = new Map();

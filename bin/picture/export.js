@@ -3,19 +3,19 @@ const EXPORT_TOP = 22, EXPORT_ROWS = 180, EXPORT_HEIGHT = EXPORT_TOP + EXPORT_RO
 
 // The changes and reads in the order in which they are drawn: by the order of service, or without one by their first reply.
 const events = [];
-function addEvent(number, at, begin, length) {
-  events.push({ number, at, begin, end: begin + BigInt(length) });
+function addEvent(entry, number, at, begin, length) {
+  events.push({ entry, number, at, begin, end: begin + BigInt(length) });
 }
-if (services.count > 0) {
+if (hasOrder) {
   services.request.forEach((number, at) => {
     if (number < 1 || number > requests.count) return;
-    if (services.begin[at] === null) addEvent(number, services.at[at], requests.begin[number], requests.length[number]);
-    else addEvent(number, services.at[at], services.begin[at], services.length[at]);
+    if (services.begin[at] === null) addEvent(at + 1, number, services.at[at], requests.begin[number], requests.length[number]);
+    else addEvent(at + 1, number, services.at[at], services.begin[at], services.length[at]);
   });
 } else {
   for (let number = 1; number <= requests.count; number++) {
     const at = replyOf(number) === null ? requests.end[number] : replyOf(number) - 1;
-    addEvent(number, at, requests.begin[number], requests.length[number]);
+    addEvent("", number, at, requests.begin[number], requests.length[number]);
   }
   events.sort((one, other) => one.at - other.at);
 }
@@ -125,7 +125,7 @@ function drawNames(drawing, yOf) {
   const texts = [];
   for (const event of written.length <= FEW ? written : []) {
     const x = xOf(event.at), top = limit(yOf(event.begin)), bottom = limit(yOf(event.end));
-    if (services.count === 0) drawing.append(...drawEarlier(event.number, x, top, bottom));
+    if (!hasOrder) drawing.append(...drawEarlier(event.number, x, top, bottom));
     drawing.append(svg("line", { x1: x, x2: x, y1: top, y2: bottom, stroke: "#fff", "stroke-width": 1.5 }));
     if (written.length <= 60 && bottom - top >= 12) texts.push([x + 10, bottom - 5, `#${event.number}`, "on"]);
   }

@@ -67,18 +67,20 @@ function fillLegend() {
   const parts = used.map((command) => legendPart(nameOf(command), [box(colorOf(command))]));
   const isAny = requests.improper.size > 0 || requests.result.includes(FAILURE, 1);
   if (isAny) parts.push(legendPart("improper or failed", [box("#444"), stripes]));
-  if (requests.count) parts.push(legendPart("request, wait, reply", [
+  const isReplied = requests.reply.some((at) => at >= 0);
+  if (requests.count) parts.push(legendPart(isReplied ? "request, wait, reply" : "request, wait", [
     svg("rect", { x: 0, y: 1, width: 6, height: 12, fill: "#777" }), svg("rect", { x: 0, y: 5, width: 26, height: 4, fill: "#bbb" }),
-    svg("rect", { x: 18, y: 1, width: 8, height: 12, fill: "#777" })]));
-  if (requests.count) parts.push(legendPart("first reply", [svg("line", { class: "tick", x1: 13, x2: 13, y1: 0, y2: 14 })]));
-  if (services.count) parts.push(legendPart("served: a moment that fits the order", [diamond]));
-  if (isNo) parts.push(legendPart(isWrong ? "wrong" : "in question", [frame({ stroke: "#c40000" })]));
+    ...(isReplied ? [svg("rect", { x: 18, y: 1, width: 8, height: 12, fill: "#777" })] : [])]));
+  if (isReplied) parts.push(legendPart("first reply", [svg("line", { class: "tick", x1: 13, x2: 13, y1: 0, y2: 14 })]));
+  const isServed = services.request.some((number) => number > 0 && number <= requests.count);
+  if (isServed) parts.push(legendPart("served: a moment that fits the order", [diamond]));
+  if (isMarked) parts.push(legendPart(isWrong ? "wrong" : "in question", [frame({ stroke: "#c40000" })]));
   const triangle = (level) => svg("path", { class: `breach ${level}`, d: "M7 1H19L13 13Z" });
   for (const [level] of levels()) parts.push(legendPart(`a ${level} not kept`, [triangle(level)]));
   if (guilt.expected) parts.push(legendPart("should have been returned", [frame({ stroke: "#1a1a1a", "stroke-dasharray": "5 3" })]));
   byId("legend").append(...parts);
   const isPale = changes.some((change) => requests.result[change.number] !== SUCCESS);
-  byId("export-hint").textContent = (data.source
+  byId("export-hint").textContent = (hasOrder
     ? "A change is painted from its service on, until another one replaces it; a READ is a thin bar where it was served."
     : "There is no order: a change is painted from its first reply on, and hatched where it may have been carried out before; " +
       "a READ is a thin bar at its first reply.") +
@@ -99,8 +101,8 @@ function showDetail(number) {
   const more = entries.length > 20 ? ", .." : "";
   if (entries.length) parts.push(element("li", {}, `served by entry ${entries.slice(0, 20).join(", ")}${more}`));
   for (const [side, first, last] of guilt.messages.filter((message) => message[3] === number)) {
-    const sender = side === "C" ? "client" : "server";
-    parts.push(element("li", {}, `refused at byte ${guilt.place}, ${guilt.fault}: bytes ${first} to ${last} of the ${sender}`));
+    const sender = side === "C" ? "client" : "server", how = isCutOff ? "cut off" : "refused";
+    parts.push(element("li", {}, `${how} at byte ${guilt.place}, ${guilt.fault}: bytes ${first} to ${last} of the ${sender}`));
   }
   detail.className = inQuestion.has(number) ? "red" : "";
   detail.replaceChildren(...(role ? [element("strong", {}, role)] : []), element("ul", {}, ...parts));

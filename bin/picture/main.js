@@ -166,9 +166,9 @@ function watch() {
   byId("in").addEventListener("click", () => zoom(0.5));
   byId("out").addEventListener("click", () => zoom(2));
   byId("whole").addEventListener("click", () => look(0, data.bytes));
-  byId("guilty").hidden = !isNo || (guilt.place === null && !inQuestion.size);
+  byId("guilty").hidden = !isMarked;
   if (isMistake) byId("guilty").className = "red";
-  else byId("guilty").textContent = "Go to where judging ends";
+  else byId("guilty").textContent = isCutOff ? "Go to where the capture ends" : "Go to where judging ends";
   byId("guilty").addEventListener("click", () => {
     const [number] = inQuestion;
     if (number) select(number, true);

@@ -113,7 +113,7 @@ function historyNote(event) {
 function historyRow(event) {
   const isStatus = requests.command[event.number] === BLOCK_STATUS;
   const did = isChange(event.number) ? "left" : isStatus ? "called it zero" : "returned";
-  return [event.entry || "", chooser(event.number, shortName(event.number)), did, byteOf(event.number), historyNote(event)];
+  return [event.entry, chooser(event.number, shortName(event.number)), did, byteOf(event.number), historyNote(event)];
 }
 
 const historyTable = makeTable(byId("history"), "Who wrote and read the offset in question", [
@@ -125,7 +125,7 @@ function fillHistory() {
   const offset = questioned();
   byId("history").hidden = offset === null;
   if (offset === null) return;
-  const sorted = services.count ? "in the order of service" : "by their first replies";
+  const sorted = hasOrder ? "in the order of service" : "by their first replies";
   byId("history").querySelector("caption").textContent = `Who wrote and read offset ${offset}, ${sorted}; at first it was ${startByte()}`;
   const isStatus = (number) => requests.command[number] === BLOCK_STATUS;
   const isOf = ({ number }) => isChange(number) || (isRead(number) && (!isStatus(number) || offset === guiltyOffset));
@@ -133,15 +133,12 @@ function fillHistory() {
   let held = { unknown: "unknown", zero: "00" }[data.start] || "";
   for (const event of found) {
     const byte = byteOf(event.number), isKnown = byte && held && held !== "unknown";
-    event.entry = services.count ? (services.of.get(event.number) || []).find((at) => covers(at, offset)) + 1 : "";
-    event.note = services.count && isKnown && !isChange(event.number) && byte !== held ? `not ${held}, which the last change left` : "";
+    event.note = hasOrder && isKnown && !isChange(event.number) && byte !== held ? `not ${held}, which the last change left` : "";
     if (isChange(event.number)) held = byte;
   }
   historyTable.fill(found);
 }
 
-const partEnd = (at) => services.begin[at] + BigInt(services.length[at]);
-const covers = (at, offset) => services.begin[at] === null || (services.begin[at] <= offset && offset < partEnd(at));
 const startByte = () => ({ unknown: "unknown", zero: "00" })[data.start] || `that of ${data.start.slice(data.start.indexOf(":") + 1)}`;
 
 function fillTable() {

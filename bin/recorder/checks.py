@@ -24,6 +24,22 @@ def check_readable(word, path):
         raise Stopped(f"{word}{path}: it is no regular file, and is read once for each connection")
 
 
+def refuse_twice(parser, *paths):
+    """Refuses, as malformed words, a pipe or the like that several of these paths name: the second input would be empty."""
+    found, empty = [], os.stat(os.devnull)
+    for path in paths:
+        try:
+            told = os.stat(path)
+        except (OSError, ValueError):
+            continue
+        if stat.S_ISREG(told.st_mode) or os.path.samestat(told, empty):
+            continue
+        if any(os.path.samestat(told, other) for other in found):
+            name = path if path.isprintable() else repr(path)
+            parser.error(f"{name}: it is named twice, and what is no regular file can be read once")
+        found.append(told)
+
+
 def opened(path):
     """The file behind a name of one of this program's own, as /dev/stdin, which is not nbdcheck's."""
     return os.path.realpath(path) if path.startswith(("/dev/", "/proc/")) else path

@@ -5,7 +5,7 @@ import subprocess
 import time
 
 from built import PROGRAM, Ended, Room
-from commands.said import CAPTURE, SCRIPT, fault
+from commands.said import CAPTURE, SCRIPT, YES, fault
 from messages import begun, text, write
 
 # A line of 32 MiB, and the same message in a script.
@@ -85,6 +85,8 @@ def images(tally, room):
         unfinished = Ended(1, b"no at byte 1: Unfinished\n", b"")
         if size > 1 << 40:
             answer = unfinished = fault("image read")
+            why = f"fault image read\n{image}: it has more than 1099511627776 bytes, the most that an input may have\n".encode()
+            tally.want("check, an image that is too large, with hints", room.run("check", capture, order, *start, "--hints"), Ended(3, b"", why))
         began = time.monotonic()
         tally.want(f"check, an image of {size} bytes", room.run("check", capture, order, *start), answer)
         tally.want(f"order, an image of {size} bytes", room.run("order", capture, *start), answer)
@@ -98,7 +100,34 @@ def images(tally, room):
         tally.want("an image from a pipe", found, Ended(1, b"no image 100000 size 8\n", b""))
 
 
+def pipes(tally, room):
+    """A pipe is one input, under whatever name: where another names it too, that is a fault of the other. Two pipes are two inputs."""
+    capture, order = room.put("capture", CAPTURE), room.put("order", b"1\n")
+    # What writes to a pipe may find that the program has ended.
+    recorded, ordered = (f"cat {path} 2>/dev/null" for path in (capture, order))
+    for words, what in (
+        ("check /dev/stdin /dev/stdin", "order"),
+        ("check /dev/stdin /dev/fd/0", "order"),
+        (f"check /dev/stdin {order} --start image:/dev/stdin", "image"),
+        (f"check /dev/stdin {order} --start contents:/proc/self/fd/0", "contents"),
+        ("explain /dev/stdin /dev/stdin", "order"),
+        ("order /dev/stdin --start image:/dev/stdin", "image"),
+        ("contents /dev/stdin --against /dev/stdin", "against"),
+    ):
+        found = room.run("-c", f"{recorded} | {PROGRAM} {words}", program="/bin/bash")
+        tally.want(f"{words} of a pipe", found, fault(f"{what} read"))
+    found = room.run("-c", f"{recorded} | {PROGRAM} check /dev/stdin /dev/stdin --hints", program="/bin/bash")
+    why = b"fault order read\n/dev/stdin: it is a pipe that another input is read from, and can be read once\n"
+    tally.want("a pipe named twice, with hints", found, Ended(3, b"", why))
+    for words in (f"/dev/stdin {order}", f"{capture} <({ordered})", f"<({recorded}) <({ordered})", f"/dev/stdin <({ordered})"):
+        found = room.run("-c", f"{recorded} | {PROGRAM} check {words} --start zero", program="/bin/bash")
+        tally.want(f"check {words}", found, Ended(0, YES, b""))
+    found = room.run("-c", f"{PROGRAM} check /dev/stdin /dev/stdin <{capture}", program="/bin/bash")
+    tally.want("a regular file named twice", found, fault("order line 1"))
+    tally.want("no bytes twice", room.run("check", "/dev/null", "/dev/null"), Ended(0, b"yes requests 0 answered 0 improper 0\n", b""))
+
+
 def run(tally):
     with Room() as room:
-        for part in (files, outputs, memory, images):
+        for part in (files, outputs, memory, images, pipes):
             part(tally, room)

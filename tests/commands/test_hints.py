@@ -36,6 +36,11 @@ def terminals(tally, room):
     tally.want("a no on a terminal", found, Ended(1, b"no content request 1 offset 0\n", hint))
     found = room.run("check", "--hints", room.put("found", FOUND), order, "--start", "zero")
     tally.want("a no with hints", found, Ended(1, b"no content request 1 offset 0\n", hint))
+    hint = b"'nbdcheck explain' with the same words, but for --whole, says why, and of the profile base whether wide has an order\n"
+    found = room.run("order", "--hints", room.put("found", FOUND), "--start", "zero", "--whole")
+    tally.want("a no of order with hints", found, Ended(1, b"no content request 1 offset 0 in any order\n", hint))
+    found = room.run("explain", "--hints", room.put("found", FOUND), "--start", "zero")
+    tally.want("what this hint names", (found.status, found.out.split(LF)[0]), (1, b"no content request 1 offset 0 in any order"))
 
 
 def directories(tally, room):

@@ -272,6 +272,10 @@ def words(tally, room):
     found = convert("/dev/stdin", room.put("one", b"7\n"), input=SIZED)
     tally.want("a capture that is read twice, through a pipe", found, Run(0, b"1\n", b""))
     tally.want("a log through a pipe", convert(capture, "/dev/stdin", input=b"5\n"), Run(0, b"1\n", b""))
+    for name in ("/dev/stdin", "/proc/self/fd/0"):
+        found = convert("/dev/stdin", name, input=AGAIN)
+        tally.want(f"both through a pipe, by {name}", (found.status, found.out, found.err.splitlines()[-1:]), (2, b"", [
+            f"{NAME}: error: {name}: it is named twice, and what is no regular file can be read once".encode()]))
     with open(capture, "rb") as file:
         tally.want("a capture as standard input", convert("/dev/stdin", log, stdin=file), whole)
     strange = os.fsencode(room.path("")) + b"\xff.cap"

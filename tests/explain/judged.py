@@ -81,8 +81,11 @@ JUDGED = {
     "not-covered": Session(OVERLAPPED, "3 3 1\n1\n2\n3 0 1\n"),
     "not-covered-at-its-beginning": Session(WRITTEN, "1 1 1\n2\n"),
     "not-covered-in-the-export": Session(BEYOND, "1 6 1\n"),
+    "not-covered-by-chunk": Session(
+        [*begun(structured=True), read(1, 0, 8), content(1, 0, bytes(4)), write(2, 0, b"\xff"), simple(2)], "1 0 3\n2\n", profile="wide"),
     "image": Session(WRITTEN, "1\n2\n", "image:9"),
     "image-of-one-byte": Session(WRITTEN, "1\n2\n", "image:1"),
+    "contents-of-another-size": Session(WRITTEN, "1\n2\n", "contents:9"),
     "content": Session(MISREAD, "1\n2\n"),
     "content-of-zeroes": Session(FOUND, "1\n"),
     "content-of-an-image": Session(FOUND, "1\n", "image:8"),

@@ -16,6 +16,10 @@ WIRE = {
     "not-fixed-newstyle": Session([greeting(2)]),
     "bad-client-flags": Session([greeting(1), client_flags(3)]),
     "out-of-turn": Session([client_flags(), greeting()]),
+    "out-of-turn-behind-export-name": Session([*FLAGS, option(1, b"disk"), read(1, 0, 1)]),
+    "out-of-turn-after-disc-behind-export-name": Session(
+        [*FLAGS, option(1, b"disk"), (SERVER, (8).to_bytes(8, "big") + b"\0\1"), request(DISC, 0, 0, 0), read(1, 0, 1)]),
+    "out-of-turn-behind-export-name-with-an-option": Session([*FLAGS, option(1, b"disk"), option(3)]),
     "out-of-turn-after-disc": Session([*begun(), request(DISC, 0, 0, 0), read(1, 0, 4)]),
     "wrong-option": Session([*GO, answer(6, 3, export_info())]),
     "bad-reply-kind": Session([*GO, answer(7, 2, b"\0\0\0\0")]),
@@ -69,6 +73,9 @@ WIRE = {
     "simple-forbidden": Session([*CHUNKED, simple(1, bytes(4))]),
     "chunk-forbidden": Session([*ASKED, done(1)]),
     "bad-chunk": Session([*CHUNKED, hole(1, 0, 0)]),
+    "bad-chunk-of-an-unknown-error": Session([*CHUNKED, chunk(1, 0x8009, b"\0\0\0\x05\0\0", flags=1)]),
+    "bad-chunk-of-an-unknown-error-without-form": Session([*CHUNKED, chunk(1, 0x8009, b"\0\0\0\x05\0\1", flags=1)]),
+    "bad-chunk-of-an-unknown-error-in-wide": Session([*CHUNKED, chunk(1, 0x8009, b"\0\0\0\x05\0\1", flags=1)], profile="wide"),
     "bad-content": Session([*CHUNKED, content(1, 0, b"\1\2\3"), content(1, 2, b"\4\5")]),
     "bad-content-twice-under-df": Session(
         [*begun(structured=True, flags=0xED), request(READ, 1, 0, 4, flags=4), content(1, 0, b"\1\2"), content(1, 2, b"\3\4")]),

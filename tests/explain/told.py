@@ -39,8 +39,10 @@ def filtered(*messages):
 
 
 def start_of(room, name, start):
-    """The start's word; `image:N` stands for an image of N bytes: 0, 1, 2 and so on."""
+    """The start's word; `image:N` stands for an image of N bytes: 0, 1, 2 and so on, and `contents:N` for N zeroes."""
     kind, _, size = start.partition(":")
+    if kind == "contents":
+        return "contents:" + room.put(f"{name}.contents", f"size {size}\nzero 0 {size}\n".encode())
     return f"image:{room.put(f'{name}.image', bytes(range(int(size))))}" if kind == "image" else start
 
 

@@ -164,7 +164,8 @@ def words(tally, room):
         (["lint", room.put("bad", b"C 0\n")], fault("capture line 1")),
     ):
         tally.want(f"{asked}", room.run(*asked), wanted)
-    for asked in (["lint", capture, "--list"], ["lint", "--list", "--json"], ["lint", capture, "--start", "zero"], ["lint", capture, "--level"],
+    for asked in (["lint", capture, "--list"], ["lint", "--list", "--json"], ["lint", "--list", "--level", "must"],
+                  ["lint", "--list", "--profile", "base"], ["lint", "--list", "--allow", "enomem"], ["lint", capture, "--start", "zero"], ["lint", capture, "--level"],
                   ["lint", capture, capture], ["lint", capture, "--json", "--json"]):
         found = room.run(*asked)
         tally.want(f"{asked}", (found.status, found.out, found.err[:7]), (2, b"", b"error: "))

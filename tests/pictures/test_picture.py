@@ -72,16 +72,19 @@ def stand_in_of(room, status, err=""):
 def refusals(tally, room):
     good, order = room.put("good.cap", text(WRITTEN)), room.put("good.ord", b"1\n2\n")
     bad, bad_order = room.put("bad.cap", b"S 00\nC 0\n"), room.put("bad.ord", b"1\nx\n")
-    loud = "what it said"
+    loud, missing = "what it said", "/nonexistent: No such file or directory (os error 2)"
     for name, words, how, status, reason in (
         ("no file", ["/nonexistent"], {}, 3, "/nonexistent: No such file or directory"),
         ("a folder", [room.folder], {}, 3, f"{room.folder}: Is a directory"),
         ("no order file", [good, "/nonexistent"], {}, 3, "/nonexistent: No such file or directory"),
         ("a name with a line feed", ["/a\nb"], {}, 3, "'/a\\nb': No such file or directory"),
-        ("a malformed capture", [bad, order], {}, 3, "fault capture line 2"),
-        ("a malformed order", [good, bad_order], {}, 3, "fault order line 2"),
-        ("no image", [good, order, "--start", "image:/nonexistent"], {}, 3, "fault image read"),
-        ("no text of contents", [good, order, "--start", "contents:/nonexistent"], {}, 3, "fault contents read"),
+        ("a malformed capture", [bad, order], {}, 3, "fault capture line 2: the number of hexadecimal digits is odd"),
+        ("a malformed order", [good, bad_order], {}, 3,
+         "fault order line 2: there is another character than a digit, at byte 1 of the line"),
+        ("no image", [good, order, "--start", "image:/nonexistent"], {}, 3, f"fault image read: {missing}"),
+        ("no text of contents", [good, order, "--start", "contents:/nonexistent"], {}, 3, f"fault contents read: {missing}"),
+        ("a folder as an image", [good, order, "--start", f"image:{room.folder}"], {}, 3,
+         f"fault image read: {room.folder}: it is a directory"),
         ("a malformed text of contents", [good, order, "--start", f"contents:{bad}"], {}, 3, "fault contents line 1"),
         ("no nbdcheck", [good], {"more": {"NBDCHECK": "/nonexistent"}}, 3, "cannot run /nonexistent: No such file or directory"),
         ("no nbdcheck but another program", [good], {"more": {"NBDCHECK": "/bin/false"}}, 3,
@@ -131,6 +134,19 @@ def piped(tally, room, of_start, start):
                 found = data_of(ended.out.decode()) if ended.status == 0 else {"failed": ended}
                 names = {key: by_name[key] for key in ("name", "order", "start")}
                 tally.want(f"{kind} of {how} by {name}", {**found, **names}, by_name)
+
+
+def named_twice(tally, room):
+    """A pipe that is two of the inputs, by one name or by two, is refused; a file may be both, and so may /dev/null."""
+    path, once = room.put("good.cap", text(WRITTEN)), "it is named twice, and what is no regular file can be read once"
+    for words in (["/dev/stdin", "/dev/stdin"], ["/dev/stdin", "/proc/self/fd/0"], ["/dev/stdin", "--start", "image:/proc/self/fd/0"],
+                  [path, "/dev/stdin", "--start", "contents:/dev/stdin"]):
+        with subprocess.Popen(["cat", path], stdout=subprocess.PIPE, stderr=subprocess.DEVNULL) as reader:
+            ended = run_script(*words, stdin=reader.stdout)
+        name = words[-1].rpartition(":")[2]
+        tally.want(f"{words}", (ended.status, ended.out, ended.err.splitlines()[-1:]), (2, b"", [f"{NAME}: error: {name}: {once}"]))
+    for words in ([path, "--start", f"image:{path}"], ["/dev/null", "/dev/null"]):
+        tally.want(f"{words}", run_script(*words)[::2], (0, ""))
 
 
 def interrupts(tally, room):
@@ -200,5 +216,5 @@ def many(tally, room):
 
 def run(tally):
     with Room() as room:
-        for part in (escaping, refusals, gave_up, pipes, interrupts, examples, many):
+        for part in (escaping, refusals, gave_up, pipes, named_twice, interrupts, examples, many):
             part(tally, room)

@@ -6,11 +6,11 @@ from built import TOP, Room
 from cases.contexts import ONE_CONTEXT
 from lint.test_lint import sessions
 from messages import (
-    DONE, ERROR, STARTTLS, ack, begun, chunk, client_flags, done, greeting, option, read, records_of, request, simple, status, text,
+    DONE, ERROR, STARTTLS, ack, begun, chunk, client_flags, cut, done, greeting, option, read, records_of, request, simple, status, text,
     told_last, write,
 )
 from pictures import browser
-from pictures.drawn import CROSSED, HUGE, MANY, long_session, page_of, run_script
+from pictures.drawn import CROSSED, HUGE, MANY, WRITTEN, long_session, page_of, run_script
 
 # The sessions of examples/ whose pages are opened: each kind of answer, chunks, parts, a range at 2^63, none but a negotiation.
 EXAMPLES = ("nbdkit-split", "nbdkit-python-parts", "nbdkit-huge-export", "nbdkit-memory-libnbd-sr", "nbdserver-not-offered",
@@ -242,6 +242,58 @@ def outside(tally, room, page):
     tally.want("complaints", page.complaints, [])
 
 
+def unmarked(tally, room, page):
+    """What is no mistake has a button that is not red, and the legend names what the page shows."""
+    whole = ["READ", "WRITE", "request, wait, reply", "first reply"]
+    judging, capture = "Go to where judging ends", "Go to where the capture ends"
+    served, red = "served: a moment that fits the order", "in question"
+    open_read, image, mistake = [*begun(), read(1, 0, 4)], room.put("9", bytes(9)), "Go to the mistake"
+    for name, records, order, start, legend, button in (
+        ("old style", [greeting(0)], None, "zero", [red], (False, judging, "")),
+        ("within the greeting", [cut(greeting(), 8)[0]], None, "zero", [red], (False, capture, "")),
+        ("within a reply", [*open_read, cut(simple(1, bytes(4)), 9)[0]], None, "zero", ["READ", "request, wait", red],
+         (False, capture, "")),
+        ("nothing but a greeting", [greeting()], "", "zero", [], (True, judging, "")),
+        ("another size", WRITTEN, "1\n2\n", f"image:{image}", [*whole, served], (True, mistake, "red")),
+        ("no such request", WRITTEN, "1\n9\n2\n", "zero", [*whole, served], (True, mistake, "red")),
+        ("no such request at all", WRITTEN, "9\n", "zero", whole, (True, mistake, "red")),
+        ("late", WRITTEN, "2\n1\n", "zero", [*whole, served, red], (False, mistake, "red")),
+        ("a context in base", [*ONE_CONTEXT, status(2, 0, 8)], "1\n", "zero", [red], (False, judging, "")),
+        ("no reply", open_read, "1\n", "zero", ["READ", "request, wait", served], (True, judging, "")),
+    ):
+        page.open(put(room, "unmarked", records, order, start))
+        found = page.ask("[...document.querySelectorAll('#legend > span')].map((part) => part.textContent)")
+        tally.want(f"{name}: the legend", [part for part in found if not part.endswith(" not kept")], legend)
+        it = "document.getElementById('guilty')"
+        tally.want(f"{name}: the button", tuple(page.ask(f"[{it}.hidden, {it}.textContent, {it}.className]")), button)
+    page.open(put(room, "cut-off", [cut(greeting(), 8)[0]]))
+    tally.want("a message that is cut off", page.ask("document.querySelector('#bars svg [role=\"img\"]').getAttribute('aria-label')"),
+               "Cut off: message of the server, bytes 1 to 8")
+    tally.want("complaints", page.complaints, [])
+
+
+def empty_order(tally, room, page):
+    """An order without an entry serves nothing; without an order a change is painted from its first reply on."""
+    hatched = "document.querySelectorAll('#export [fill=\"url(#hatch)\"]').length"
+    # That nobody served the WRITE is wrong, and of this START there is no order.
+    for order, start, front, count in (("", "zero", "A change is painted from its service on", 0),
+                                       (None, f"image:{room.put('1s', bytes([1] * 8))}", "There is no order: ", 1)):
+        page.open(put(room, "empty-order", WRITTEN, order, start))
+        tally.holds(f"the hint, order {order!r}", text_of(page, "#export-hint").startswith(front), text_of(page, "#export-hint"))
+        tally.want(f"hatched, order {order!r}", (page.ask(hatched), page.ask("changes.length")), (count, count))
+    tally.want("complaints", page.complaints, [])
+
+
+def entries(tally, room, page):
+    """A row of the history has its own entry, where an order names a request twice, and where its parts share an offset."""
+    for order, wanted in (("1\n1\n", [("1", "WRITE #1"), ("2", "WRITE #1")]),
+                          ("1 0 2\n1 0 1\n2\n", [("1", "WRITE #1"), ("2", "WRITE #1"), ("3", "READ #2")])):
+        page.open(put(room, "entries", WRITTEN, order))
+        type_in(page, "offset", "0")
+        tally.want(f"entries of {order!r}", [tuple(row[:2]) for row in rows_of(page, "#history")], wanted)
+    tally.want("complaints", page.complaints, [])
+
+
 def middle_of(page, selector):
     return page.ask(f"(() => {{ const box = document.querySelector({selector!r}).getBoundingClientRect();"
                     " return [box.x + box.width / 2, box.y + box.height / 2]; })()")
@@ -358,7 +410,8 @@ def huge(tally, room, page):
     tally.want("complaints", page.complaints, [])
 
 
-PARTS = (loads, names, refused, several, statuses, outside, breaches, huge, filters, keyboard, keys_at_once, bounds, mouse, many)
+PARTS = (loads, names, refused, several, statuses, outside, unmarked, empty_order, entries, breaches, huge, filters, keyboard, keys_at_once,
+         bounds, mouse, many)
 
 
 def run(tally):

@@ -76,6 +76,10 @@ def words(tally, folder):
     for name in {re.sub("/nbdcheck/(record|picture)(er)?/.*", r"/nbdcheck/\1\2, the parts of nbdcheck-\1", name) for name in INSTALLED}:
         name = re.sub("/conversion/.*", "/conversion, the parts of the last three programs", name)
         tally.holds(f"install --help has {name}", f"\n  /usr/local/{name}\n" in usage, usage)
+    with open("/dev/full", "w") as full:
+        there = subprocess.run([TOP / "tools/install", "--help"], stdout=full, stderr=subprocess.DEVNULL, cwd=folder,
+                               env={**os.environ, "prefix": folder})
+    tally.want("install --help to a full device", there.returncode, 1)
     for asked in ([], ["--prefix"], [""], ["a", "b"]):
         tally.want(f"install {asked}", ended(TOP / "tools/install", *asked, cwd=folder), (2, "", usage))
     tally.want("nothing installed", list(Path(folder).iterdir()), [])

@@ -1,7 +1,6 @@
 //! The command `order --arrival`, over any reader and writer.
 
 ghost use Rattle.std.specs.{Prelude.{◌≡◌, ◌⊎◌, IfErr, IfOk, OnOk}, Io.KnownBytes.Appends};
-ghost use Rattle.nbd_wire.specs.declared.profile.Profile.TheVariants.{Base};
 ghost use Rattle.nbd_files.specs.{declared.fault.RunFault.TheVariants.{Memory, Write}, Starts.IsWithinLimit};
 ghost use Rattle.nbd_explain.specs.{Ordering.LeavesOrdered, Shown.IsShowCause, Arrival.{Arrives, number_lines}};
 
@@ -15,29 +14,11 @@ use std::io::{BufRead, Write};
 
 /// Reads a capture text to its end, and writes the numbers of its requests, a line each, in the order in which they came:
 /// the order of service of a server that takes one after the other. Answers false, and writes nothing, where the session
-/// was refused in the profile `Base`. Nothing is written before all numbers are there; after `Write` some of them may stand
-/// written.
-pub fn run_arrival<C: BufRead + Drop, W: Write>(
-    alloc: Global,
-    capture: C,
-    out: &mut W,
-) -> Result<bool, RunFault>
-    ensures written { IfOk result
-        (λ yes. Arrives Base (C.remaining capture) yes (W.contents out.old) (W.contents out.new)) }
-    ensures limited { OnOk result (IsWithinLimit (C.remaining capture)) }
-    ensures cause { IfErr result (IsShowCause (C.remaining capture)) }
-    ensures left { IfErr result (LeavesOrdered (W.contents out.old) (W.contents out.new)) }
-{
-    run_arrival_of(alloc, Profile::Base, capture, out)
-}
-
-/// Reads a capture text to its end, and writes the numbers of its requests, a line each, in the order in which they came:
-/// the order of service of a server that takes one after the other. Answers false, and writes nothing, where the session
 /// was refused in this profile.
 ///
 /// An `Err` is a fault of the text, of its reader or of the writer, or out of memory. Nothing is written before all numbers
 /// are there; after `Write` some of them may stand written.
-pub fn run_arrival_of<C: BufRead + Drop, W: Write>(
+pub fn run_arrival<C: BufRead + Drop, W: Write>(
     alloc: Global,
     profile: Profile,
     capture: C,

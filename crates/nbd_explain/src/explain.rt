@@ -1,7 +1,7 @@
 //! The command `explain`, over any readers and writer.
 
 ghost use Rattle.std.specs.Prelude.{ℕ, List, Option, IfErr, IfOk, IsOk, OnOk};
-ghost use Rattle.nbd_wire.specs.declared.profile.Profile.{Profile, TheVariants.Base};
+ghost use Rattle.nbd_wire.specs.declared.profile.Profile.{Profile};
 ghost use Rattle.nbd_files.specs.{declared.fault.RunFault.TheVariants.Write, Starts.{IsStartWellFormed, IsWithinLimit, OfStart}};
 ghost use Rattle.nbd_explain.specs.{Ordering.LeavesOrdered, Explained.{IsExplainCause, IsExplained, IsOrderWithinLimit}, internal.{Leaving.entries_of, Lines.{IsToldGiven, IsToldOn, OnWritten}}};
 ghost use Rattle.nbd_tool.specs.{Runs.{IsCapture, IsCaptureCause}, Ends.IsFinishOf};
@@ -20,44 +20,6 @@ use std::alloc::{AllocError, Global};
 use std::io::{BufRead, Read, Write};
 
 /// Reads a capture text to its end, then an order text and an image, if there are such; writes the line that
-/// `check` writes in the profile `Base`, and behind it why the answer is no, or of a yes which requests the client should not have sent.
-/// Without an order it looks for one within these limits: it writes the line that `check` writes of the order that was found, or that
-/// with which `order` says that there is none or that it found none, and behind it what that says.
-///
-/// Nothing is written unless all were read whole and are well formed. After `Write` some of it may stand written. A
-/// long search says on `progress` how far it is.
-pub fn run_explain<C: BufRead + Drop, O: Read + Drop, I: Measured + Drop, W: Write>(
-    alloc: Global,
-    capture: C,
-    order: Option<O>,
-    start: StartFrom<I>,
-    limits: Limits,
-    out: &mut W,
-    progress: &mut Progress,
-) -> Result<Answer, RunFault>
-    ensures written { IfOk result (λ answer. OfStart I.remaining start (λ initial. IsExplained Base O.remaining
-        (C.remaining capture) order initial answer (W.contents out.old) (W.contents out.new))) }
-    ensures well_formed { OnOk result (IsCapture (C.remaining capture)) }
-    ensures limited { OnOk result (IsWithinLimit (C.remaining capture)) }
-    ensures order_limited { OnOk result (IsOrderWithinLimit O.remaining order) }
-    ensures start_limited { OnOk result (IsStartWellFormed I.remaining start) }
-    ensures cause { IfErr result (IsExplainCause O.remaining I.remaining (C.remaining capture) order start) }
-    ensures left { IfErr result (LeavesOrdered (W.contents out.old) (W.contents out.new)) }
-{
-    run_explain_of(
-        alloc,
-        Profile::Base,
-        false,
-        capture,
-        order,
-        start,
-        limits,
-        out,
-        progress,
-    )
-}
-
-/// Reads a capture text to its end, then an order text and an image, if there are such; writes the line that
 /// `check` writes in this profile, and behind it why the answer is no, or of a yes which requests the client should not have sent;
 /// there each number has its name where the text is marked, as nbd_json reads it.
 /// Without an order it looks for one within these limits: it writes the line that `check` writes of the order that was found, or that
@@ -65,7 +27,7 @@ pub fn run_explain<C: BufRead + Drop, O: Read + Drop, I: Measured + Drop, W: Wri
 ///
 /// An `Err` is a fault of a text, of a reader or of the writer, or out of memory. Nothing is written unless all were read
 /// whole and are well formed. After `Write` some of it may stand written. A long search says on `progress` how far it is.
-pub fn run_explain_of<C: BufRead + Drop, O: Read + Drop, I: Measured + Drop, W: Write>(
+pub fn run_explain<C: BufRead + Drop, O: Read + Drop, I: Measured + Drop, W: Write>(
     alloc: Global,
     profile: Profile,
     is_marked: bool,

@@ -20,7 +20,7 @@ pub fn found_explanation(
         Found::Unexplained(refutation) => {
             unexplained(alloc, text, refutation, &sources).wider_if(is_wider)
         }
-        Found::Image { image, size } => text.image(*image, *size),
+        Found::Image { image, size } => text.image(*image, *size, sources.start),
         Found::NoneWhole => text.open(),
         Found::GaveUp { reason, .. } => with_limit(text.open(), *reason),
     };

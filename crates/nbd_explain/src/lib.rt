@@ -19,10 +19,10 @@ pub mod show;
 mod writing;
 
 pub use answer::{Answer, explain_status};
-pub use arrival::{run_arrival, run_arrival_of};
+pub use arrival::run_arrival;
 pub use contents::run_contents;
-pub use explain::{run_explain, run_explain_of};
+pub use explain::run_explain;
 pub use linting::{run_lint, write_rules};
-pub use listing::{run_names, run_names_of};
-pub use ordering::{Ordered, order_status, run_order, run_order_of};
+pub use listing::run_names;
+pub use ordering::{Ordered, order_status, run_order};
 pub use show::{run_show, run_show_of};

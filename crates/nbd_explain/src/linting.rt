@@ -7,28 +7,12 @@ ghost use Rattle.nbd_files.specs.{declared.fault.RunFault.TheVariants.Write, Sta
 use nbd_capture::write_whole;
 use nbd_files::RunFault;
 use nbd_judge::Verdict;
-use nbd_lint::{Level, Linter, Refusal, Report, Runs, Wanted, is_kept, listed};
+use nbd_lint::{Level, Linter, Refusal, Report, Wanted, is_kept, listed};
 use nbd_session::{Session, SessionFault};
-use nbd_tool::{Witness, line_of, session_over};
-use nbd_wire::{Message, Profile, Side, WireFault};
+use nbd_tool::{Unseen, line_of, session_over};
+use nbd_wire::{Profile, WireFault};
 use std::alloc::{AllocError, Global};
 use std::io::{BufRead, Write};
-
-/// Counts the bytes that it is shown.
-#[derive(Drop)]
-struct Counter {
-    runs: Runs,
-}
-
-impl Witness for Counter {
-    fn see(&mut self, side: Side, bytes: &[u8]) -> Result<(), AllocError> {
-        self.runs.add(side, bytes.len() as u64)
-    }
-
-    fn accept(&mut self, _messages: &[Message]) -> Result<(), AllocError> {
-        Ok(())
-    }
-}
 
 /// Reads a capture text to its end, and writes what the messages that its session of this profile accepts break of proto.md,
 /// a line for each rule and side; where the session was refused its line; and how many lines of each level stand there.
@@ -63,37 +47,29 @@ fn report_over<C: BufRead + Drop>(
     ensures read { OnOk result (IsShowCause (C.remaining capture) Write) }
     ensures cause { IfErr result (IsShowCause (C.remaining capture)) }
 {
-    let mut counter = Counter {
-        runs: Runs::none(alloc),
-    };
-    let session = session_over(alloc, profile, capture, &mut counter)?;
-    Ok(report_of(alloc, session, &counter.runs, wanted)?)
+    let session = session_over(alloc, profile, capture, &mut Unseen)?;
+    Ok(report_of(alloc, session, wanted)?)
 }
 
 // The same of a session that was read whole.
-fn report_of(
-    alloc: Global,
-    session: Session,
-    runs: &Runs,
-    wanted: &Wanted,
-) -> Result<Report, AllocError> {
-    let are_hinting = Level::Hint.is_told(wanted.level);
-    let mut linter = Linter::of(alloc, session.messages(), runs, are_hinting);
+fn report_of(alloc: Global, session: Session, wanted: &Wanted) -> Result<Report, AllocError> {
+    let taken = session.taken();
+    let mut linter = Linter::of(alloc, &session, Level::Hint.is_told(wanted.level));
     match session.finish() {
-        Ok(_) => accepted(alloc, &mut linter, runs, wanted),
+        Ok(_) => accepted(alloc, &mut linter, taken, wanted),
         Err(SessionFault::Wire { at, fault }) => refused(alloc, &linter, at, fault, wanted),
         Err(SessionFault::Memory) => Err(AllocError),
     }
 }
 
-// The same of one that was accepted.
+// The same of one of so many bytes that was accepted.
 fn accepted(
     alloc: Global,
     linter: &mut Linter,
-    runs: &Runs,
+    taken: u64,
     wanted: &Wanted,
 ) -> Result<Report, AllocError> {
-    linter.close(runs.count());
+    linter.close(taken);
     Report::of(alloc, linter, None, wanted)
 }
 

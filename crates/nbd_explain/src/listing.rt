@@ -1,7 +1,7 @@
 //! The command `show --names`, over any reader and writer.
 
 ghost use Rattle.std.specs.Prelude.{◌≡◌, ◌⊎◌, ℕ, List, Option, Some, IfErr, IfOk, OnOk, false};
-ghost use Rattle.nbd_wire.specs.declared.{message.Message.Message, profile.Profile.{Profile, TheVariants.Base}};
+ghost use Rattle.nbd_wire.specs.declared.{message.Message.Message, profile.Profile.Profile};
 ghost use Rattle.nbd_state.specs.declared.asked.Outcome.TheVariants.{Failure};
 ghost use Rattle.nbd_files.specs.{declared.fault.RunFault.TheVariants.{Memory, Write}, Starts.IsWithinLimit};
 ghost use Rattle.nbd_tool.specs.{Ends.IsOverText, Runs.IsCapture};
@@ -19,34 +19,13 @@ use nbd_wire::{Message, Profile};
 use std::alloc::{AllocError, Global};
 use std::io::{BufRead, Write};
 
-/// Reads a capture text to its end, and writes each message that its session of the profile `Base` accepts in words, a line
-/// each, in the order of their completion, and then `ok`, or where and why the session was refused. Answers true where it was
-/// accepted.
-///
-/// Nothing is written unless the capture was read whole and is well formed. After `Write` or `Memory` a prefix of the
-/// lines stands written, possibly nothing.
-pub fn run_names<C: BufRead + Drop, W: Write>(
-    alloc: Global,
-    capture: C,
-    out: &mut W,
-) -> Result<bool, RunFault>
-    ensures written { IfOk result
-        (λ yes. NamesAll Base (C.remaining capture) yes (W.contents out.old) (W.contents out.new)) }
-    ensures well_formed { OnOk result (IsCapture (C.remaining capture)) }
-    ensures limited { OnOk result (IsWithinLimit (C.remaining capture)) }
-    ensures cause { IfErr result (IsShowCause (C.remaining capture)) }
-    ensures left { IfErr result (KeepsUnread (W.contents out.old) (W.contents out.new)) }
-{
-    run_names_of(alloc, Profile::Base, false, capture, out)
-}
-
 /// Reads a capture text to its end, and writes each message that its session of this profile accepts in words, a line each,
 /// in the order of their completion, and then `ok`, or where and why the session was refused; each number has its name where the
 /// text is marked, as nbd_json reads it. Answers true where it was accepted.
 ///
 /// An `Err` is a fault of the text, of its reader or of the writer, or out of memory. Nothing is written unless the capture
 /// was read whole and is well formed. After `Write` or `Memory` a prefix of the lines stands written, possibly nothing.
-pub fn run_names_of<C: BufRead + Drop, W: Write>(
+pub fn run_names<C: BufRead + Drop, W: Write>(
     alloc: Global,
     profile: Profile,
     is_marked: bool,

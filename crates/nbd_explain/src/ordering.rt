@@ -1,7 +1,7 @@
 //! The command `order`, over any readers and writer.
 
 ghost use Rattle.std.specs.Prelude.{◌≡◌, ◌⊎◌, ◌++◌, ◌∷◌, List, [], Err, IfErr, IfOk, Ok, OnOk};
-ghost use Rattle.nbd_wire.specs.{declared.profile.Profile.{Profile, TheVariants.Base}, Prelude.{Item, report, IsRunOf}};
+ghost use Rattle.nbd_wire.specs.{declared.profile.Profile.Profile, Prelude.{Item, report, IsRunOf}};
 ghost use Rattle.nbd_wire.specs.protocol.Explains as definitions;
 ghost use Rattle.nbd_judge.specs.Beginnings.{initial_of, size_of};
 ghost use Rattle.nbd_capture.specs.{Lines.line_feed, Order.entry_text};
@@ -45,34 +45,11 @@ pub fn order_status(answer: &Result<Ordered, RunFault>) -> u8
 }
 
 /// Reads a capture text to its end, and then an image, if there is one, and writes an order of service that explains the session
-/// from this start in the profile `Base`, an entry a line; or a line that says why there is none or that none was found.
-///
-/// Nothing is written unless all were read whole and are well formed. After `Write` some of it may stand written. A long search
-/// says on `progress` how far it is.
-pub fn run_order<C: BufRead + Drop, I: Measured + Drop, W: Write>(
-    alloc: Global,
-    capture: C,
-    start: StartFrom<I>,
-    scope: Scope,
-    out: &mut W,
-    progress: &mut Progress,
-) -> Result<Ordered, RunFault>
-    ensures written { IfOk result (λ ordered. OfStart I.remaining start (λ initial. Orders Base (C.remaining capture) initial
-        scope.wanted ordered (W.contents out.old) (W.contents out.new))) }
-    ensures limited { OnOk result (IsWithinLimit (C.remaining capture)) }
-    ensures start_limited { OnOk result (IsStartWellFormed I.remaining start) }
-    ensures cause { IfErr result (IsOrderingCause I.remaining (C.remaining capture) start) }
-    ensures left { IfErr result (LeavesOrdered (W.contents out.old) (W.contents out.new)) }
-{
-    run_order_of(alloc, Profile::Base, capture, start, scope, out, progress)
-}
-
-/// Reads a capture text to its end, and then an image, if there is one, and writes an order of service that explains the session
 /// from this start in this profile, an entry a line; or a line that says why there is none or that none was found.
 ///
 /// An `Err` is a fault of the text, of a reader or of the writer, or out of memory. Nothing is written unless all were read
 /// whole and are well formed. After `Write` some of it may stand written. A long search says on `progress` how far it is.
-pub fn run_order_of<C: BufRead + Drop, I: Measured + Drop, W: Write>(
+pub fn run_order<C: BufRead + Drop, I: Measured + Drop, W: Write>(
     alloc: Global,
     profile: Profile,
     capture: C,

@@ -11,6 +11,10 @@ use std::fmt::Display;
 use std::fs::File;
 use std::io;
 use std::io::{BufReader, IsTerminal};
+use std::os::unix::fs::{FileTypeExt, MetadataExt};
+
+/// Why a pipe is not opened again.
+const SPENT: &str = "it is a pipe that another input is read from, and can be read once";
 
 /// The files of the system.
 #[derive(Drop)]
@@ -20,6 +24,8 @@ pub struct Files<'a> {
     is_hinted: bool,
     /// Which file could not be opened, and why.
     refused: Option<String>,
+    /// The pipes that were opened, by their devices and inodes: what is in one can be read once.
+    pipes: Vec<(u64, u64)>,
 }
 
 impl<'a> Files<'a> {
@@ -29,6 +35,7 @@ impl<'a> Files<'a> {
             rt,
             is_hinted,
             refused: None,
+            pipes: Vec::new(rt.alloc()),
         }
     }
 
@@ -42,6 +49,25 @@ impl<'a> Files<'a> {
         if self.are_hints_told() {
             tell(self.rt, text);
         }
+    }
+
+    // Opens a file; None of a pipe that was opened before, under whatever name.
+    fn opened(&mut self, path: &str) -> io::Result<Option<File>> {
+        let file = File::open(self.rt, path)?;
+        let found = file.metadata()?;
+        if found.file_type().is_fifo() {
+            let pipe = (found.dev(), found.ino());
+            if self.pipes.contains(&pipe) {
+                return Ok(None);
+            }
+            self.pipes.push(pipe)?;
+        }
+        Ok(Some(file))
+    }
+
+    // Notes why a file is not opened.
+    fn refuse<D: Display>(&mut self, path: &str, reason: &D) {
+        self.refused = format!(in self.rt.alloc(); "{path}: {reason}").ok();
     }
 
     /// Opens a file for a buffered reader.
@@ -79,10 +105,14 @@ impl Opener for Files<'_> {
     type Input = File;
 
     fn open(&mut self, path: &str) -> io::Result<File> {
-        match File::open(self.rt, path) {
-            Ok(file) => Ok(file),
+        match self.opened(path) {
+            Ok(Some(file)) => Ok(file),
+            Ok(None) => {
+                self.refuse(path, &SPENT);
+                Err(io::Error::from(io::ErrorKind::InvalidInput))
+            }
             Err(error) => {
-                self.refused = format!(in self.rt.alloc(); "{path}: {error}").ok();
+                self.refuse(path, &error);
                 Err(error)
             }
         }

@@ -121,6 +121,6 @@ fn judge_content(reply: &Reply, piece: Piece, notes: &mut Notes) {
     }
     notes.note(
         Name::ContentBesideEoverflow,
-        reply.has_eoverflow & request.is_proper & is_df_read(request),
+        reply.has_eoverflow & request.is_proper() & is_df_read(request),
     );
 }

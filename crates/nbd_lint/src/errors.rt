@@ -2,6 +2,7 @@
 
 use crate::notes::Notes;
 use crate::numbers::{ENOMEM, ENOTSUP, EOVERFLOW, ESHUTDOWN, UNFRAGMENTED, USUAL_LARGEST};
+use crate::reasons::Reasons;
 use crate::reply::{Errored, Reply};
 use crate::table::Name;
 use crate::transmission::{Request, Transmission};
@@ -19,7 +20,7 @@ pub fn judge_error(reply: &Reply, before: &Transmission, errored: Errored, notes
     notes.note_one(Name::UnknownError, !is_known, number);
     notes.note_two(
         Name::ErrorAfterEshutdown,
-        request.is_late & request.is_proper & (error != ESHUTDOWN),
+        request.is_late & request.is_proper() & (error != ESHUTDOWN),
         number,
         before.eshutdown,
     );
@@ -34,7 +35,7 @@ pub fn judge_error(reply: &Reply, before: &Transmission, errored: Errored, notes
 
 // The first error of a request that the client should not have sent is not the one for that.
 fn judge_improper(reply: &Reply, error: u32, notes: &mut Notes) {
-    let reasons = reply.request.reasons;
+    let reasons = Reasons::of(&reply.request);
     let command = reply.request.head.command;
     let is_any = reasons.is_forbidden | reasons.is_invalid;
     let is_judged = (reply.errors == 0) & is_any & !reasons.is_open;
@@ -68,7 +69,7 @@ fn judge_eoverflow(reply: &Reply, before: &Transmission, errored: Errored, notes
     let is_small = request.length <= UNFRAGMENTED;
     let is_over = is_over_announced(request, before);
     notes.note_one(Name::Eoverflow, is_surprising, request.length);
-    if errored.is_plain & request.is_proper & is_df_read(request) {
+    if errored.is_plain & request.is_proper() & is_df_read(request) {
         notes.note(Name::ContentBesideEoverflow, has_content);
         notes.note_one(
             Name::EoverflowToSmallDfRead,

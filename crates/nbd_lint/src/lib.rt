@@ -39,6 +39,5 @@ mod transmission;
 mod wildcards;
 
 pub use linter::Linter;
-pub use places::Runs;
 pub use report::{Form, Refusal, Report, Wanted, is_kept, listed};
 pub use table::{Level, rule_named};

@@ -8,13 +8,14 @@ use crate::infos::judge_flags;
 use crate::negotiation::Negotiation;
 use crate::notes::Notes;
 use crate::numbers::ESHUTDOWN;
-use crate::places::{Runs, START};
+use crate::places::START;
 use crate::reply::{Errored, Reply};
 use crate::requests::{judge_disconnect, judge_request};
 use crate::sizes::{Announced, NOTHING};
 use crate::table::Name;
 use crate::tls::judge_tls;
 use crate::transmission::{Transmission, request_of};
+use nbd_session::{Session, Stretch};
 use nbd_state::Export;
 use nbd_wire::{Bytes, Info, Message, RequestHead, answers, commands, info_of, options, side_of};
 use std::alloc::Global;
@@ -30,17 +31,11 @@ pub struct Linter {
 }
 
 impl Linter {
-    /// One that has taken these messages, in the order in which a session accepted them, of a capture of these runs; whether hints
-    /// are looked for.
-    pub fn of(alloc: Global, messages: &[Message], runs: &Runs, are_hinting: bool) -> Linter {
+    /// One that has taken the messages that a session accepted; whether hints are looked for.
+    pub fn of(alloc: Global, session: &Session, are_hinting: bool) -> Linter {
         let mut notes = Notes::none(alloc, are_hinting);
         let mut course = Course::none(alloc);
-        let mut places = START;
-        for (at, message) in messages.iter().enumerate() {
-            let place = places.place_of(runs, message);
-            notes.begin(side_of(message), place);
-            course.take(message, at, messages, &mut notes);
-        }
+        course.take_all(session.messages(), session.stretches(), &mut notes);
         Linter {
             notes,
             stage: course.stage,
@@ -74,6 +69,16 @@ impl Course {
             transmission: Transmission::none(alloc),
             begun: BTreeMap::new(alloc),
             stage: Stage::Apart,
+        }
+    }
+
+    // Takes the messages of a capture of these stretches.
+    fn take_all(&mut self, messages: &[Message], stretches: &[Stretch], notes: &mut Notes) {
+        let mut places = START;
+        for (at, message) in messages.iter().enumerate() {
+            let place = places.place_of(stretches, message);
+            notes.begin(side_of(message), place);
+            self.take(message, at, messages, notes);
         }
     }
 

@@ -1,11 +1,9 @@
 //! Why a client should not have sent a request, as far as proto.md names an error for it (proto.md, "Error values").
 
 use crate::numbers::{EINVAL, ENOSPC, EOVERFLOW, EPERM, ESHUTDOWN};
-use nbd_state::{Asking, Export, Telling, ends_by, has_range, is_proper};
-use nbd_wire::flags::has;
-use nbd_wire::{RequestHead, command_flags, commands, transmission};
-use std::alloc::Global;
-use std::collections::BTreeSet;
+use crate::transmission::Request;
+use nbd_state::has_range;
+use nbd_wire::{RequestHead, command_flags, commands};
 
 /// Why a client should not have sent a request: there may be more than one reason.
 #[derive(Clone, Copy, Drop)]
@@ -23,34 +21,18 @@ pub struct Reasons {
     pub is_open: bool,
 }
 
-/// The flags of an export that offers everything, and may be changed.
-const OFFERS: u16 = transmission::SEND_FLUSH
-    | transmission::SEND_TRIM
-    | transmission::SEND_WRITE_ZEROES;
-
 impl Reasons {
-    /// Those of a request that asks this of an export.
-    pub fn of(
-        alloc: Global,
-        export: Export,
-        asking: &Asking,
-        head: &RequestHead,
-        is_aligned: bool,
-    ) -> Reasons {
-        let command = head.command;
-        if (command == commands::BLOCK_STATUS) & !asking.has_contexts {
-            return Reasons::unanswerable(1);
+    /// Those of a request.
+    pub fn of(request: &Request) -> Reasons {
+        let (head, flaws) = (&request.head, request.flaws);
+        if flaws.is_unknown {
+            return Reasons::unanswerable(usize::from(head.command == commands::BLOCK_STATUS));
         }
-        if (command != commands::FLUSH) & !has_range(command) {
-            return Reasons::unanswerable(0);
-        }
-        let is_past_end = is_past_end(export, head, asking.length);
-        let has_other_flags = has_other_flags(alloc, export, asking, head);
-        let is_unaligned = has_range(command) & !is_aligned;
-        let is_forbidden = is_forbidden(export, command);
-        let sentence = if is_past_end {
-            2 + usize::from(is_fill(command))
-        } else if is_forbidden {
+        let has_other_flags = (flaws.flags & !uncounted_flags(head)) != 0;
+        let is_unaligned = has_range(head.command) & !request.is_aligned;
+        let sentence = if flaws.is_beyond {
+            2 + usize::from(is_fill(head.command))
+        } else if flaws.is_forbidden {
             4
         } else if has_other_flags {
             5
@@ -59,10 +41,10 @@ impl Reasons {
         };
         Reasons {
             sentence,
-            is_invalid: is_past_end | has_other_flags | is_unaligned,
-            is_overfull: is_past_end & is_fill(command),
-            is_forbidden,
-            is_open: is_open(export, head, asking.length),
+            is_invalid: flaws.is_beyond | has_other_flags | is_unaligned,
+            is_overfull: flaws.is_beyond & is_fill(head.command),
+            is_forbidden: flaws.is_forbidden,
+            is_open: flaws.is_unoffered | flaws.is_ranged,
         }
     }
 
@@ -95,56 +77,11 @@ fn is_fill(command: u16) -> bool {
     command == commands::WRITE || command == commands::WRITE_ZEROES
 }
 
-fn is_past_end(export: Export, head: &RequestHead, length: u64) -> bool {
-    has_range(head.command) & !ends_by(head.offset, length, export.size)
-}
-
-fn is_forbidden(export: Export, command: u16) -> bool {
-    (is_fill(command) | (command == commands::TRIM)) & has(export.flags, transmission::READ_ONLY)
-}
-
-// Whether a request is not offered, or is a FLUSH of a range.
-fn is_open(export: Export, head: &RequestHead, length: u64) -> bool {
-    match head.command {
-        commands::FLUSH => {
-            !has(export.flags, transmission::SEND_FLUSH) | (head.offset != 0) | (length != 0)
-        }
-        commands::TRIM => !has(export.flags, transmission::SEND_TRIM),
-        commands::WRITE_ZEROES => !has(export.flags, transmission::SEND_WRITE_ZEROES),
-        _ => false,
-    }
-}
-
-// Whether a request has command flags that are not for it: whether one of no bytes, to an export that offers everything, is
-// not proper either. With an extended header PAYLOAD_LEN counts for nothing on WRITE and BLOCK_STATUS.
-fn has_other_flags(alloc: Global, export: Export, asking: &Asking, head: &RequestHead) -> bool {
-    let offering = Export {
-        size: export.size,
-        flags: (export.flags & !transmission::READ_ONLY) | OFFERS,
-    };
-    let empty = RequestHead {
-        flags: counted_flags(head),
-        offset: 0,
-        length: 0,
-        ..*head
-    };
-    let asked = Asking {
-        has_contexts: asking.has_contexts,
-        length: 0,
-        takes_filter: false,
-        told: Telling {
-            filtered: false,
-            ids: BTreeSet::new(alloc),
-        },
-    };
-    !is_proper(offering, &asked, &empty)
-}
-
-// The flags of a request that count.
-fn counted_flags(head: &RequestHead) -> u16 {
+// The flags of a request for which proto.md names no error: with an extended header PAYLOAD_LEN of a BLOCK_STATUS.
+fn uncounted_flags(head: &RequestHead) -> u16 {
     if head.extended & (head.command == commands::BLOCK_STATUS) {
-        head.flags & !command_flags::PAYLOAD_LEN
+        command_flags::PAYLOAD_LEN
     } else {
-        head.flags
+        0
     }
 }

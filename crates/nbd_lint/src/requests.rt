@@ -77,7 +77,7 @@ fn judge_alignment(request: &Request, before: &Transmission, notes: &mut Notes) 
     };
     let command = request.head.command;
     let is_status = command == commands::BLOCK_STATUS;
-    if !request.is_proper | is_status | !has_range(command) {
+    if !request.is_proper() | is_status | !has_range(command) {
         return;
     }
     if !is_aligned(request, before.export.size, size) {

@@ -1,9 +1,8 @@
 //! What was requested and answered so far.
 
 use crate::notes::Notes;
-use crate::reasons::Reasons;
 use crate::sizes::{Announced, NOTHING};
-use nbd_state::{Asking, Export, Outstanding, Selection, is_proper};
+use nbd_state::{Asking, Export, Flaws, Outstanding, Selection, flaws_of};
 use nbd_wire::{Message, RequestHead};
 use std::alloc::Global;
 
@@ -17,16 +16,20 @@ pub struct Request {
     pub length: u64,
     /// A metadata context is in force.
     pub has_contexts: bool,
-    /// Whether a client should send it to the export.
-    pub is_proper: bool,
+    /// What is wrong with it.
+    pub flaws: Flaws,
     /// Its range is aligned to the minimum block size, if there is one.
     pub is_aligned: bool,
-    pub reasons: Reasons,
     /// It came behind an ESHUTDOWN.
     pub is_late: bool,
 }
 
 impl Request {
+    /// Whether a client should send it to the export.
+    pub fn is_proper(&self) -> bool {
+        self.flaws.is_none()
+    }
+
     /// Where its range ends, in bytes from the export's start.
     pub fn end(&self) -> u64 {
         self.head.offset.saturating_add(self.length)
@@ -118,7 +121,7 @@ impl Transmission {
             .selection
             .asking(alloc, self.is_agreed, flags, head, payload)
         {
-            Ok(asking) => Some(self.asking(alloc, before as u64, head, &asking)),
+            Ok(asking) => Some(self.asking(before as u64, head, &asking)),
             Err(_) => {
                 notes.is_refused = true;
                 None
@@ -127,17 +130,15 @@ impl Transmission {
     }
 
     // The same of one that asks this.
-    fn asking(&self, alloc: Global, before: u64, head: &RequestHead, asking: &Asking) -> Request {
+    fn asking(&self, before: u64, head: &RequestHead, asking: &Asking) -> Request {
         let sizes = self.sizes;
-        let is_aligned = sizes.is_multiple(head.offset) & sizes.is_multiple(asking.length);
         Request {
             number: before.saturating_add(1),
             head: *head,
             length: asking.length,
             has_contexts: asking.has_contexts,
-            is_proper: is_proper(self.export, asking, head),
-            is_aligned,
-            reasons: Reasons::of(alloc, self.export, asking, head, is_aligned),
+            flaws: flaws_of(self.export, asking, head),
+            is_aligned: sizes.is_multiple(head.offset) & sizes.is_multiple(asking.length),
             is_late: self.eshutdown != 0 && before >= self.before_eshutdown,
         }
     }

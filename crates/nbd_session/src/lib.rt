@@ -24,3 +24,4 @@ pub use monitor::Monitor;
 pub use nbd_state::{Asked, Outcome, Transcript};
 pub use nbd_wire::{Piece, WireFault};
 pub use session::Session;
+pub use stretches::Stretch;

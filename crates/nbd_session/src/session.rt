@@ -2,11 +2,12 @@
 
 ghost use Rattle.std.specs.Prelude.{◌≡◌, ◌+◌, ◌++◌, ◌<◌, ◌≤◌, ◌^◌, drop, Err, IfErr, IfOk, None, OnOk, Some, length};
 ghost use Rattle.nbd_wire.specs.Prelude.{side_pairs, IsUnderWayOf, CompletesExactlyOf};
-ghost use Rattle.nbd_session.specs.{declared.fault.SessionFault.SessionFault, Refusals.{EndsIn, HasNoPlaceOf, IsComplete, Refuses}, Sessions.{Adds, AddsPrefix, IsAtEnd, IsOfRun, IsReported, fault_at_end, fault_of, empty_session, empty_session_of, pairs_of, bytes_taken}};
+ghost use Rattle.nbd_session.specs.{declared.fault.SessionFault.SessionFault, Refusals.{EndsIn, HasNoPlaceOf, IsComplete, Refuses}, Sessions.{Adds, AddsPrefix, IsAtEnd, IsOfRun, IsReported, fault_at_end, fault_of, empty_session, empty_session_of, pairs_of, bytes_taken}, Views.stretches_of};
 
 use crate::fault::SessionFault;
 use crate::log::Log;
 use crate::monitor::Monitor;
+use crate::stretches::Stretch;
 use nbd_state::Transcript;
 use nbd_wire::{Message, Profile, Side};
 use std::alloc::Global;
@@ -126,6 +127,13 @@ impl Session {
         ensures complete { IsComplete self.now }
     {
         self.log.messages.as_slice()
+    }
+
+    /// Which side sent how many of the bytes that were taken, one stretch after the other.
+    pub fn stretches(&self) -> &[Stretch]
+        ensures { stretches_of result.now ≡ self.now.stretches }
+    {
+        self.log.stretches.as_slice()
     }
 
     /// Ends the session; takes no memory.

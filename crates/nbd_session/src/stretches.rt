@@ -7,7 +7,7 @@ use nbd_wire::Side;
 
 /// Successive bytes of one side: whose they are, and how many.
 #[derive(Clone, Copy, Drop)]
-pub(crate) struct Stretch {
+pub struct Stretch {
     pub from: Side,
     pub length: u64,
 }

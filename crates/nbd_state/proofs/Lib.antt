@@ -2,6 +2,7 @@ pub mod Common
 pub mod NotingLemmas
 pub mod CompletionLemmas
 pub mod FilterLemmas
+pub mod FlawLemmas
 pub mod HeadLemmas
 pub mod IndexLemmas
 pub mod PhaseLemmas

@@ -1,4 +1,5 @@
 pub mod Filters
+pub mod Flaws
 pub mod Indexes
 pub mod Pieces
 pub mod Places

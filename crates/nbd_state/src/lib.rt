@@ -28,7 +28,7 @@ pub use index::SpanIndex;
 pub use offsets::byte_read;
 pub use outstanding::Outstanding;
 pub use pieces::Pieces;
-pub use proper::{ends_by, has_range, is_change, is_outside, is_proper};
+pub use proper::{Flaws, ends_by, flaws_of, has_range, is_change, is_outside};
 pub use selection::Selection;
 pub use span::Span;
 pub use state::{Chosen, Export, Phase, State};

@@ -1,34 +1,65 @@
 //! Whether a client should send a request (proto.md, "Request types", "Command flags",
 //! "Transmission flags").
 
-ghost use Rattle.std.specs.Prelude.{◌≡◌, ◌<◌, ◌+◌, ◌==◌, ◌&&◌, ◌||◌, ℕ, List, Option, false, length, not, nat_le, if◌then◌else◌};
+ghost use Rattle.std.specs.Prelude.{◌≡◌, ◌<◌, ◌+◌, ◌-◌, ◌==◌, ℕ, List, Option, bit_and, false, length, not, nat_le, if◌then◌else◌};
 ghost use Rattle.nbd_wire.specs.{declared.{message.Message.Message, sizes.Sizes.Sizes}, Prelude.{Context, Filter, Operation}};
 ghost use Rattle.nbd_wire.specs.protocol.Operations as operations;
-ghost use Rattle.nbd_state.specs.{Filters.Asks, Showing.exporting, internal.operation_of_head};
+ghost use Rattle.nbd_state.specs.{Filters.Asks, Flaws.{flaws, is_none}, Showing.exporting, internal.operation_of_head};
 
 use crate::asking::Asking;
 use crate::state::Export;
-use nbd_wire::flags::{has, has_only};
+use nbd_wire::flags::has;
 use nbd_wire::{RequestHead, Sizes, breaks_sizes, command_flags, commands, transmission};
 
-/// Whether a client should send this request, which asks this, to the export.
-#[tactic(auto, unfolding(nbd_wire::specs::protocol::Operations::is_proper))]
-pub fn is_proper(export: Export, asking: &Asking, request: &RequestHead) -> bool
-    ensures { (payload : List ℕ) (contexts : List Context) (filter : Option Filter) (sizes : Option Sizes)
+/// What is wrong with a request that a client should not send.
+#[derive(Clone, Copy, Drop)]
+pub struct Flaws {
+    /// Its type is none of those that nbdcheck follows; a BLOCK_STATUS is of one where a metadata context is in force.
+    pub is_unknown: bool,
+    /// Its range passes the end of the export.
+    pub is_beyond: bool,
+    /// The export does not offer its type.
+    pub is_unoffered: bool,
+    /// It changes an export that is read-only.
+    pub is_forbidden: bool,
+    /// The flags that it has and may not have.
+    pub flags: u16,
+    /// It is a FLUSH with an offset or a length.
+    pub is_ranged: bool,
+}
+
+impl Flaws {
+    /// Whether there is none.
+    pub fn is_none(self) -> bool
+        ensures { result ≡ is_none self }
+    {
+        !(self.is_unknown || self.is_beyond || self.is_unoffered || self.is_forbidden)
+            && self.flags == 0
+            && !self.is_ranged
+    }
+}
+
+/// What is wrong with this request, which asks this, on the export; nothing with one that a client should send.
+pub fn flaws_of(export: Export, asking: &Asking, request: &RequestHead) -> Flaws
+    ensures flaws { (payload : List ℕ) (contexts : List Context) (filter : Option Filter) (sizes : Option Sizes)
         (replies : List Message) → Asks export.flags contexts filter request.now.length asking.now →
-        result ≡ operations.is_proper (exporting export)
+        result ≡ flaws (exporting export) (operation_of_head request.now payload contexts filter sizes replies) }
+    ensures proper { (payload : List ℕ) (contexts : List Context) (filter : Option Filter) (sizes : Option Sizes)
+        (replies : List Message) → Asks export.flags contexts filter request.now.length asking.now →
+        is_none result ≡ operations.is_proper (exporting export)
         (operation_of_head request.now payload contexts filter sizes replies) }
 {
-    let carries = request.extended && request.command == commands::WRITE || asking.takes_filter;
-    is_known(request.command, asking.has_contexts)
-        && is_in_range(export.size, request.command, request.offset, asking.length)
-        && is_offered(export.flags, request.command)
-        && !(is_change(request.command) && has(export.flags, transmission::READ_ONLY))
-        && has_only(
-            u32::from(request.flags),
-            u32::from(allowed_flags(carries, export.flags, request.command)),
-        )
-        && (request.command != commands::FLUSH || request.offset == 0 && asking.length == 0)
+    let (command, length) = (request.command, asking.length);
+    let carries = request.extended & (command == commands::WRITE) | asking.takes_filter;
+    let allowed = allowed_flags(carries, export.flags, command);
+    Flaws {
+        is_unknown: !is_known(command, asking.has_contexts),
+        is_beyond: has_range(command) & !ends_by(request.offset, length, export.size),
+        is_unoffered: !is_offered(export.flags, command),
+        is_forbidden: is_change(command) & has(export.flags, transmission::READ_ONLY),
+        flags: others(request.flags, allowed),
+        is_ranged: (command == commands::FLUSH) & ((request.offset != 0) | (length != 0)),
+    }
 }
 
 /// Whether a request of this type, with a range of this offset and size in bytes, breaks the block sizes, if there are
@@ -85,13 +116,6 @@ pub fn ends_by(offset: u64, size: u64, end: u64) -> bool
     offset <= end && size <= end - offset
 }
 
-// The range of a request of this type, if it has one, lies in an export of this size.
-fn is_in_range(size: u64, command: u16, offset: u64, length: u64) -> bool
-    ensures { result ≡ not (operations.has_range command) || nat_le (offset + length) size }
-{
-    !has_range(command) || ends_by(offset, length, size)
-}
-
 // The export offers the type. CACHE needs no SEND_CACHE: servers carry it out without that flag
 // (this project's choice).
 fn is_offered(flags: u16, command: u16) -> bool
@@ -103,6 +127,13 @@ fn is_offered(flags: u16, command: u16) -> bool
         commands::WRITE_ZEROES => has(flags, transmission::SEND_WRITE_ZEROES),
         _ => true,
     }
+}
+
+// Of these flags those that are not among the allowed ones.
+fn others(flags: u16, allowed: u16) -> u16
+    ensures { result ≡ flags - bit_and flags allowed }
+{
+    flags - (flags & allowed)
 }
 
 // The flags that a request of this type may have, by whether PAYLOAD_LEN is one.

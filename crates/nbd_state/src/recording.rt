@@ -9,7 +9,7 @@ ghost use Rattle.nbd_state.specs.{internal.{is_allocation_told, carried, operati
 use crate::asked::{Asked, Exchange, Outcome};
 use crate::asking::Asking;
 use crate::pieces::Pieces;
-use crate::proper::{is_outside, is_proper};
+use crate::proper::{flaws_of, is_outside};
 use crate::state::Export;
 use crate::statuses::{told_in, zeroes_told};
 use nbd_wire::flags::has;
@@ -45,7 +45,7 @@ impl Exchange {
         ensures unanswered { IfOk result (λ x. x.asked.known_at ≡ None) }
     {
         let payload = carried(head, payload)?;
-        let proper = is_proper(export, &asking, head);
+        let proper = flaws_of(export, &asking, head).is_none();
         let asked = Asked {
             flags: head.flags,
             command: head.command,

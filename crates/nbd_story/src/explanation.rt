@@ -1,6 +1,6 @@
 //! The explanation of a verdict, and what the answer of a search is worth.
 
-use crate::rules::{IMAGE_RULE, Rule};
+use crate::rules::{CONTENTS_RULE, IMAGE_RULE, Rule};
 use crate::story::Story;
 use crate::text::Text;
 use nbd_export::Start;
@@ -19,6 +19,20 @@ pub struct Sources<'a> {
 /// What stands for the place of an entry where there is none: no order has one there.
 pub const NO_PLACE: usize = usize::MAX;
 
+/// The rule of an image that does not fit the export, who broke it, and both sizes.
+const IMAGE: (&Rule, &str, &str) = (
+    &IMAGE_RULE,
+    "the image that was given",
+    "sizes: the image has {image:byte}, the export {size:byte}\n",
+);
+
+/// The same of contents.
+const CONTENTS: (&Rule, &str, &str) = (
+    &CONTENTS_RULE,
+    "the contents that were given",
+    "sizes: the contents have {image:byte}, the export {size:byte}\n",
+);
+
 /// That the start may not be the one that was named, where no change of the session comes before what was read.
 pub const DOUBTED: &str =
     "perhaps: the start was another, as where an earlier session had changed the export\n";
@@ -33,7 +47,7 @@ pub fn explanation_of(
     let text = match verdict {
         Verdict::Yes { .. } => text.amiss(sources.story),
         Verdict::Wire { at, fault } => text.wire_fault(*at, *fault, sources.story),
-        Verdict::Image { image, size } => text.image(*image, *size),
+        Verdict::Image { image, size } => text.image(*image, *size, sources.start),
         Verdict::Order { entry, fault } => text.order_fault(*entry, *fault, &sources),
         Verdict::Content { request, offset } | Verdict::Status { request, offset } => {
             text.wrong_byte(*request, *offset, &sources)
@@ -43,11 +57,13 @@ pub fn explanation_of(
 }
 
 impl Text {
-    /// Adds why an image of so many bytes does not fit an export of this size.
-    pub fn image(self, image: u64, size: u64) -> Text {
-        let words = "sizes: the image has {image:byte}, the export {size:byte}\n";
-        self.rule(&IMAGE_RULE, "the image that was given")
-            .fill(words, &[image, size])
+    /// Adds why an image or contents of so many bytes do not fit an export of this size.
+    pub fn image(self, image: u64, size: u64, start: Option<&Start>) -> Text {
+        let (rule, breaker, words) = match start {
+            Some(Start::Contents(_)) => CONTENTS,
+            _ => IMAGE,
+        };
+        self.rule(rule, breaker).fill(words, &[image, size])
     }
 
     /// Adds a rule, who broke it, and where it stands.

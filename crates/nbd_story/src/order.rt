@@ -12,6 +12,10 @@ use std::alloc::AllocError;
 const IN_WIDE: &str =
     "wide: each message of a READ's reply is served by itself there, so this may be no fault; try --profile wide\n";
 
+/// Said behind such a fault in the profile `Wide`, where another rule holds of these READs.
+const BY_CHUNK: &str =
+    "wide: of a READ what its messages showed has to be served, each byte before the message that showed it was complete\n";
+
 impl Text {
     /// Adds what is wrong with this entry of the order, counted from 1, or of Missing and NotCovered with this request.
     pub fn order_fault(self, entry: u64, fault: OrderFault, sources: &Sources<'_>) -> Text {
@@ -20,10 +24,13 @@ impl Text {
             fault,
             OrderFault::Late | OrderFault::Missing | OrderFault::NotCovered
         );
-        let is_base = sources.story.profile == Profile::Base;
+        let words = match sources.story.profile {
+            Profile::Base => IN_WIDE,
+            Profile::Wide => BY_CHUNK,
+        };
         let text = self
             .rule(&order_rule(fault), "the order that was given")
-            .say_if(is_due & is_base & sources.story.has_chunks_apart(), IN_WIDE);
+            .say_if(is_due & sources.story.has_chunks_apart(), words);
         match fault {
             OrderFault::Missing => text.moments("no entry: ", request),
             OrderFault::NotCovered => text

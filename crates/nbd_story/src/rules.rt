@@ -163,6 +163,12 @@ pub const IMAGE_RULE: Rule = Rule {
     section: CHOICE,
 };
 
+/// Contents that are no start of the export.
+pub const CONTENTS_RULE: Rule = Rule {
+    sentence: "A text of contents has the size of the export.",
+    ..IMAGE_RULE
+};
+
 /// A READ with a wrong byte.
 pub const CONTENT_RULE: Rule = Rule {
     breaker: Breaker::Server,

@@ -5,7 +5,7 @@ use crate::explanation::Sources;
 use crate::recording::Recording;
 use crate::told::{Form, NO_REQUEST, Request, Told};
 use nbd_export::Start;
-use nbd_state::{Export, Selection, is_proper};
+use nbd_state::{Export, Selection, flaws_of};
 use nbd_wire::flags::{has, has_wide};
 use nbd_wire::{
     AnswerHead, Bytes, ChoiceHead, Entry, Info, Message, Part, Profile, RequestHead, Side, Sizing,
@@ -178,7 +178,7 @@ impl Story {
         request.first = told.first;
         request.last = told.last;
         match self.asking(head, self.behind(told)) {
-            Ok(asking) => request.proper = is_proper(self.export, &asking, head),
+            Ok(asking) => request.flaws = flaws_of(self.export, &asking, head),
             Err(_) => self.is_refused = true,
         }
         self.has_chunks_apart |= self.replying != 0;

@@ -1,6 +1,6 @@
 //! A message of a session and a request, without their payloads, and parts of the export.
 
-use nbd_state::{Export, has_range, is_change};
+use nbd_state::{Export, Flaws, has_range, is_change};
 use nbd_wire::{
     AnswerHead, ChoiceHead, ChunkHead, Entry, Part, RequestHead, Side, SimpleHead, chunks, commands,
 };
@@ -140,8 +140,8 @@ pub struct Request {
     pub due: u64,
     /// The error that its reply told; 0 where it told none.
     pub error: u32,
-    /// Whether a client should send it to the export.
-    pub proper: bool,
+    /// What is wrong with it.
+    pub flaws: Flaws,
 }
 
 /// What stands for a request where there is none: its number is 0, and its type asks for nothing.
@@ -163,7 +163,14 @@ pub const NO_REQUEST: Request = Request {
     finished: 0,
     due: 0,
     error: 0,
-    proper: false,
+    flaws: Flaws {
+        is_unknown: true,
+        is_beyond: false,
+        is_unoffered: false,
+        is_forbidden: false,
+        flags: 0,
+        is_ranged: false,
+    },
 };
 
 impl Request {
@@ -197,7 +204,7 @@ impl Request {
 
     /// Whether an entry can serve a part of it: its type has a range, and it is no BLOCK_STATUS that is not proper.
     pub fn has_inside(&self) -> bool {
-        has_range(self.head.command) & (self.proper | !self.is_status())
+        has_range(self.head.command) & (self.flaws.is_none() | !self.is_status())
     }
 
     /// What of its range lies in an export of this size; nothing where no part of it can be served.

@@ -5,7 +5,7 @@ use crate::story::Story;
 use crate::text::Text;
 use crate::told::{Form, NO_MESSAGE, Told};
 use nbd_wire::names::{Name, name_in};
-use nbd_wire::{Profile, Side, WireFault, head_lengths, options};
+use nbd_wire::{Profile, Side, WireFault, chunks, failure_of, head_lengths, options};
 
 /// Who broke a rule where a request was answered before it was whole.
 const EARLY: &str =
@@ -21,6 +21,15 @@ const OF_OLDSTYLE: &str = "nobody; the server speaks oldstyle, which nbdcheck do
 
 const HASTY: &str =
     "nobody; nbdcheck waits for all data of an option before its reply, which proto.md does not ask";
+
+const EAGER: &str =
+    "nobody; nbdcheck waits for the answer to EXPORT_NAME, and proto.md has options alone wait for it";
+
+const UNKNOWN_ERROR: &str =
+    "nobody; the profile base knows the errors ERROR and ERROR_OFFSET alone, and proto.md lets a client go on behind others";
+
+/// The magic number of a request.
+const REQUEST: &[u8] = b"\x25\x60\x95\x13";
 
 const OF_READ: &str =
     "nobody, where the recording was cut off, or where the server failed to read: it has to disconnect here then; else the server";
@@ -179,9 +188,30 @@ impl Story {
             WireFault::CookieInUse => SHOULD,
             WireFault::BadMagic if front.starts_with(OLDSTYLE) => OF_OLDSTYLE,
             WireFault::OutOfTurn if self.is_hasty(at, sender) => HASTY,
+            WireFault::OutOfTurn if self.is_eager() => EAGER,
+            WireFault::BadChunk if self.has_unknown_error(&reply) => UNKNOWN_ERROR,
             WireFault::Unfinished if is_reading => OF_READ,
             WireFault::UnknownCookie if self.is_answered_early() => EARLY,
             _ => breaker_name(breaker, sender),
+        }
+    }
+
+    // Whether a request stands where the server has to answer EXPORT_NAME.
+    fn is_eager(&self) -> bool {
+        let bytes = self
+            .recording
+            .bytes_from(Side::Client, self.count(Side::Client));
+        (self.option == options::EXPORT_NAME) & !self.is_transmission & bytes.starts_with(REQUEST)
+    }
+
+    // Whether a chunk has the type of an error that Base does not know, and the form of one.
+    fn has_unknown_error(&self, reply: &Told) -> bool {
+        let is_formed = failure_of(chunks::ERROR, self.behind(reply)).is_some();
+        match reply.form {
+            Form::Chunk(head) if self.profile == Profile::Base => {
+                is_formed & (head.kind >= chunks::FIRST_ERROR) & (head.kind != chunks::ERROR_OFFSET)
+            }
+            _ => false,
         }
     }
 

@@ -21,11 +21,15 @@ pub fn is_empty(rt: &HostRuntime, path: &str) -> bool {
     }
 }
 
-/// Whether a path names a directory.
-pub fn is_directory(rt: &HostRuntime, path: &str) -> bool {
-    match fs::metadata(rt, path) {
-        Ok(found) => found.is_dir(),
-        Err(_) => false,
+/// Why a file that is there cannot be read, where the file system tells.
+pub fn unreadable(rt: &HostRuntime, path: &str) -> Option<&'static str> {
+    let found = fs::metadata(rt, path).ok()?;
+    if found.is_dir() {
+        Some("it is a directory")
+    } else if found.len() > READ_LIMIT as u64 {
+        Some("it has more than 1099511627776 bytes, the most that an input may have")
+    } else {
+        None
     }
 }
 

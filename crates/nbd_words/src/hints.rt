@@ -1,7 +1,7 @@
 //! What a person is told of an input beside the answer, on standard error: what the capture looks like, and what is wrong with a line.
 
 use crate::asked::Asked;
-use crate::glance::{is_answer, is_directory, is_empty, is_exchanged, line_of};
+use crate::glance::{is_answer, is_empty, is_exchanged, line_of, unreadable};
 use crate::mistakes::{Mistake, capture_mistake, order_mistake, script_mistake};
 use nbd_files::{Files, RunFault, StartWord, tell};
 
@@ -40,10 +40,10 @@ pub fn tell_of_fault(files: &Files<'_>, fault: &RunFault, asked: &Asked<'_>) {
     }
 }
 
-// Says that a file is a directory, where it is.
+// Says why a file cannot be read, where that is seen.
 fn hint_of_file(files: &Files<'_>, path: &str) {
-    if is_directory(files.rt, path) {
-        if let Ok(text) = format!(in files.rt.alloc(); "{path}: it is a directory") {
+    if let Some(reason) = unreadable(files.rt, path) {
+        if let Ok(text) = format!(in files.rt.alloc(); "{path}: {reason}") {
             files.hint(text);
         }
     }

@@ -34,7 +34,7 @@ hints | hints | - | - | - | Says on standard error what it says on a terminal: w
 level | level | LEVEL | should | - | Down to which level is told: must, should or hint
 allow | allow | RULE | - | - | A rule that may be broken; may stand more than once
 json | json | - | - | - | Prints an object of JSON a line
-list | list | - | - | CAPTURE allow json | Prints the rules: level, who is bound, name, and the lines of proto.md";
+list | list | - | - | CAPTURE profile level allow json | Prints the rules: level, who is bound, name, and the lines of proto.md";
 
 /// What stands in a line where there is nothing.
 const NONE: &str = "-";

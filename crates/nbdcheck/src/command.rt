@@ -128,7 +128,7 @@ fn ordered(files: &Files<'_>, answer: &Result<Ordered, RunFault>, asked: &Asked<
     let status = order_status(answer);
     if matches!(answer, Ok(Ordered::Refuted)) {
         files.hint(
-            "'nbdcheck explain' with the same words and no order says why, and of the profile base whether wide has an order",
+            "'nbdcheck explain' with the same words, but for --whole, says why, and of the profile base whether wide has an order",
         );
     }
     ended(files, status, answer.as_ref().err(), asked)

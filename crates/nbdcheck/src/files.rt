@@ -4,8 +4,8 @@ ghost use Rattle.std.specs.Prelude.{◌≡◌, ◌⊎◌, Err, IfErr, IfOk, Ok};
 ghost use Rattle.nbd_files.specs.declared.fault.RunFault.TheVariants.{Memory, Write};
 
 use nbd_explain::{
-    Answer, Ordered, run_arrival_of, run_contents, run_explain_of, run_lint, run_names_of,
-    run_order_of, run_show_of, write_rules,
+    Answer, Ordered, run_arrival, run_contents, run_explain, run_lint, run_names, run_order,
+    run_show_of, write_rules,
 };
 use nbd_files::{Files, FinalWriter, Opener, RunFault, StartFrom, open_start, terminal};
 use nbd_json::{Lines, Objects};
@@ -81,7 +81,7 @@ fn explain_over<C: BufRead + Drop, W: Write>(
 ) -> Result<Answer, RunFault> {
     let order = opened(files, asked.order, RunFault::OrderRead)?;
     let start = open_start(files, asked.start)?;
-    run_explain_of(
+    run_explain(
         files.rt.alloc(),
         asked.profile,
         asked.is_json,
@@ -109,7 +109,7 @@ fn order_into<W: Write>(
     let (rt, alloc) = (files.rt, files.rt.alloc());
     let capture = files.open_buffered(asked.input, RunFault::CaptureRead)?;
     let start = open_start(files, asked.start)?;
-    run_order_of(
+    run_order(
         alloc,
         asked.profile,
         capture,
@@ -206,9 +206,9 @@ fn write_to<W: Write>(
     out: &mut W,
 ) -> Result<bool, RunFault> {
     match written {
-        Written::Numbers => run_arrival_of(alloc, asked.profile, input, out),
+        Written::Numbers => run_arrival(alloc, asked.profile, input, out),
         Written::Lines => run_show_of(alloc, asked.profile, input, out),
-        Written::Names => run_names_of(alloc, asked.profile, asked.is_json, input, out),
+        Written::Names => run_names(alloc, asked.profile, asked.is_json, input, out),
         Written::Capture => {
             run_make(alloc, input, out)?;
             Ok(true)

@@ -1,5 +1,5 @@
 use Rattle.nbd_explain.proofs.{ExplainedLemmas.{arrives, arrives_not}, Common.{subst, rules, Appends, number_lines}}
-use Rattle.nbd_explain.proofs.arrival.run_arrival_of.Goals as goal
+use Rattle.nbd_explain.proofs.arrival.run_arrival.Goals as goal
 
 pub returns-in_ok-write_numbers-in-Ok-clause-written : goal.returns-in_ok-write_numbers-in-Ok-clause-written
 returns-in_ok-write_numbers-in-Ok-clause-written g c =

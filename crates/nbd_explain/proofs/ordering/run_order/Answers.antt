@@ -1,5 +1,5 @@
 use Rattle.nbd_explain.proofs.OrderingLemmas.{orders_written}
-use Rattle.nbd_explain.proofs.ordering.run_order_of.Goals as goal
+use Rattle.nbd_explain.proofs.ordering.run_order.Goals as goal
 
 pub returns-clause-written : goal.returns-clause-written
 returns-clause-written g c =
