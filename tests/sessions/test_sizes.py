@@ -307,14 +307,21 @@ def costs_of_contents(tally, room):
     capture = room.put("scattered.cap", scattered(count, 2**30))
     order = room.put("scattered.ord", b"".join(b"%d\n" % number for number in range(1, count + 1)))
     words = ["check", capture, order, "--start", "zero"]
-    least = costs(tally, room, "check of scattered changes", yes(count, count, 0), *words)
     *_, memory = room.measured(*words)
-    for words in (["contents", capture, order], ["contents", capture]):
-        words += ["--start", "zero"]
-        seconds = costs(tally, room, f"{words}", Ended(0, None, b""), *words)
-        tally.holds(f"{words}: seconds", seconds <= 1.5 * least + APART / 5, (seconds, least))
-        *_, peak = room.measured(*words)
-        tally.holds(f"{words}: memory", peak <= 1.2 * memory, (peak, memory))
+    for told in (["contents", capture, order, *words[3:]], ["contents", capture, *words[3:]]):
+        pairs = []
+        # Both in turn and the least of each, since what else the machine does can double a run of half a second.
+        while len(pairs) < 10 and not is_near(pairs):
+            least = costs(tally, room, "check of scattered changes", yes(count, count, 0), *words)
+            pairs.append((costs(tally, room, f"{told}", Ended(0, None, b""), *told), least))
+        tally.holds(f"{told}: seconds", is_near(pairs), pairs)
+        *_, peak = room.measured(*told)
+        tally.holds(f"{told}: memory", peak <= 1.2 * memory, (peak, memory))
+
+
+def is_near(pairs):
+    """Whether the least seconds of `contents` are at most half as many again as the least of `check`, but for a tenth of one."""
+    return bool(pairs) and min(seconds for seconds, _ in pairs) <= 1.5 * min(least for _, least in pairs) + APART / 5
 
 
 def held_in_pieces(length):
