@@ -168,6 +168,59 @@ def bad_order_lines(tally, room):
     tally.want("an answer behind an entry", room.run("check", good, bad), fault("order line 2"))
 
 
+def bad_contents_lines(tally, room):
+    """On a terminal the commands that read contents say what is wrong with the line that they name, by it and by what came before it."""
+    good, order = room.put("good", CAPTURE), room.put("order", b"1\n")
+    first = b"the first line is size, one space and a number of bytes"
+    words = b"a line has a word, an offset, and how many bytes or which, with one space between two"
+    kind = b"a line begins with zero, unknown or data and one space"
+    digit = b"another character stands in a number than a digit"
+    offset = b"a line begins at the offset where the one before ended, the first one at 0"
+    ends = b"the text ends before it told all bytes of its size"
+    hexadecimal = b"there is another character than a hexadecimal digit"
+    for name, number, text, what in (
+        ("nothing", 1, b"", ends),
+        ("a remark alone", 2, b"# size 8\n", ends),
+        ("no size", 1, b"zero 0 8\n", first),
+        ("no size behind a remark", 3, b"# of a disk\n\nzero 0 8\n", first),
+        ("a size alone", 2, b"size 8\n", ends),
+        ("a size of no number", 1, b"size eight\n", digit),
+        ("a size without a number", 1, b"size \n", b"one space stands between two numbers, and no other"),
+        ("a size of 2^63", 1, b"size 9223372036854775808\n", b"a size is at most 9223372036854775807"),
+        ("a size with a zero in front", 1, b"size 08\n", b"a number begins with a zero"),
+        ("a second size", 3, b"size 8\nzero 0 4\nsize 8\n", b"the size is told once, before all bytes"),
+        ("a byte too few", 5, b"size 8\nzero 0 4\n\ndata 4 010203\n", ends),
+        ("a byte too many", 2, b"size 8\nzero 0 9\n", b"the line passes the size"),
+        ("a byte of data too many", 3, b"size 8\nunknown 0 7\ndata 7 0102\n", b"the line passes the size"),
+        ("behind the size", 4, b"size 8\nzero 0 8\n# all\nzero 8 1\n", b"the line passes the size"),
+        ("the first at 1", 2, b"size 8\nzero 1 7\n", offset),
+        ("before the end of zeroes", 3, b"size 8\nzero 0 4\nzero 3 5\n", offset),
+        ("behind the end of data", 5, b"size 8\ndata 0 0102\n# a remark\n\nunknown 3 5\n", offset),
+        ("an offset of 2^64", 2, b"size 8\nzero 18446744073709551616 8\n", b"a number is too long: it is 2^64 or more"),
+        ("an offset in hexadecimal", 2, b"size 8\nzero 0x0 8\n", digit),
+        ("no byte", 2, b"size 8\nzero 0 0\n", b"a line tells of one byte or more"),
+        ("a length with a zero in front", 2, b"size 8\nunknown 0 08\n", b"a number begins with a zero"),
+        ("a length of no number", 2, b"size 8\nunknown 0 all\n", digit),
+        ("half a byte", 2, b"size 8\ndata 0 012\n", b"the number of hexadecimal digits is odd"),
+        ("no digit", 2, b"size 8\ndata 0 0x\n", hexadecimal),
+        ("no data", 2, b"size 8\ndata 0 \n", words),
+        ("no length", 2, b"size 8\nzero 0\n", words),
+        ("two spaces", 2, b"size 8\nzero 0  8\n", words),
+        ("a space behind", 2, b"size 8\nzero 0 8 \n", words),
+        ("capitals", 2, b"size 8\nZERO 0 8\n", kind),
+        ("a space in front", 2, b"size 8\n zero 0 8\n", kind),
+        ("a carriage return", 1, b"size 8\r\nzero 0 8\r\n", b"a carriage return ends the line"),
+        ("no line feed", 2, b"size 8\nzero 0 8", b"no line feed ends the line"),
+    ):
+        start = ["--start", f"contents:{room.put('bad', text)}"]
+        told = f"fault contents line {number}\n".encode()
+        for command in (["check", good, order], ["explain", good], ["order", good], ["contents", good]):
+            name_of = f"contents, {name}: {command[0]}"
+            tally.want(f"{name_of}, on a terminal", on_a_terminal(room, *command, *start), Ended(3, b"", told + what + LF))
+            tally.want(f"{name_of}, with hints", room.run(*command, *start, "--hints"), Ended(3, b"", told + what + LF))
+            tally.want(name_of, room.run(*command, *start), Ended(3, b"", told))
+
+
 def looks_of_captures(tally, room):
     """What is said of a capture beside the answer: that its sides are exchanged, or that nothing was recorded."""
     order, none = room.put("order", b"1\n"), room.put("none", b"")
@@ -207,5 +260,5 @@ def looks_of_captures(tally, room):
 
 def run(tally):
     with Room() as room:
-        for part in (terminals, directories, bad_words, bad_capture_lines, bad_order_lines, bad_script_lines, looks_of_captures):
+        for part in (terminals, directories, bad_words, bad_capture_lines, bad_order_lines, bad_script_lines, bad_contents_lines, looks_of_captures):
             part(tally, room)

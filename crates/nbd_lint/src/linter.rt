@@ -14,9 +14,9 @@ use crate::requests::{judge_disconnect, judge_request};
 use crate::sizes::{Announced, NOTHING};
 use crate::table::Name;
 use crate::tls::judge_tls;
-use crate::transmission::{Transmission, request_of};
+use crate::transmission::Transmission;
 use nbd_session::{Session, Stretch};
-use nbd_state::Export;
+use nbd_state::{Export, chunk_in, request_in};
 use nbd_wire::{Bytes, Info, Message, RequestHead, answers, commands, info_of, options, side_of};
 use std::alloc::Global;
 use std::collections::BTreeMap;
@@ -103,33 +103,16 @@ impl Course {
 
     // Takes a request or a chunk.
     fn transmit(&mut self, message: &Message, at: usize, messages: &[Message], notes: &mut Notes) {
-        match message {
-            Message::Chunk {
-                flags,
-                kind,
-                cookie,
-                payload,
-            }
-            | Message::ExtendedChunk {
-                flags,
-                kind,
-                cookie,
-                payload,
-                ..
-            } => {
-                let chunk = Chunk {
-                    flags: *flags,
-                    kind: *kind,
-                    payload: payload.as_slice(),
-                };
-                self.begin_reply(*cookie, messages, notes);
-                self.chunk(*cookie, chunk, notes);
-            }
-            _ => {
-                if let Some((head, _)) = request_of(message) {
-                    self.ask(at, &head, messages, notes);
-                }
-            }
+        if let Some((head, payload)) = chunk_in(message) {
+            let chunk = Chunk {
+                flags: head.flags,
+                kind: head.kind,
+                payload: payload.as_slice(),
+            };
+            self.begin_reply(head.cookie, messages, notes);
+            self.chunk(head.cookie, chunk, notes);
+        } else if let Some((head, _)) = request_in(message) {
+            self.ask(at, &head, messages, notes);
         }
     }
 

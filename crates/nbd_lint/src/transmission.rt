@@ -2,7 +2,7 @@
 
 use crate::notes::Notes;
 use crate::sizes::{Announced, NOTHING};
-use nbd_state::{Asking, Export, Flaws, Outstanding, Selection, flaws_of};
+use nbd_state::{Asking, Export, Flaws, Outstanding, Selection, flaws_of, request_in};
 use nbd_wire::{Message, RequestHead};
 use std::alloc::Global;
 
@@ -102,8 +102,8 @@ impl Transmission {
 
     // The request behind so many others that a message is.
     fn asked(&self, before: usize, message: &Message, notes: &mut Notes) -> Option<Request> {
-        match request_of(message) {
-            Some((head, payload)) => self.request(before, &head, payload, notes),
+        match request_in(message) {
+            Some((head, payload)) => self.request(before, &head, payload.as_slice(), notes),
             None => None,
         }
     }
@@ -166,48 +166,5 @@ impl Transmission {
             self.eshutdown = place;
             self.before_eshutdown = self.places.len() as u64;
         }
-    }
-}
-
-/// The head and the payload of a message that is a request.
-pub fn request_of(message: &Message) -> Option<(RequestHead, &[u8])> {
-    match message {
-        Message::Request {
-            flags,
-            command,
-            cookie,
-            offset,
-            length,
-            payload,
-        } => {
-            let head = RequestHead {
-                extended: false,
-                flags: *flags,
-                command: *command,
-                cookie: *cookie,
-                offset: *offset,
-                length: u64::from(*length),
-            };
-            Some((head, payload.as_slice()))
-        }
-        Message::ExtendedRequest {
-            flags,
-            command,
-            cookie,
-            offset,
-            length,
-            payload,
-        } => {
-            let head = RequestHead {
-                extended: true,
-                flags: *flags,
-                command: *command,
-                cookie: *cookie,
-                offset: *offset,
-                length: *length,
-            };
-            Some((head, payload.as_slice()))
-        }
-        _ => None,
     }
 }

@@ -1,5 +1,5 @@
 -- What is wrong with a request, and whether a client should send it.
-use Rattle.nbd_state.proofs.Common.{Bool, not, ◌&&◌, ◌||◌, ◌==◌, ◌-◌, ◌≡◌, ◌∙◌, ℕ, ap, arith, refl, rules, tests, nat_le, ◌+◌, Exporting, Operation, has, is_known, is_proper}
+use Rattle.nbd_state.proofs.Common.{Bool, not, ◌&&◌, ◌||◌, ◌==◌, ◌-◌, ◌≡◌, ◌∙◌, ℕ, ap, arith, rules, tests, nat_le, ◌+◌, Exporting, Operation, has, is_known, is_proper}
 use Rattle.nbd_state.specs.Flaws.{flaws, is_none}
 use Rattle.nbd_state.specs.declared.proper.Flaws.{Flaws}
 use Rattle.nbd_wire.specs.protocol.{Flags.has_only, Operations.{allowed_flags, has_range, is_change, is_offered, may_carry}}

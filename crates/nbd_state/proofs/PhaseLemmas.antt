@@ -1,5 +1,7 @@
 -- What a state shows once a message of the negotiation has completed.
-use Rattle.nbd_state.proofs.Common.{IsAllowed, allowed, arith, ◌≡◌, ℕ, ◌<◌, ◌||◌, ◌&&◌, ◌==◌, List, length, refl, sym, ◌∙◌, ap, subst, Option, Some, None, Bool, slice_get_within, place_at, ask_allow, extended_ask_allow, MayAsk, Message, Greeting, ClientFlags, Choice, Answer, Exported, Request, ExtendedRequest, Simple, Chunk, ExtendedChunk, Sizing, sizing_after, sizing_at, agrees, reply_phase, choice_phase, is_proper_option, next_phase, selection_after, selection_at, takes_contexts, Exporting, AnswersOne, MayComplete, complete, grants_structured, Core, Phase, Answering, Transmission, export_in, Chosen, State, MayTake, IsTransmitting, Selection, HasSelection, Shows, export_shown_if, phase_shown}
+use Rattle.nbd_state.proofs.Common.{IsAllowed, allowed, arith, [], true, false, None, carried, chunk_of, core_with_reply, core_with_request, filter_of_head, has_contexts, in_force, operation_of_head, sizes_for, sizes_kept, RequestHead, ◌≡◌, ℕ, ◌<◌, ◌||◌, ◌&&◌, ◌==◌, List, length, refl, sym, ◌∙◌, ap, subst, Option, Some, Bool, slice_get_within, place_at, ask_allow, extended_ask_allow, MayAsk, Message, Greeting, ClientFlags, Choice, Answer, Exported, Request, ExtendedRequest, Simple, Chunk, ExtendedChunk, Sizing, sizing_after, sizing_at, agrees, reply_phase, choice_phase, is_proper_option, next_phase, selection_after, selection_at, takes_contexts, Exporting, AnswersOne, MayComplete, complete, grants_structured, Core, Phase, Answering, Transmission, export_in, Chosen, State, MayTake, IsTransmitting, Selection, HasSelection, Shows, export_shown_if, phase_shown}
+use Rattle.nbd_state.specs.{Places.{chunk_with, request_of, request_with}, Shows.export_shown}
+use Rattle.nbd_wire.specs.declared.heads.transmission.ChunkHead.{ChunkHead}
 use Rattle.nbd_state.proofs.{PlacedLemmas.place_shows_operation, CompletionLemmas.negotiation_is_shown}
 use Rattle.nbd_wire.specs.declared.commands.TheConstants as commands
 use Rattle.nbd_wire.specs.declared.{options.TheConstants.EXTENDED_HEADERS, answers.TheConstants.ACK}
@@ -39,12 +41,12 @@ exports : (core : Core) (p : Phase) (size flags : ℕ) (padded : Bool) → MayCo
 unfolding IsAllowed next_phase
 exports core p size flags padded ok = grind (arith, allowed core p (Exported size flags padded) ok)
 
-pub asked_in : (core : Core) (p : Phase) (flags command cookie offset len : ℕ) (payload : List ℕ) → MayComplete core p (Request flags command cookie offset len payload) →
+asked_in : (core : Core) (p : Phase) (flags command cookie offset len : ℕ) (payload : List ℕ) → MayComplete core p (Request flags command cookie offset len payload) →
     (export : Exporting) × (p ≡ Transmission export) × MayAsk (command == commands.DISC) core cookie offset len
 unfolding IsAllowed
 asked_in core p flags command cookie offset len payload ok = grind (arith, ask_allow, allowed core p (Request flags command cookie offset len payload) ok)
 
-pub extended_asked_in : (core : Core) (p : Phase) (flags command cookie offset len : ℕ) (payload : List ℕ) → MayComplete core p (ExtendedRequest flags command cookie offset len payload) →
+extended_asked_in : (core : Core) (p : Phase) (flags command cookie offset len : ℕ) (payload : List ℕ) → MayComplete core p (ExtendedRequest flags command cookie offset len payload) →
     (export : Exporting) × (p ≡ Transmission export) × MayAsk (command == commands.DISC) core cookie offset len
 unfolding IsAllowed
 extended_asked_in core p flags command cookie offset len payload ok = grind (arith, extended_ask_allow, allowed core p (ExtendedRequest flags command cookie offset len payload) ok)
@@ -54,12 +56,12 @@ pub simple_in : (core : Core) (p : Phase) (error cookie : ℕ) (payload : List �
 unfolding IsAllowed
 simple_in core p error cookie payload ok = grind (arith, allowed core p (Simple error cookie payload) ok)
 
-pub chunk_in : (core : Core) (p : Phase) (flags kind cookie : ℕ) (payload : List ℕ) → MayComplete core p (Chunk flags kind cookie payload) →
+chunk_in : (core : Core) (p : Phase) (flags kind cookie : ℕ) (payload : List ℕ) → MayComplete core p (Chunk flags kind cookie payload) →
     (export : Exporting) × (p ≡ Transmission export) × AnswersOne core export cookie (Chunk flags kind cookie payload)
 unfolding IsAllowed
 chunk_in core p flags kind cookie payload ok = grind (arith, allowed core p (Chunk flags kind cookie payload) ok)
 
-pub extended_chunk_in : (core : Core) (p : Phase) (flags kind cookie offset : ℕ) (payload : List ℕ) → MayComplete core p (ExtendedChunk flags kind cookie offset payload) →
+extended_chunk_in : (core : Core) (p : Phase) (flags kind cookie offset : ℕ) (payload : List ℕ) → MayComplete core p (ExtendedChunk flags kind cookie offset payload) →
     (export : Exporting) × (p ≡ Transmission export) × AnswersOne core export cookie (ExtendedChunk flags kind cookie offset payload)
 unfolding IsAllowed
 extended_chunk_in core p flags kind cookie offset payload ok = grind (arith, allowed core p (ExtendedChunk flags kind cookie offset payload) ok)
@@ -110,22 +112,49 @@ module _ (old new : State) (core : Core) (s : Shows old core) where
 pub shows_same : {new : State} (core : Core) (m n : Message) → m ≡ n → Shows new (complete core n) → Shows new (complete core m)
 shows_same {new} core m n e s = subst (λ x. Shows new (complete core x)) (sym e) s
 
--- where a message may complete that is none of the negotiation, the state is in transmission
-pub transmits : (state : State) (m : Message) → MayTake state m → ((flags : ℕ) → m ≡ Greeting flags → ⊥) → ((flags : ℕ) → m ≡ ClientFlags flags → ⊥) → ((id : ℕ) (payload : List ℕ) → m ≡ Choice id payload → ⊥) →
-    ((option kind : ℕ) (payload : List ℕ) → m ≡ Answer option kind payload → ⊥) → ((size flags : ℕ) (padded : Bool) → m ≡ Exported size flags padded → ⊥) → IsTransmitting state.phase
-transmits state (Request flags command cookie offset len payload) t a b c d e = grind (arith, asked_in)
-transmits state (ExtendedRequest flags command cookie offset len payload) t a b c d e = grind (arith, extended_asked_in)
-transmits state (Simple error cookie payload) t a b c d e = grind (arith, simple_in)
-transmits state (Chunk flags kind cookie payload) t a b c d e = grind (arith, chunk_in)
-transmits state (ExtendedChunk flags kind cookie offset payload) t a b c d e = grind (arith, extended_chunk_in)
-transmits state m t a b c d e = absurd (grind (arith, a, b, c, d, e))
+-- a request, by whichever header
+pub requested_in : (core : Core) (p : Phase) (head : RequestHead) (payload : List ℕ) → MayComplete core p (request_of head payload) →
+    (export : Exporting) × (p ≡ Transmission export) × MayAsk (head.command == commands.DISC) core head.cookie head.offset head.length
+requested_in core p head payload ok = go head.extended ok
+  where
+    go : (extended : Bool) → MayComplete core p (request_with extended head.flags head.command head.cookie head.offset head.length payload) →
+        (export : Exporting) × (p ≡ Transmission export) × MayAsk (head.command == commands.DISC) core head.cookie head.offset head.length
+    go false ok = asked_in core p head.flags head.command head.cookie head.offset head.length payload ok
+    go true ok = extended_asked_in core p head.flags head.command head.cookie head.offset head.length payload ok
 
--- and there no other may
-pub no_other : (state : State) (m : Message) → MayTake state m → IsTransmitting state.phase → ((flags command cookie offset len : ℕ) (payload : List ℕ) → m ≡ Request flags command cookie offset len payload → ⊥) →
-    ((flags command cookie offset len : ℕ) (payload : List ℕ) → m ≡ ExtendedRequest flags command cookie offset len payload → ⊥) → ((error cookie : ℕ) (payload : List ℕ) → m ≡ Simple error cookie payload → ⊥) →
-    ((flags kind cookie : ℕ) (payload : List ℕ) → m ≡ Chunk flags kind cookie payload → ⊥) → ((flags kind cookie offset : ℕ) (payload : List ℕ) → m ≡ ExtendedChunk flags kind cookie offset payload → ⊥) → ⊥
-unfolding IsAllowed
-no_other state m t i a b c d e = grind (arith, allowed t.core t.core.phase m t.completes)
+pub request_completes : (core : Core) (head : RequestHead) (payload : List ℕ) → complete core (request_of head payload) ≡ core_with_request (head.command == commands.DISC) core
+    (operation_of_head head (carried head payload) (in_force core) (filter_of_head (has_contexts core) head payload) (sizes_for core.structured head.command (sizes_kept core.sizing)) [])
+unfolding complete
+request_completes core head payload = go head.extended refl
+  where
+    go : (extended : Bool) → head.extended ≡ extended → complete core (request_of head payload) ≡ core_with_request (head.command == commands.DISC) core
+        (operation_of_head head (carried head payload) (in_force core) (filter_of_head (has_contexts core) head payload) (sizes_for core.structured head.command (sizes_kept core.sizing)) [])
+    go false e = grind arith
+    go true e = grind arith
+
+-- where one may complete, the state is in transmission
+pub request_transmits : (state : State) (m : Message) (head : RequestHead) (payload : List ℕ) → MayTake state m → m ≡ request_of head payload → IsTransmitting state.phase
+request_transmits state m head payload t e =
+    let a = requested_in t.core t.core.phase head payload (subst (λ n. MayComplete t.core t.core.phase n) e t.completes) in
+    (export_shown a.0, t.shows.phase_is ∙ ap phase_shown a.1)
+
+-- a chunk, by whichever header
+pub chunked_in : (core : Core) (p : Phase) (head : ChunkHead) (payload : List ℕ) → MayComplete core p (chunk_of head payload) →
+    (export : Exporting) × (p ≡ Transmission export) × AnswersOne core export head.cookie (chunk_of head payload)
+chunked_in core p head payload ok = go head.at ok
+  where
+    go : (at : Option ℕ) → MayComplete core p (chunk_with at head.flags head.kind head.cookie payload) →
+        (export : Exporting) × (p ≡ Transmission export) × AnswersOne core export head.cookie (chunk_with at head.flags head.kind head.cookie payload)
+    go None ok = chunk_in core p head.flags head.kind head.cookie payload ok
+    go (Some offset) ok = extended_chunk_in core p head.flags head.kind head.cookie offset payload ok
+
+pub chunk_completes : (core : Core) (head : ChunkHead) (payload : List ℕ) → complete core (chunk_of head payload) ≡ core_with_reply core (chunk_of head payload)
+unfolding complete
+chunk_completes core head payload = go head.at
+  where
+    go : (at : Option ℕ) → complete core (chunk_with at head.flags head.kind head.cookie payload) ≡ core_with_reply core (chunk_with at head.flags head.kind head.cookie payload)
+    go None = refl
+    go (Some offset) = refl
 
 -- the request that a reply answers has its exchange
 answered : (state : State) (core : Core) (export : Exporting) (cookie place : ℕ) → Shows state core → core.phase ≡ Transmission export → place_at state.outstanding cookie ≡ Some place → place < length state.exchanges.items
@@ -136,8 +165,7 @@ answered state core export cookie place s p g =
 pub answered_simple : (state : State) (error cookie : ℕ) (payload : List ℕ) (place : ℕ) → MayTake state (Simple error cookie payload) → place_at state.outstanding cookie ≡ Some place → place < length state.exchanges.items
 answered_simple state error cookie payload place t g = grind (arith, simple_in, answered)
 
-pub answered_chunk : (state : State) (flags kind cookie : ℕ) (payload : List ℕ) (place : ℕ) → MayTake state (Chunk flags kind cookie payload) → place_at state.outstanding cookie ≡ Some place → place < length state.exchanges.items
-answered_chunk state flags kind cookie payload place t g = grind (arith, chunk_in, answered)
-
-pub answered_extended : (state : State) (flags kind cookie offset : ℕ) (payload : List ℕ) (place : ℕ) → MayTake state (ExtendedChunk flags kind cookie offset payload) → place_at state.outstanding cookie ≡ Some place → place < length state.exchanges.items
-answered_extended state flags kind cookie offset payload place t g = grind (arith, extended_chunk_in, answered)
+pub answered_chunk : (state : State) (m : Message) (head : ChunkHead) (payload : List ℕ) (place : ℕ) → MayTake state m → m ≡ chunk_of head payload → place_at state.outstanding head.cookie ≡ Some place → place < length state.exchanges.items
+answered_chunk state m head payload place t e g =
+    let a = chunked_in t.core t.core.phase head payload (subst (λ n. MayComplete t.core t.core.phase n) e t.completes) in
+    answered state t.core a.0 head.cookie place t.shows a.1 g

@@ -1,7 +1,8 @@
--- The places of the outstanding requests, by their cookies; chunks by their heads; and where content lies in an export.
-use Rattle.std.specs.{Prelude.{ℕ, ◌+◌, ◌-◌, false, Option, Some, None, ◌&&◌, nat_le, get_or, if◌then◌else◌, List}, BTreeMap.get, Ordering.nat_cmp}
+-- The places of the outstanding requests, by their cookies; chunks and requests by their heads; and where content lies in an
+-- export.
+use Rattle.std.specs.{Prelude.{ℕ, ◌+◌, ◌-◌, Bool, true, false, Option, Some, None, ◌&&◌, nat_le, get_or, if◌then◌else◌, List}, BTreeMap.get, Ordering.nat_cmp}
 use Rattle.nbd_state.specs.declared.{outstanding.{Outstanding.Outstanding, Row.Row}, span.Span.Span}
-use Rattle.nbd_wire.specs.{declared.{heads.transmission.ChunkHead.ChunkHead, message.Message.{Message, TheVariants.{Chunk, ExtendedChunk}}, payloads.Piece.Piece}, Prelude.{piece_offset, piece_size}}
+use Rattle.nbd_wire.specs.{declared.{heads.transmission.{ChunkHead.ChunkHead, RequestHead.RequestHead}, message.Message.{Message, TheVariants.{Chunk, ExtendedChunk, ExtendedRequest, Request}}, payloads.Piece.Piece}, Prelude.{piece_offset, piece_size}}
 
 -- of those in a row, along which cookies and places count up by one
 abbrev pub place_in : Row → ℕ → Option ℕ
@@ -25,6 +26,28 @@ chunk_with (Some offset) flags kind cookie payload = ExtendedChunk flags kind co
 
 abbrev pub chunk_of : ChunkHead → List ℕ → Message
 chunk_of head payload = chunk_with head.at head.flags head.kind head.cookie payload
+
+-- a chunk, by whichever header
+abbrev pub is_chunk : Message → Bool
+is_chunk (Chunk flags kind cookie payload) = true
+is_chunk (ExtendedChunk flags kind cookie offset payload) = true
+is_chunk message = false
+
+-- a request with these fields, by whether its header is extended
+abbrev pub request_with : (extended : Bool) → (flags command cookie offset length : ℕ) → List ℕ → Message
+request_with false flags command cookie offset length payload = Request flags command cookie offset length payload
+request_with true flags command cookie offset length payload =
+    ExtendedRequest flags command cookie offset length payload
+
+abbrev pub request_of : RequestHead → List ℕ → Message
+request_of head payload =
+    request_with head.extended head.flags head.command head.cookie head.offset head.length payload
+
+-- a request, by whichever header
+abbrev pub is_request : Message → Bool
+is_request (Request flags command cookie offset length payload) = true
+is_request (ExtendedRequest flags command cookie offset length payload) = true
+is_request message = false
 
 -- where a piece lies
 abbrev pub span_of : Piece → Span

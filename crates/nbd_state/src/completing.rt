@@ -10,6 +10,7 @@ ghost use Rattle.nbd_wire.specs.protocol.States as definitions;
 ghost use Rattle.nbd_laws.specs.Reached.{IsReached};
 
 use crate::asked::Exchange;
+use crate::heads::{chunk_in, request_in};
 use crate::options::{is_proper_option, last_info, takes_contexts};
 use crate::recording::Counts;
 use crate::state::{Chosen, Export, Phase, State};
@@ -45,6 +46,12 @@ impl State {
             Shows self.old core → AreKnown before self.old.exchanges.items →
             AreKnown (λ k. noted (before k) (is_reply_to core message.now k) known) self.new.exchanges.items) }
     {
+        if let Some((head, payload)) = request_in(message) {
+            return self.request(alloc, &head, payload);
+        }
+        if let Some((head, payload)) = chunk_in(message) {
+            return self.chunk(alloc, &head, place, payload, known);
+        }
         match message {
             Message::Greeting { flags } => {
                 self.offered = *flags;
@@ -69,102 +76,11 @@ impl State {
                 });
                 Ok(())
             }
-            _ => self.transmit(alloc, message, place, known),
-        }
-    }
-
-    // The same of a message in transmission.
-    fn transmit(
-        &mut self,
-        alloc: Global,
-        message: &Message,
-        place: usize,
-        known: u64,
-    ) -> Result<(), AllocError>
-        requires transmits { IsTransmitting self.old.phase }
-        requires may { MayTake self.old message.now }
-        requires place { Answers self.old message.now place }
-        ensures profile { self.new.profile ≡ self.old.profile }
-        ensures shown { OnOk result ((core : Core) → IsReached core → Shows self.old core →
-            IsSendable message.now → MayComplete core core.phase message.now →
-            Shows self.new (complete core message.now)) }
-        ensures known { OnOk result ((core : Core) (before : ℕ → Option ℕ) → IsReached core →
-            Shows self.old core → AreKnown before self.old.exchanges.items →
-            AreKnown (λ k. noted (before k) (is_reply_to core message.now k) known) self.new.exchanges.items) }
-    {
-        match message {
-            Message::Request {
-                flags,
-                command,
-                cookie,
-                offset,
-                length,
-                payload,
-            } => {
-                let head = RequestHead {
-                    extended: false,
-                    flags: *flags,
-                    command: *command,
-                    cookie: *cookie,
-                    offset: *offset,
-                    length: u64::from(*length),
-                };
-                self.request(alloc, &head, payload)
-            }
-            Message::ExtendedRequest {
-                flags,
-                command,
-                cookie,
-                offset,
-                length,
-                payload,
-            } => {
-                let head = RequestHead {
-                    extended: true,
-                    flags: *flags,
-                    command: *command,
-                    cookie: *cookie,
-                    offset: *offset,
-                    length: *length,
-                };
-                self.request(alloc, &head, payload)
-            }
             Message::Simple {
                 error,
                 cookie,
                 payload,
             } => self.simple(alloc, *error, *cookie, place, payload, known),
-            Message::Chunk {
-                flags,
-                kind,
-                cookie,
-                payload,
-            } => {
-                let head = ChunkHead {
-                    at: None,
-                    flags: *flags,
-                    kind: *kind,
-                    cookie: *cookie,
-                    length: length_of(payload),
-                };
-                self.chunk(alloc, &head, place, payload, known)
-            }
-            Message::ExtendedChunk {
-                flags,
-                kind,
-                cookie,
-                offset,
-                payload,
-            } => {
-                let head = ChunkHead {
-                    at: Some(*offset),
-                    flags: *flags,
-                    kind: *kind,
-                    cookie: *cookie,
-                    length: length_of(payload),
-                };
-                self.chunk(alloc, &head, place, payload, known)
-            }
             _ => unreachable!(),
         }
     }
@@ -339,13 +255,6 @@ fn chosen(option: u32, payload: &[u8]) -> Phase
             info: None,
         }),
     }
-}
-
-// How many bytes a payload has.
-fn length_of(payload: &Bytes) -> u64
-    ensures { result ≡ length payload.now }
-{
-    payload.as_slice().len() as u64
 }
 
 /// Whether an answer puts structured replies in force.

@@ -8,6 +8,7 @@ mod apart;
 mod asked;
 mod asking;
 mod completing;
+mod heads;
 mod index;
 mod many;
 mod offsets;
@@ -24,6 +25,7 @@ mod transcript;
 
 pub use asked::{Asked, Exchange, Outcome};
 pub use asking::{Asking, Telling};
+pub use heads::{chunk_in, request_in};
 pub use index::SpanIndex;
 pub use offsets::byte_read;
 pub use outstanding::Outstanding;

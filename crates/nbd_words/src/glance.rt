@@ -111,6 +111,49 @@ fn read_line(reader: &mut BufReader<File>, number: u64, line: &mut Vec<u8>) -> b
     reader.read_until(b'\n', line).is_ok()
 }
 
+/// The line of a contents text with this number, with its line feed, behind the last line before it that tells something, without one.
+pub fn lines_of(rt: &HostRuntime, path: &str, number: u64) -> Option<(Vec<u8>, Vec<u8>)> {
+    match reopened(rt, path) {
+        Some(mut reader) => lines_in(rt.alloc(), &mut reader, number),
+        None => None,
+    }
+}
+
+// The same of the lines that are left.
+fn lines_in(
+    alloc: Global,
+    reader: &mut BufReader<File>,
+    number: u64,
+) -> Option<(Vec<u8>, Vec<u8>)> {
+    let (mut before, mut line) = (Vec::new(alloc), Vec::new(alloc));
+    if read_lines(reader, number, &mut before, &mut line) {
+        Some((before, line))
+    } else {
+        None
+    }
+}
+
+// Reads these two, and answers whether nothing failed.
+fn read_lines(
+    reader: &mut BufReader<File>,
+    number: u64,
+    before: &mut Vec<u8>,
+    line: &mut Vec<u8>,
+) -> bool {
+    for _ in 1..number {
+        line.clear();
+        if reader.read_until(b'\n', line).is_err() {
+            return false;
+        }
+        if !matches!(line.as_slice(), [] | [b'\n' | b'#', ..]) {
+            line.pop();
+            std::mem::swap(before, line);
+        }
+    }
+    line.clear();
+    reader.read_until(b'\n', line).is_ok()
+}
+
 // Opens a regular file once more.
 fn reopened(rt: &HostRuntime, path: &str) -> Option<BufReader<File>> {
     if !fs::metadata(rt, path).ok()?.is_file() {

@@ -1,8 +1,8 @@
 //! What a person is told of an input beside the answer, on standard error: what the capture looks like, and what is wrong with a line.
 
 use crate::asked::Asked;
-use crate::glance::{is_answer, is_empty, is_exchanged, line_of, unreadable};
-use crate::mistakes::{Mistake, capture_mistake, order_mistake, script_mistake};
+use crate::glance::{is_answer, is_empty, is_exchanged, line_of, lines_of, unreadable};
+use crate::mistakes::{Mistake, capture_mistake, contents_mistake, order_mistake, script_mistake};
 use nbd_files::{Files, RunFault, StartWord, tell};
 
 /// Says that nothing was recorded, or, of a session that was refused, that its sides are exchanged, where that is so.
@@ -25,18 +25,11 @@ pub fn tell_of_fault(files: &Files<'_>, fault: &RunFault, asked: &Asked<'_>) {
         RunFault::OrderRead => hint_of_file(files, order),
         RunFault::ImageRead | RunFault::ContentsRead => hint_of_file(files, path_in(asked.start)),
         RunFault::AgainstRead => hint_of_file(files, asked.against.unwrap_or("")),
-        RunFault::CaptureLine(number) => {
-            if let Some(line) = shown_line(files, asked.input, *number) {
-                hint_at(files, capture_mistake(&line));
-            }
-        }
+        RunFault::CaptureLine(number) => tell_of_chunk(files, asked.input, *number),
         RunFault::OrderLine(number) => tell_of_order(files, order, *number),
-        RunFault::ScriptLine(number) => {
-            if let Some(line) = shown_line(files, asked.input, *number) {
-                hint_at(files, script_mistake(&line));
-            }
-        }
-        RunFault::ContentsLine(_) | RunFault::Write | RunFault::Memory => {}
+        RunFault::ScriptLine(number) => tell_of_message(files, asked.input, *number),
+        RunFault::ContentsLine(number) => tell_of_contents(files, path_in(asked.start), *number),
+        RunFault::Write | RunFault::Memory => {}
     }
 }
 
@@ -57,6 +50,20 @@ fn path_in<'a>(start: StartWord<'a>) -> &'a str {
     }
 }
 
+// Says what is wrong with the line of a capture, where reasons are told.
+fn tell_of_chunk(files: &Files<'_>, path: &str, number: u64) {
+    if let Some(line) = shown_line(files, path, number) {
+        hint_at(files, capture_mistake(&line));
+    }
+}
+
+// The same of a script.
+fn tell_of_message(files: &Files<'_>, path: &str, number: u64) {
+    if let Some(line) = shown_line(files, path, number) {
+        hint_at(files, script_mistake(&line));
+    }
+}
+
 // Says that an order is an answer that has none, and else, where reasons are told, what is wrong with its line.
 fn tell_of_order(files: &Files<'_>, path: &str, number: u64) {
     if number == 1 && is_answer(files.rt, path) {
@@ -66,6 +73,15 @@ fn tell_of_order(files: &Files<'_>, path: &str, number: u64) {
         );
     } else if let Some(line) = shown_line(files, path, number) {
         hint_at(files, order_mistake(&line));
+    }
+}
+
+// Says what is wrong with the line of a contents text, where reasons are told.
+fn tell_of_contents(files: &Files<'_>, path: &str, number: u64) {
+    if files.are_hints_told() {
+        if let Some((before, line)) = lines_of(files.rt, path, number) {
+            hint_at(files, contents_mistake(&line, &before));
+        }
     }
 }
 

@@ -33,6 +33,17 @@ pub fn script_mistake(line: &[u8]) -> Mistake {
     }
 }
 
+/// What is wrong with a line of a contents text, whose line feed stands in it. Before it this line told something last, if one did.
+pub fn contents_mistake(line: &[u8], before: &[u8]) -> Mistake {
+    let words = match (ended(line), before) {
+        _ if line.is_empty() => "the text ends before it told all bytes of its size",
+        (Ok(line), []) => size_mistake(line),
+        (Ok(line), _) => piece_mistake(line, before),
+        (Err(words), _) => words,
+    };
+    (words, None)
+}
+
 // The line without the line feed, or what is wrong with its end, whatever stands in it.
 fn ended(line: &[u8]) -> Result<&[u8], &'static str>
     ensures { IfOk result (λ text. line.now ≡ text.now ++ line_feed ∷ []) }
@@ -132,6 +143,11 @@ fn payload_mistake(word: &[u8]) -> Option<&'static str> {
     let Some(digits) = word.strip_prefix(b"payload=") else {
         return Some("the last field of this message is payload=");
     };
+    spelling_mistake(digits)
+}
+
+// What is wrong with digits that spell bytes.
+fn spelling_mistake(digits: &[u8]) -> Option<&'static str> {
     match digits_mistake(digits) {
         (_, None) if digits.len() % 2 == 0 => None,
         (words, _) => Some(words),
@@ -157,6 +173,82 @@ fn numbers_mistake(line: &[u8]) -> &'static str {
         }
     }
     "an entry is one number, or three: a request, an offset and a length"
+}
+
+// What is wrong with the first line of a contents text that tells something.
+fn size_mistake(line: &[u8]) -> &'static str {
+    match line.strip_prefix(b"size ") {
+        Some(digits) => count_mistake(digits).unwrap_or("a size is at most 9223372036854775807"),
+        None => "the first line is size, one space and a number of bytes",
+    }
+}
+
+// What is wrong with a later one, behind this line.
+fn piece_mistake(line: &[u8], before: &[u8]) -> &'static str {
+    let (word, offset, value, is_longer) = words_of(line);
+    word_mistake(word, value.is_empty() | is_longer)
+        .or(offset_mistake(offset, end_of(before)))
+        .or(value_mistake(word, value))
+        .unwrap_or("the line passes the size")
+}
+
+// What is wrong with the first word of a later line, or with how many words it has.
+fn word_mistake(word: &[u8], has_others: bool) -> Option<&'static str> {
+    match word {
+        b"size" => Some("the size is told once, before all bytes"),
+        b"zero" | b"unknown" | b"data" if has_others => Some(
+            "a line has a word, an offset, and how many bytes or which, with one space between two",
+        ),
+        b"zero" | b"unknown" | b"data" => None,
+        _ => Some("a line begins with zero, unknown or data and one space"),
+    }
+}
+
+// The first three words of a line, empty where it has fewer, and whether it has more.
+fn words_of(line: &[u8]) -> (&[u8], &[u8], &[u8], bool) {
+    let (word, behind) = parted(line);
+    let (offset, behind) = parted(behind.unwrap_or(b""));
+    let (value, behind) = parted(behind.unwrap_or(b""));
+    (word, offset, value, behind.is_some())
+}
+
+// Where a line of contents ended; 0 of the one with the size.
+fn end_of(line: &[u8]) -> u64 {
+    let (word, offset, value, _) = words_of(line);
+    let offset = number_of(offset).unwrap_or(0);
+    match word {
+        b"size" => 0,
+        b"data" => offset.saturating_add(value.len() as u64 / 2),
+        _ => offset.saturating_add(number_of(value).unwrap_or(0)),
+    }
+}
+
+// What is wrong with the offset of a line that has to begin at this one.
+fn offset_mistake(digits: &[u8], wanted: u64) -> Option<&'static str> {
+    match count_mistake(digits) {
+        None if number_of(digits) != Some(wanted) => Some(
+            "a line begins at the offset where the one before ended, the first one at 0",
+        ),
+        mistake => mistake,
+    }
+}
+
+// What is wrong with what a line tells from its offset on: which bytes of data, or how many others.
+fn value_mistake(word: &[u8], value: &[u8]) -> Option<&'static str> {
+    match (word, value) {
+        (b"data", _) => spelling_mistake(value),
+        (_, b"0") => Some("a line tells of one byte or more"),
+        _ => count_mistake(value),
+    }
+}
+
+// What is wrong with digits that say how many bytes there are, or at which one a line begins.
+fn count_mistake(digits: &[u8]) -> Option<&'static str> {
+    if digits.iter().all(|byte| byte.is_ascii_digit()) {
+        number_mistake(digits)
+    } else {
+        Some("another character stands in a number than a digit")
+    }
 }
 
 fn number_mistake(digits: &[u8]) -> Option<&'static str> {
