@@ -1,5 +1,5 @@
--- The places of the outstanding requests, by their cookies; chunks and requests by their heads; and where content lies in an
--- export.
+-- The places of the outstanding requests, by their cookies; messages of transmission by their heads; and where content
+-- lies in an export.
 use Rattle.std.specs.{Prelude.{ℕ, ◌+◌, ◌-◌, Bool, true, false, Option, Some, None, ◌&&◌, nat_le, get_or, if◌then◌else◌, List}, BTreeMap.get, Ordering.nat_cmp}
 use Rattle.nbd_state.specs.declared.{outstanding.{Outstanding.Outstanding, Row.Row}, span.Span.Span}
 use Rattle.nbd_wire.specs.{declared.{heads.transmission.{ChunkHead.ChunkHead, RequestHead.RequestHead}, message.Message.{Message, TheVariants.{Chunk, ExtendedChunk, ExtendedRequest, Request}}, payloads.Piece.Piece}, Prelude.{piece_offset, piece_size}}
