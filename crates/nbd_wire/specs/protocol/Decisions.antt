@@ -23,7 +23,8 @@ magic_fault is_magic next = BadMagic when not is_magic else next
 
 -- a decision in one row: the length of the head, whether its magic numbers are its message's, what else is refused at
 -- its last byte, how many bytes follow it, what is refused at the last byte of all, and the message
-abbrev pub decide : ℕ → (is_magic : Bool) → Option WireFault → ℕ → Option WireFault → Message → Decision
+abbrev pub decide : (head : ℕ) → (is_magic : Bool) → (at_head : Option WireFault) → (payload : ℕ)
+    → (at_last : Option WireFault) → Message → Decision
 decide head is_magic at_head payload at_last m = record {
   head_length = head;
   head_fault = magic_fault is_magic at_head;
@@ -68,7 +69,8 @@ abort_answer bytes =
     (number_at 16 4 bytes) None (answer_of bytes)
 
 -- an answer to another option
-abbrev pub answer : Profile → ℕ → (proper takes : Bool) → Option Exporting → Selection → List ℕ → Decision
+abbrev pub answer : Profile → (option : ℕ) → (proper takes : Bool) → (info : Option Exporting) → Selection
+    → (bytes : List ℕ) → Decision
 answer profile option proper takes info selection bytes =
     decide 20 (number_at 0 8 bytes == ANSWER_MAGIC)
     (answer_head_fault profile option proper takes info (number_at 8 4 bytes) (number_at 12 4 bytes)
