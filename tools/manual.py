@@ -50,7 +50,8 @@ def order_rules():
 
 def manual():
     """The section of the manual page."""
-    lines = [".SH FAULTS", "Each fault, who broke the rule, the rule, and where it stands."]
+    lines = [".SH FAULTS", "Each fault, who broke the rule", ".RB ( explain",
+             "says where it is nobody after all), the rule, and where it stands."]
     for fault, breaker, sentence, section in rules():
         lines += [".TP", f'.BR {fault} " (' + breaker + ')"', *textwrap.wrap(sentence, 120), ".br", section]
     lines.append(".PP")

@@ -73,7 +73,7 @@ def make_parser():
     parser.add_argument("--profile", metavar="NAME", default="wide", help="handed on to nbdcheck: base or wide (wide)")
     parser.add_argument("--no-lint", action="store_true", help="does not ask nbdcheck lint")
     parser.add_argument("--strict", action="store_true", help="refuses a yes with improper requests, requests without a reply, "
-                        "broken musts, contents not compared, or a client that left in a message, and a connection without a byte")
+                        "broken musts or contents not compared, and a connection without a byte")
     parser.add_argument("--format", metavar="FORMAT", default="text", help="of the report: text, json or junit (text)")
     parser.add_argument("--report", metavar="PATH", help="writes the report to this file, and its text to standard output")
     parser.add_argument("--refuse", metavar="OPTIONS", default="", help="answers these options in the server's place, by "
