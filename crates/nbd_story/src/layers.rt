@@ -71,7 +71,7 @@ impl Story {
         for told in &self.told {
             is_refused |= add(&mut brought, told.content_to(read.number));
         }
-        gap(&mut brought, read.range(), is_refused)
+        Ok(gap(&in_order(brought, is_refused)?, read.range()))
     }
 }
 
@@ -120,14 +120,14 @@ impl Sources<'_> {
         Ok(())
     }
 
-    /// The first bytes of a part of the request with this number that no entry serves.
-    pub fn unserved(&self, number: u64, part: Part) -> Result<Part, AllocError> {
+    /// Where the parts of the request with this number begin and end that entries serve, in order.
+    pub fn served(&self, number: u64) -> Result<Vec<(u64, u64)>, AllocError> {
         let mut served = Vec::new(self.story.alloc());
         let mut is_refused = false;
         for entry in self.order {
             is_refused |= add(&mut served, part_in(entry, number));
         }
-        gap(&mut served, part, is_refused)
+        in_order(served, is_refused)
     }
 }
 
@@ -149,23 +149,29 @@ fn add(parts: &mut Vec<(u64, u64)>, part: Part) -> bool {
     part.length != 0 && parts.push((part.offset, end_of(part))).is_err()
 }
 
-// The first bytes of a part that none of others has, where no memory was refused for these; none where they have all.
-fn gap(others: &mut [(u64, u64)], part: Part, is_refused: bool) -> Result<Part, AllocError> {
-    others.sort_unstable();
-    let mut at = part.offset;
-    let mut next = end_of(part);
-    for (offset, end) in others.iter() {
-        if *offset > at {
-            next = next.min(*offset);
-            break;
-        }
-        at = at.max(*end);
-    }
+// Parts in their order, where no memory was refused for them.
+fn in_order(mut parts: Vec<(u64, u64)>, is_refused: bool) -> Result<Vec<(u64, u64)>, AllocError> {
+    parts.sort_unstable();
     if is_refused {
         Err(AllocError)
     } else {
-        Ok(between(at, next))
+        Ok(parts)
     }
+}
+
+/// The first bytes of a part that none of others has, which share no offset and are in order; none where they have all.
+pub fn gap(others: &[(u64, u64)], part: Part) -> Part {
+    let mut at = part.offset;
+    let mut next = end_of(part);
+    for place in others.partition_point(|one| one.1 <= part.offset)..others.len() {
+        let (offset, end) = others[place];
+        if (offset > at) | (at >= next) {
+            next = next.min(offset);
+            break;
+        }
+        at = end;
+    }
+    between(at, next)
 }
 
 /// The byte of contents at an offset, where it is known.

@@ -1,6 +1,7 @@
 //! Why no session with these bytes is served in an order.
 
 use crate::explanation::{NO_PLACE, Sources};
+use crate::layers::gap;
 use crate::rules::order_rule;
 use crate::story::Story;
 use crate::text::Text;
@@ -175,19 +176,16 @@ fn served_by(entry: &Entry, sources: &Sources<'_>) -> Request {
 fn first_gap(request: &Request, sources: &Sources<'_>) -> Result<Part, AllocError> {
     let number = request.number;
     let inside = request.inside(sources.story.export.size);
+    let served = sources.served(number)?;
     if (request.finished == 0) & sources.story.profile.serves_by_chunk(request.head.command) {
         for message in &sources.story.told {
-            let shown = common(message.content_to(number), inside);
-            if shown.length == 0 {
-                continue;
-            }
-            let gap = sources.unserved(number, shown)?;
-            if gap.length != 0 {
-                return Ok(gap);
+            let missing = gap(&served, common(message.content_to(number), inside));
+            if missing.length != 0 {
+                return Ok(missing);
             }
         }
     }
-    sources.unserved(number, inside)
+    Ok(gap(&served, inside))
 }
 
 // The least offset of a part that an entry before a place serves of this request, and the place of that entry.

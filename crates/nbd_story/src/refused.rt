@@ -4,7 +4,7 @@ use crate::content::bringer;
 use crate::reading::number_in;
 use crate::story::Story;
 use crate::text::Text;
-use crate::told::{Request, Told, meet, outside};
+use crate::told::{EMPTY, Request, Told, meet, outside};
 use nbd_wire::flags::has;
 use nbd_wire::{ChunkHead, Part, Profile, chunks, command_flags, commands, read_as};
 
@@ -16,7 +16,7 @@ const SHORT_STATUS: &str =
 const WIDE_STATUS: &str =
     "the payload of a status has an id and the number of its descriptors, of 4 bytes each, and so many descriptors of 16 bytes, at least one";
 
-/// Each byte of an export: content of a READ with DF may share none of them with other content.
+/// Each byte of an export: content of a proper READ with DF may share none of them with other content.
 const EACH: Part = Part {
     offset: 0,
     length: u64::MAX,
@@ -36,13 +36,7 @@ impl Text {
     /// Adds why a chunk with content, or with the offset of an error, does not fit its request, and the content that it rivals.
     pub fn bad_content(self, told: &Told, request: &Request, story: &Story) -> Text {
         let status = story.status_in(told);
-        let is_rivalling_all = has(request.head.flags, command_flags::DF);
-        let rivalled = if is_rivalling_all & (told.part.length != 0) {
-            EACH
-        } else {
-            told.part
-        };
-        let before = bringer(&story.told, request.number, rivalled);
+        let before = bringer(&story.told, request.number, rivalled(told.part, request));
         let reason = if status.count() != 0 {
             status_reason(status.id, request, story)
         } else if told.part.length != 0 {
@@ -123,6 +117,20 @@ fn status_reason(id: u32, request: &Request, story: &Story) -> &'static str {
         "the request has REQ_ONE, so it gets one descriptor, which ends with the range or before"
     } else {
         "the descriptors before the last one reach the end of the range"
+    }
+}
+
+// The part that this content of a request may not share with content before it: none where it answers no READ or leaves its range,
+// each byte where the READ is proper and has DF.
+fn rivalled(part: Part, request: &Request) -> Part {
+    let has_one_piece = has(request.head.flags, command_flags::DF) & request.flaws.is_none();
+    let is_outside = outside(part, request.range()).length != 0;
+    if (request.head.command != commands::READ) | is_outside | (part.length == 0) {
+        EMPTY
+    } else if has_one_piece {
+        EACH
+    } else {
+        part
     }
 }
 

@@ -54,8 +54,8 @@ proto.md, \"Option types\"
 
 OutOfProfile: The server granted an option that nbdcheck does not follow, or an extended header says more than it follows.
 
-BadReplyPayload: The data of an option reply has the form of its kind, an info on the export has HAS_FLAGS, and block sizes are such as a server may announce.
-proto.md, \"Option reply types\", \"Transmission flags\", \"Size constraints\"
+BadReplyPayload: The data of an option reply has the form of its kind, an info on the export has HAS_FLAGS, block sizes are such as a server may announce, and each selected context has an id of its own.
+proto.md, \"Option reply types\", \"Transmission flags\", \"Size constraints\", \"Metadata querying\"
 
 MissingExportInfo: INFO and GO are acknowledged only after an info on the export.
 proto.md, \"Option types\"

@@ -28,8 +28,10 @@ const EAGER: &str =
 const UNKNOWN_ERROR: &str =
     "nobody; the profile base knows the errors ERROR and ERROR_OFFSET alone, and proto.md lets a client go on behind others";
 
-/// The magic number of a request.
+/// The magic number of a request, without and with an extended header.
 const REQUEST: &[u8] = b"\x25\x60\x95\x13";
+
+const EXTENDED_REQUEST: &[u8] = b"\x21\xe4\x1c\x71";
 
 const OF_READ: &str =
     "nobody, where the recording was cut off, or where the server failed to read: it has to disconnect here then; else the server";
@@ -198,10 +200,15 @@ impl Story {
 
     // Whether a request stands where the server has to answer EXPORT_NAME.
     fn is_eager(&self) -> bool {
+        let magic = if self.is_extended {
+            EXTENDED_REQUEST
+        } else {
+            REQUEST
+        };
         let bytes = self
             .recording
             .bytes_from(Side::Client, self.count(Side::Client));
-        (self.option == options::EXPORT_NAME) & !self.is_transmission & bytes.starts_with(REQUEST)
+        (self.option == options::EXPORT_NAME) & !self.is_transmission & bytes.starts_with(magic)
     }
 
     // Whether a chunk has the type of an error that Base does not know, and the form of one.
