@@ -64,6 +64,8 @@ def bad_words(tally, room):
         (["--start", "image"], "start", b"a start is unknown, zero, or image: or contents: and the path of a file\n"),
         (["--profile", "Wide"], "profile", b"a profile is base or wide\n"),
         (["--steps", "1x"], "limit", b"a limit is a number from 0 to 18446744073709551615\n"),
+        (["--steps", "+1"], "limit", b"a limit is a number from 0 to 18446744073709551615\n"),
+        (["--states", "-1"], "limit", b"a limit is a number from 0 to 18446744073709551615\n"),
     ):
         for command in ("order", "explain"):
             told = f"fault {what}\n".encode()

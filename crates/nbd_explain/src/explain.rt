@@ -19,14 +19,15 @@ use nbd_wire::{Entry, Profile};
 use std::alloc::{AllocError, Global};
 use std::io::{BufRead, Read, Write};
 
-/// Reads a capture text to its end, then an order text and an image, if there are such; writes the line that
+/// Reads a capture text to its end, then an order text and an image or a contents text, if there are such; writes the line that
 /// `check` writes in this profile, and behind it why the answer is no, or of a yes which requests the client should not have sent;
 /// there each number has its name where the text is marked, as nbd_json reads it.
 /// Without an order it looks for one within these limits: it writes the line that `check` writes of the order that was found, or that
 /// with which `order` says that there is none or that it found none, and behind it what that says.
 ///
-/// An `Err` is a fault of a text, of a reader or of the writer, or out of memory. Nothing is written unless all were read
-/// whole and are well formed. After `Write` some of it may stand written. A long search says on `progress` how far it is.
+/// An `Err` is a fault of a text, of a reader or of the writer, or out of memory. Nothing is written unless what is read was read
+/// whole and is well formed; an image that is known to have more bytes than the export is not read. After `Write` some of it may stand
+/// written. A long search says on `progress` how far it is.
 pub fn run_explain<C: BufRead + Drop, O: Read + Drop, I: Measured + Drop, W: Write>(
     alloc: Global,
     profile: Profile,

@@ -44,11 +44,12 @@ pub fn order_status(answer: &Result<Ordered, RunFault>) -> u8
     }
 }
 
-/// Reads a capture text to its end, and then an image, if there is one, and writes an order of service that explains the session
-/// from this start in this profile, an entry a line; or a line that says why there is none or that none was found.
+/// Reads a capture text to its end, and then an image or a contents text, if there is one, and writes an order of service that explains
+/// the session from this start in this profile, an entry a line; or a line that says why there is none or that none was found.
 ///
-/// An `Err` is a fault of the text, of a reader or of the writer, or out of memory. Nothing is written unless all were read
-/// whole and are well formed. After `Write` some of it may stand written. A long search says on `progress` how far it is.
+/// An `Err` is a fault of a text, of a reader or of the writer, or out of memory. Nothing is written unless what is read was read
+/// whole and is well formed; an image that is known to have more bytes than the export is not read. After `Write` some of it may stand
+/// written. A long search says on `progress` how far it is.
 pub fn run_order<C: BufRead + Drop, I: Measured + Drop, W: Write>(
     alloc: Global,
     profile: Profile,

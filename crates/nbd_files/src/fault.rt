@@ -27,7 +27,7 @@ pub enum RunFault {
     ContentsLine(u64),
     /// The contents text could not be opened or read, or has more bytes than `READ_LIMIT`.
     ContentsRead,
-    /// The file that contents are compared with could not be opened or read.
+    /// The file that contents are compared with could not be opened or read, or has 2^63 bytes or more.
     AgainstRead,
     /// The script's line with this number, counted from 1, is malformed, or no line feed ends it, or its
     /// message has no encoding.
@@ -36,7 +36,7 @@ pub enum RunFault {
     ScriptRead,
     /// The output could not be written whole. A prefix of it stands written.
     Write,
-    /// A growth of memory was refused. Of `run_check` nothing stands written, of `run_show` and `run_make`
+    /// A growth of memory was refused. Of `run_check` nothing stands written, of `run_show`, `run_names` and `run_make`
     /// a prefix of the message lines or chunk lines, possibly nothing.
     Memory,
 }

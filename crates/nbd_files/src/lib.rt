@@ -20,5 +20,5 @@ pub use files::Files;
 pub use final_writer::FinalWriter;
 pub use input::{PORTION, READ_LIMIT, ReadFault, Text, read_whole, read_within};
 pub use opening::{Inputs, Opener, open_inputs, open_start};
-pub use saying::{complain, tell, terminal};
+pub use saying::{complain, refuse_words, tell, terminal};
 pub use start::{Measured, StartFrom};

@@ -3,7 +3,12 @@
 ghost use Rattle.std.specs.Prelude.{◌≡◌};
 
 use std::fmt::Display;
-use std::io::{IsTerminal, Stderr};
+use std::io::{ErrorKind, IsTerminal, Stderr};
+
+/// The exit status of a command line that is malformed.
+const USAGE: u8 = 2;
+/// The exit status of out of memory.
+const MEMORY: u8 = 4;
 
 /// Prints a fault on standard error, and answers the status.
 pub fn complain<D: Display + Drop>(rt: &HostRuntime, text: D, status: u8) -> u8
@@ -11,6 +16,16 @@ pub fn complain<D: Display + Drop>(rt: &HostRuntime, text: D, status: u8) -> u8
 {
     tell(rt, text);
     status
+}
+
+/// Says why the words that the program was called with could not be had, and answers the exit status: 4 of out of memory, and 2 of
+/// a word that is not UTF-8.
+pub fn refuse_words(rt: &HostRuntime, kind: ErrorKind) -> u8 {
+    if kind == ErrorKind::OutOfMemory {
+        complain(rt, "fault memory", MEMORY)
+    } else {
+        complain(rt, "error: a word of the command line is not UTF-8", USAGE)
+    }
 }
 
 /// Standard error, where that is a terminal.

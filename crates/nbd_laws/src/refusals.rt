@@ -22,7 +22,7 @@ pub fn old_greeting()
     ensures { IsPlace (flat refused.old_greeting) [] NotFixedNewstyle }
 {}
 
-/// Of two faults at one byte the first in the table counts.
+/// Of two faults at one byte the one that is tested first counts.
 pub fn two_faults()
     ensures greeting { IsPlace (flat refused.wrong_old_greeting) [] BadMagic }
     ensures flags { IsPlace (flat refused.strange_client) (Greeting 3 ∷ []) NotFixedNewstyle }

@@ -8,7 +8,7 @@ ghost use Rattle.nbd_wire.specs.protocol.Explains as explains;
 ghost use Rattle.nbd_wire.specs.protocol.ExportBytes as bytes;
 ghost use Rattle.nbd_wire.specs.protocol.Operations as operations;
 ghost use Rattle.nbd_wire.specs.Prelude.{byte_at, holds, is_in, piece_byte};
-ghost use Rattle.nbd_order.specs.internal.{differs, gives_byte, reads_at, Refutations.{IsBefore, IsChangeAt, IsOther, IsReadAt}};
+ghost use Rattle.nbd_order.specs.internal.{differs, gives_byte, reads_at, Refutations.{HasGot, IsBefore, IsChangeAt, IsOther, IsReadAt}};
 
 use crate::due::{due_at, is_below};
 use nbd_export::{Contents, Extents, Start};
@@ -62,6 +62,16 @@ pub fn is_change_at(transcript: &Transcript, k: u64, offset: u64) -> bool
     }
 }
 
+/// The byte that request `k` gave at the offset, if there is one.
+pub fn byte_got(transcript: &Transcript, k: u64, offset: u64) -> Option<u8>
+    ensures { HasGot transcript.now offset k result }
+{
+    match transcript.asked(k) {
+        Some(one) => byte_read(&one.pieces, offset),
+        None => None,
+    }
+}
+
 /// Whether the byte is known, and request `k` gave another one at the offset.
 pub fn is_other(transcript: &Transcript, k: u64, offset: u64, byte: Option<u8>) -> bool
     ensures { IsTrue result → IsOther transcript.now offset k byte }
@@ -110,8 +120,8 @@ fn given_byte(contents: &Extents, offset: u64) -> Option<u8>
     }
 }
 
-// Whether the byte is known and is not the one that was read.
-fn differs(byte: Option<u8>, read: Option<u8>) -> bool
+/// Whether the byte is known and is not the one that was read.
+pub fn differs(byte: Option<u8>, read: Option<u8>) -> bool
     ensures { result ≡ differs byte read }
 {
     byte.is_some() && byte != read

@@ -3,9 +3,9 @@
 ghost use Rattle.std.specs.Prelude.{◌≡◌, ℕ, ◌⊎◌, IsTrue, true, false};
 ghost use Rattle.nbd_judge.specs.Beginnings.{initial_of};
 ghost use Rattle.nbd_wire.specs.protocol.Explains as explains;
-ghost use Rattle.nbd_order.specs.{Unexplained.{AreRising, IsRefutedBy, has}, internal.Refutations.{EachSteps, HasBeginning, HelpsNone, IsBefore, IsChangeAt, IsNoHelp, IsReadAt, NoneIsLast}};
+ghost use Rattle.nbd_order.specs.{Unexplained.{AreRising, IsRefutedBy, has}, internal.Refutations.{EachSteps, HasBeginning, HasGot, HelpsNone, HelpsNot, IsBefore, IsChangeAt, IsNoHelp, IsReadAt, NoneIsLast}};
 
-use crate::offsets::{is_before, is_change_at, is_other, is_read_at};
+use crate::offsets::{byte_got, differs, is_before, is_change_at, is_read_at};
 use crate::refutation::Refutation;
 use crate::states::has;
 use nbd_export::Start;
@@ -13,7 +13,8 @@ use nbd_session::Transcript;
 use nbd_wire::Profile;
 
 /// Whether the refutation shows that each order without a fault in the profile has a wrong byte of one of its READs at its offset, from
-/// this start. Its READs are requests with a byte there that succeeded, in rising order. It takes one pass over the requests.
+/// this start. Its READs are requests with a byte there that succeeded, in rising order. It takes a pass over the requests for each
+/// READ, and compares each of its states with each other one for each change.
 pub fn is_refuted(
     profile: Profile,
     transcript: &Transcript,
@@ -77,48 +78,57 @@ impl Refutation {
     fn covered(&self, profile: Profile, transcript: &Transcript) -> bool
         ensures { let f = self.now in IsTrue result → (w : ℕ) → HelpsNone profile transcript.now f.offset f.reads.items f.changes.items w }
     {
-        for i in 0..transcript.count() {
-            if !self.helps_none(profile, transcript, i + 1) {
+        for k in &self.reads {
+            let got = byte_got(transcript, *k, self.offset);
+            if !self.is_unhelped(profile, transcript, *k, got) {
                 return false;
             }
         }
         true
     }
 
-    // Whether request w, if it is another change of the offset, is no help to any READ.
-    fn helps_none(&self, profile: Profile, transcript: &Transcript, w: u64) -> bool
-        ensures { let f = self.now in IsTrue result → HelpsNone profile transcript.now f.offset f.reads.items f.changes.items w }
+    // Whether no other change of the offset is a help to READ k, which got this byte.
+    fn is_unhelped(
+        &self,
+        profile: Profile,
+        transcript: &Transcript,
+        k: u64,
+        got: Option<u8>,
+    ) -> bool
+        ensures { let f = self.now in IsTrue result → HasGot transcript.now f.offset k got →
+            (w : ℕ) → HelpsNot profile transcript.now f.offset f.changes.items w k }
+    {
+        for i in 0..transcript.count() {
+            if !self.helps_not(profile, transcript, i + 1, k, got) {
+                return false;
+            }
+        }
+        true
+    }
+
+    // Whether request w, if it is another change of the offset, is no help to READ k, which got this byte.
+    fn helps_not(
+        &self,
+        profile: Profile,
+        transcript: &Transcript,
+        w: u64,
+        k: u64,
+        got: Option<u8>,
+    ) -> bool
+        ensures { let f = self.now in IsTrue result → HasGot transcript.now f.offset k got →
+            HelpsNot profile transcript.now f.offset f.changes.items w k }
     {
         match transcript.asked(w) {
             Some(one) => {
                 !one.touches(self.offset)
                     || has(&self.changes, w)
-                    || self.are_not_helped(profile, transcript, w, one.byte_left(self.offset))
+                    || self.is_no_help(profile, transcript, w, one.byte_left(self.offset), k, got)
             }
             None => true,
         }
     }
 
-    // Whether the change w, which leaves this byte, is no help to any READ.
-    fn are_not_helped(
-        &self,
-        profile: Profile,
-        transcript: &Transcript,
-        w: u64,
-        byte: Option<u8>,
-    ) -> bool
-        ensures { let f = self.now in IsTrue result
-            → (k : ℕ) → has f.reads.items k ≡ true → IsNoHelp profile transcript.now f.offset f.changes.items w byte k }
-    {
-        for k in &self.reads {
-            if !self.is_no_help(profile, transcript, w, byte, *k) {
-                return false;
-            }
-        }
-        true
-    }
-
-    // Whether it is no help to READ k.
+    // Whether the change w, which leaves this byte, is no help to READ k, which got that one.
     fn is_no_help(
         &self,
         profile: Profile,
@@ -126,10 +136,12 @@ impl Refutation {
         w: u64,
         byte: Option<u8>,
         k: u64,
+        got: Option<u8>,
     ) -> bool
-        ensures { let f = self.now in IsTrue result → IsNoHelp profile transcript.now f.offset f.changes.items w byte k }
+        ensures { let f = self.now in IsTrue result → HasGot transcript.now f.offset k got →
+            IsNoHelp profile transcript.now f.offset f.changes.items w byte k }
     {
-        is_other(transcript, k, self.offset, byte)
+        differs(byte, got)
             || is_before(profile, transcript, self.offset, k, w)
             || is_overwritten(profile, transcript, self.offset, &self.changes, w, k)
     }

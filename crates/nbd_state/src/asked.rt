@@ -35,7 +35,7 @@ pub struct Asked {
     pub offset: u64,
     /// The bytes of a WRITE.
     pub payload: Bytes,
-    /// What a READ was answered, in the order of the reply messages.
+    /// What a READ was answered, or what the status of a BLOCK_STATUS called zero, in the order of the reply messages.
     pub pieces: Pieces,
     /// How many numbered requests had completed when the last message of its reply had come; None where it has not.
     pub ended_at: Option<u64>,

@@ -19,12 +19,12 @@ use nbd_wire::{Entry, Profile};
 use std::alloc::Global;
 use std::io::{BufRead, BufReader, Read, Write};
 
-/// Reads a capture text chunk by chunk, then an order text and an image, if there is one, whole; checks the
+/// Reads a capture text chunk by chunk, then an order text and an image or a contents text, if there is one; checks the
 /// session in the profile `Base` from this start, and writes the verdict's line. Answers true where the verdict is yes.
 ///
-/// The capture is read first, to its end, then the order, then the image; a fault of a text or of its
-/// reader is answered before any verdict, out of memory at once. Nothing is written unless all were read whole and are well formed. After
-/// `Write` a prefix of the line stands written.
+/// The capture is read first, to its end, then the order, then the start; an image that is known to have more bytes than the export is not
+/// read. A fault of a text or of its reader is answered before any verdict, out of memory at once. Nothing is written unless what is read
+/// was read whole and is well formed. After `Write` a prefix of the line stands written.
 pub fn run_check<C: BufRead + Drop, O: Read + Drop, I: Measured + Drop, W: Write>(
     alloc: Global,
     capture: C,
@@ -50,12 +50,10 @@ pub fn run_check<C: BufRead + Drop, O: Read + Drop, I: Measured + Drop, W: Write
     run_check_of(alloc, Profile::Base, capture, order, start, out)
 }
 
-/// Reads a capture text chunk by chunk, then an order text and an image, if there is one, whole; checks the
-/// session in this profile from this start, and writes the verdict's line. Answers true where the verdict is yes.
+/// The same in this profile.
 ///
-/// The capture is read first, to its end, then the order, then the image; an `Err` is a fault of a text or of its reader,
-/// which is answered before any verdict, of the writer, or out of memory, which is answered at once. Nothing is written
-/// unless all were read whole and are well formed. After `Write` a prefix of the line stands written.
+/// An `Err` is a fault of a text or of its reader, which is answered before any verdict, of the writer, or out of memory, which is answered
+/// at once.
 pub fn run_check_of<C: BufRead + Drop, O: Read + Drop, I: Measured + Drop, W: Write>(
     alloc: Global,
     profile: Profile,

@@ -1,5 +1,4 @@
-//! The faults that a session is refused with: of those that stand at one byte the first in this list is
-//! answered.
+//! The faults that a session is refused with. Which of several at one byte is answered docs/PROFILE.md says, in its lists of tests.
 
 /// A rule that the recorded bytes break.
 #[derive(Clone, Copy, Drop)]
@@ -16,9 +15,11 @@ pub enum WireFault {
     WrongOption,
     /// An answer's kind is none that the option takes.
     BadReplyKind,
-    /// An option that this project does not follow is answered by anything but an error.
+    /// An option that the profile does not follow is answered by anything but an error, or a message has a payload of more than 2^32 - 1
+    /// bytes.
     OutOfProfile,
-    /// An answer's payload does not have its form, or an info on the export lacks HAS_FLAGS.
+    /// An answer's payload does not have its form, an ACK has one, an info on the export lacks HAS_FLAGS, block sizes are such as no
+    /// server may announce, or a context has the id of one that was selected before.
     BadReplyPayload,
     /// A proper INFO or GO is acknowledged before an info on the export.
     MissingExportInfo,
@@ -40,8 +41,8 @@ pub enum WireFault {
     BadChunk,
     /// A content chunk answers no READ, leaves its READ's range, shares an offset with an earlier one, or
     /// is the second of a proper READ with DF; a status chunk answers no BLOCK_STATUS, is of a context that is
-    /// not in force or had its status, or says more than its request's range and flags allow; or the offset of
-    /// an error chunk leaves its request's range.
+    /// not in force, that its request does not ask or that had its status, or says more than its request's range
+    /// and flags allow; or the offset of an error chunk leaves its request's range.
     BadContent,
     /// A READ is finished with success before its range is covered.
     IncompleteRead,
@@ -49,7 +50,7 @@ pub enum WireFault {
     SuccessOfImproper,
     /// A DISC has an offset or a length.
     BadDisconnect,
-    /// A BLOCK_STATUS is finished with success before each context in force has its status.
+    /// A BLOCK_STATUS is finished with success before each context in force that it asks has its status.
     IncompleteStatus,
     /// A chunk with an extended header has not its request's offset.
     BadReplyOffset,

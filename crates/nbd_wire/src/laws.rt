@@ -75,8 +75,7 @@ pub fn numbers_are_literal()
 {}
 
 /// Each table of names has these numbers or masks with these names, and no others. The names are those of proto.md, some
-/// without the front that all names of their kind have; transmission flag 12, which proto.md leaves to an extension, has
-/// none.
+/// without the front that all names of their kind have.
 pub fn names_are_literal()
     ensures commands { map (λ n. (n.0, n.1.now)) names.COMMANDS.now ≡ command_names }
     ensures options { map (λ n. (n.0, n.1.now)) names.OPTIONS.now ≡ option_names }

@@ -9,10 +9,10 @@ use crate::commands::READ;
 /// A profile of the protocol.
 #[derive(Clone, Copy, PartialEq, Eq, Drop)]
 pub enum Profile {
-    /// What docs/PROFILE.md says.
+    /// The negotiation, requests and replies of docs/PROFILE.md, without what it says of `Wide` alone.
     Base,
-    /// Base, with the negotiation of metadata contexts, block sizes, READs that are served by chunk, and error chunks of unknown
-    /// types.
+    /// Base, with metadata contexts and block status, block sizes, extended headers, READs that are served by chunk, and error chunks of
+    /// unknown types.
     Wide,
 }
 

@@ -172,6 +172,7 @@ fn number_of(text: Option<&str>, usual: u64) -> Option<u64>
     ensures usual { text.entry ≡ None → result ≡ Some usual }
 {
     match text {
+        Some(text) if text.starts_with("+") => None,
         Some(text) => text.parse().ok(),
         None => Some(usual),
     }

@@ -9,32 +9,19 @@ use crate::files::{
     Written, check_inputs, contents_files, explain_files, lint_files, order_files, write_of,
 };
 use nbd_explain::{Answer, Ordered, explain_status, order_status};
-use nbd_files::{Files, RunFault, complain, exit_status, tell};
+use nbd_files::{Files, RunFault, exit_status, refuse_words, tell};
 use nbd_words::hints::{tell_of_capture, tell_of_fault};
 use nbd_words::{Asked, Command, Linting, asked_in};
 use std::{env, io};
 
 /// The exit status of a no.
 const NO: u8 = 1;
-/// The exit status of a command line that is malformed.
-const USAGE: u8 = 2;
-/// The exit status of out of memory.
-const MEMORY: u8 = 4;
 
 /// Runs the program on the words that it was called with, and answers its exit status.
 pub fn run(rt: &HostRuntime) -> u8 {
     match words(rt) {
         Ok(words) => run_words(rt, &words),
         Err(error) => refuse_words(rt, error.kind()),
-    }
-}
-
-/// Says why the words that the program was called with could not be had.
-fn refuse_words(rt: &HostRuntime, kind: io::ErrorKind) -> u8 {
-    if kind == io::ErrorKind::OutOfMemory {
-        complain(rt, "fault memory", MEMORY)
-    } else {
-        complain(rt, "error: a word of the command line is not UTF-8", USAGE)
     }
 }
 

@@ -7,7 +7,7 @@ ghost use Rattle.nbd_files.specs.CommandLine.{exit_status};
 #[cfg(test)]
 mod tests;
 
-use nbd_files::{Files, RunFault, StartWord, complain, start_of};
+use nbd_files::{Files, RunFault, StartWord, complain, refuse_words, start_of};
 use nbd_tool::check_files;
 use nbd_wire::Profile;
 use std::process::ExitCode;
@@ -15,8 +15,6 @@ use std::{env, io};
 
 /// The exit status of a command line that is malformed.
 const USAGE: u8 = 2;
-/// The exit status of out of memory.
-const MEMORY: u8 = 4;
 
 fn main(rt: HostRuntime) -> ExitCode {
     ExitCode::from(run(&rt))
@@ -26,7 +24,7 @@ fn main(rt: HostRuntime) -> ExitCode {
 fn run(rt: &HostRuntime) -> u8 {
     match words(rt) {
         Ok(words) => run_words(rt, words.as_slice()),
-        Err(_) => complain(rt, "fault memory", MEMORY),
+        Err(error) => refuse_words(rt, error.kind()),
     }
 }
 

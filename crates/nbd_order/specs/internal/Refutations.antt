@@ -34,6 +34,10 @@ IsHeld profile r x reads changes served k = (p : ℕ) × (is_kept reads changes 
 abbrev pub IsOther : Report → (x k : ℕ) → (byte : Option ℕ) → Type 0
 IsOther r x k byte = (e : Effect) → effects r k ≡ Some e → Differs (λ y. byte) e.read x
 
+-- request k gave this byte at x, if it gave one
+abbrev pub HasGot : Report → (x k : ℕ) → (byte : Option ℕ) → Type 0
+HasGot r x k byte = (e : Effect) → effects r k ≡ Some e → e.read x ≡ byte
+
 -- READ k is served, or can't be served where x holds this byte
 abbrev pub IsFitting : Profile → Report → (x : ℕ) → (reads changes served : List ℕ) → (byte : Option ℕ) → ℕ → Type 0
 IsFitting profile r x reads changes served byte k = (has served k ≡ true) ⊎ IsHeld profile r x reads changes served k
@@ -81,7 +85,12 @@ IsNoHelp profile r x changes w byte k =
     IsOther r x k byte ⊎ IsBefore profile r x k w
     ⊎ ((o : ℕ) × (has changes o ≡ true) × IsBefore profile r x w o × IsBefore profile r x o k)
 
--- if w is another change of x, it is no help to any READ
+-- if w is another change of x, it is no help to READ k
+abbrev pub HelpsNot : Profile → Report → (x : ℕ) → (changes : List ℕ) → (w k : ℕ) → Type 0
+HelpsNot profile r x changes w k =
+    (e : Effect) → IsChange r w x e → has changes w ≡ false → IsNoHelp profile r x changes w (effect_byte e x) k
+
+-- the same of each READ
 abbrev pub HelpsNone : Profile → Report → (x : ℕ) → (reads changes : List ℕ) → (w : ℕ) → Type 0
 HelpsNone profile r x reads changes w =
     (e : Effect) → IsChange r w x e → has changes w ≡ false → (k : ℕ) → has reads k ≡ true

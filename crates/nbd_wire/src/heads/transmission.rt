@@ -21,7 +21,8 @@ pub struct RequestHead {
     pub cookie: u64,
     /// Where in the export the range begins, in bytes.
     pub offset: u64,
-    /// The length of the range, in bytes; as many bytes follow a WRITE's head, and an extended one with PAYLOAD_LEN.
+    /// The length of the range, in bytes, or with an extended header and PAYLOAD_LEN that of the payload; as many bytes follow such a
+    /// head, and that of a WRITE.
     pub length: u64,
 }
 

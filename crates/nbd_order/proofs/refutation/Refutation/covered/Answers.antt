@@ -1,20 +1,10 @@
-use Rattle.nbd_order.proofs.{Common.{◌≡◌, ◌+◌, ◌≤◌, inl, inr, length, sym, subst, arith, cases_eq, HelpsNone}, ServiceLemmas.numbered}
+use Rattle.nbd_order.proofs.NumberLemmas.{each_of_all, each_step}
 use Rattle.nbd_order.proofs.refutation.Refutation.covered.Goals as goal
 
-pub loop-i-preserved : goal.loop-i-preserved
-loop-i-preserved c =
-    let count : c.count-i-end.result ≡ length c.args.transcript.now.asked = c.count-i-end.ensures.count in
-    let f = c.args.self.now in
-    record {
-      within = omega arith;
-      none = λ w l. elim (cases_eq w (c.loop-i.i + 1)) [
-        | inl e ↦ subst (λ n. HelpsNone c.args.profile c.args.transcript.now f.offset f.reads.items f.changes.items n) (sym e) (c.helps_none.ensures c.if-not-helps_none.false)
-        | inr ne ↦ c.loop-i.invariant.none w (omega arith)
-      ];
-    }
+pub loop-k-preserved : goal.loop-k-preserved
+loop-k-preserved c = each_step _ c.args.self.now.reads.items c.deref-k-items.result.now c.loop-k.k-index 0 c.deref-k-items.ensures.value
+    c.loop-k-test.true c.loop-k.invariant (c.is_unhelped.ensures c.if-not-is_unhelped.false c.byte_got-got.ensures)
 
 pub returns : goal.returns
-returns c = λ t w e change.
-    let count : c.count-i-end.result ≡ length c.args.transcript.now.asked = c.count-i-end.ensures.count in
-    let n = numbered w c.args.transcript.now.asked e change.0 in
-    c.loop-i.invariant.none w (let l : w ≤ length c.args.transcript.now.asked = n.1 in omega arith) e change
+returns c = λ t w e change other k kept. each_of_all _ c.args.self.now.reads.items c.deref-k-items.result.now c.loop-k.k-index c.deref-k-items.ensures.value
+    c.loop-k-test.false c.loop-k.invariant k kept w e change other
