@@ -21,8 +21,9 @@ pub struct Asked {
     pub was_structured: bool,
     /// Its data has its form, where it is one that lists something.
     pub is_formed: bool,
-    /// What its answers are compared with, in order: of a GO with the data of an INFO just before it, which was granted, the infos
-    /// that this got; of a SET_META_CONTEXT its queries, where each begins with `base:`.
+    /// What its answers are compared with: of a GO with the data of an INFO just before it, which was granted, the infos that this
+    /// got, in order; of a SET_META_CONTEXT those of its queries that begin with `base:`, in order where each does. Where the INFO
+    /// was not granted, or a query begins otherwise, nothing is judged by them.
     pub compared: Texts,
     /// The place of the ACK to that INFO; 0 of another option.
     pub earlier_at: u64,

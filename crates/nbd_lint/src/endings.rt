@@ -7,7 +7,7 @@ use nbd_wire::Side;
 /// Where a session stands.
 #[derive(Clone, Copy, Drop)]
 pub enum Stage {
-    /// No option may come yet, or ABORT was acknowledged.
+    /// No option may come yet; ABORT was answered, be it by an error; or EXPORT_NAME was chosen, and is not answered yet.
     Apart,
     /// Options are chosen and answered.
     Negotiating,

@@ -38,10 +38,11 @@ pub struct Negotiation {
     pub tls: Tls,
     /// The option that was chosen last.
     pub asked: Asked,
-    /// Where hints are looked for, by their data the options that tell the same when they are sent again, but for
+    /// Where hints are looked for, by their data the options that tell the same when they are sent again, but for SET_META_CONTEXT.
     granted: BTreeMap<Vec<u8>, Granted>,
-    /// the last SET_META_CONTEXT: its data, and the place of its ACK; 0 where none came.
+    /// Where hints are looked for, the data of the last SET_META_CONTEXT that was granted.
     selected: Vec<u8>,
+    /// The place of its ACK; 0 where none came, or what it selected holds no longer.
     selected_at: u64,
     wildcards: Wildcards,
 }

@@ -5,8 +5,6 @@ use nbd_wire::answers::ERROR;
 /// Kinds of an option reply that is an error (proto.md, "Option reply types").
 pub const ERR_UNSUP: u32 = ERROR | 1;
 
-pub const ERR_INVALID: u32 = ERROR | 3;
-
 pub const ERR_PLATFORM: u32 = ERROR | 4;
 
 pub const ERR_TLS_REQD: u32 = ERROR | 5;

@@ -112,10 +112,8 @@ pub enum Name {
 /// How many rules there are.
 pub const COUNT: usize = 76;
 
-/// What the columns of a rule's first line have.
+/// What the columns of a rule's first line have; the one between level and name has who is bound.
 pub const LEVEL: usize = 0;
-
-pub const WHO: usize = 1;
 
 pub const NAME: usize = 2;
 

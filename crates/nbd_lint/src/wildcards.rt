@@ -24,7 +24,9 @@ struct Known {
 /// What was told of the contexts of each export since the last option that is neither LIST_META_CONTEXT nor SET_META_CONTEXT.
 #[derive(Drop)]
 pub struct Wildcards {
-    /// By the name of an export behind its length, as the data of options have it, and a context; of the export by no context.
+    /// The numbers of the exports, from 1, by their names behind their lengths, as the data of options have them.
+    exports: BTreeMap<Vec<u8>, u64>,
+    /// By the number of an export, of eight bytes, and a context; of the export by no context.
     known: BTreeMap<Vec<u8>, Known>,
 }
 
@@ -32,6 +34,7 @@ impl Wildcards {
     /// Nothing; takes no memory.
     pub fn none(alloc: Global) -> Wildcards {
         Wildcards {
+            exports: BTreeMap::new(alloc),
             known: BTreeMap::new(alloc),
         }
     }
@@ -43,12 +46,34 @@ impl Wildcards {
 
     /// Another option came.
     pub fn forget(&mut self) {
+        self.exports.clear();
         self.known.clear();
     }
 
-    // What is known of a context of the export of an option, and of this by no context.
-    fn known(&self, asked: &Asked, context: &[u8], notes: &mut Notes) -> Known {
-        match self.known.get(&key_of(asked, context, notes)) {
+    // The number of the export of an option; 0, under which nothing is known, where it has none.
+    fn number_of(&self, asked: &Asked) -> u64 {
+        match self.exports.get(export_of(asked)) {
+            Some(number) => *number,
+            None => 0,
+        }
+    }
+
+    // The same, of an export that gets the next number where it has none.
+    fn numbered(&mut self, asked: &Asked, notes: &mut Notes) -> u64 {
+        let number = self.number_of(asked);
+        if number != 0 {
+            return number;
+        }
+        let next = (self.exports.len() as u64).saturating_add(1);
+        let mut name = Vec::new(notes.alloc);
+        notes.keep(name.extend_from_slice(export_of(asked)));
+        notes.keep(self.exports.insert(name, next));
+        next
+    }
+
+    // What is known of a context of an export, or of this, by its key.
+    fn known(&self, key: &[u8]) -> Known {
+        match self.known.get(key) {
             Some(known) => *known,
             None => Known {
                 first: 0,
@@ -60,25 +85,26 @@ impl Wildcards {
     /// LIST_META_CONTEXT or SET_META_CONTEXT is granted: judges what it told, in order, beside what is known of its export. A
     /// LIST_META_CONTEXT for `base:` does not tell a context that another option is told.
     pub fn judge(&self, asked: &Asked, notes: &mut Notes) {
-        if is_wildcard(asked) && self.judge_known(asked, notes) {
+        let number = self.number_of(asked);
+        if is_wildcard(asked) && self.judge_known(number, asked, notes) {
             return;
         }
-        let export = self.known(asked, &[], notes);
+        let export = self.known(&key_of(number, &[], notes));
         for place in 0..asked.told.count() {
             let context = asked.told.at(place);
-            if self.known(asked, context, notes).listings != export.listings {
+            if self.known(&key_of(number, context, notes)).listings != export.listings {
                 tell(context, export.first, u64::from(asked.id), notes);
                 return;
             }
         }
     }
 
-    // Tells of the first context of its export that was told before an option and not to it; whether there is one.
-    fn judge_known(&self, asked: &Asked, notes: &mut Notes) -> bool {
-        let export = export_of(asked);
-        for (key, known) in self.known.range(key_of(asked, &[], notes)..) {
+    // Tells of the first context of its export, of this number, that was told before an option, not to it; whether there is one.
+    fn judge_known(&self, number: u64, asked: &Asked, notes: &mut Notes) -> bool {
+        let export = number.to_be_bytes();
+        for (key, known) in self.known.range(key_of(number, &[], notes)..) {
             let context = bytes_behind(key, export.len());
-            if !key.starts_with(export) {
+            if !key.starts_with(&export) {
                 return false;
             }
             if !context.is_empty() && !asked.told.has(context) {
@@ -94,26 +120,27 @@ impl Wildcards {
         if (asked.granted == 0) | !asks_contexts(asked.id) {
             return;
         }
-        let listings = self.known(asked, &[], notes).listings;
+        let number = self.numbered(asked, notes);
+        let export = key_of(number, &[], notes);
+        let listings = self.known(&export).listings;
         for place in 0..asked.told.count() {
-            let context = asked.told.at(place);
+            let context = key_of(number, asked.told.at(place), notes);
             self.add(asked, context, u64::from(asked.id), listings, notes);
         }
         if is_wildcard(asked) {
-            self.add(asked, &[], asked.place, listings, notes);
+            self.add(asked, export, asked.place, listings, notes);
         }
     }
 
-    // Takes a context of the export of an option, or this by no context, behind so many listings.
-    fn add(&mut self, asked: &Asked, context: &[u8], first: u64, listings: u64, notes: &mut Notes) {
-        let mut known = self.known(asked, context, notes);
+    // Takes what an option told of a context of its export, or of this, by its key, behind so many listings.
+    fn add(&mut self, asked: &Asked, key: Vec<u8>, first: u64, listings: u64, notes: &mut Notes) {
+        let mut known = self.known(&key);
         if known.first == 0 {
             known.first = first;
         }
         if is_wildcard(asked) & (known.listings == listings) {
             known.listings = listings.saturating_add(1);
         }
-        let key = key_of(asked, context, notes);
         notes.keep(self.known.insert(key, known));
     }
 }
@@ -126,10 +153,10 @@ fn export_of(asked: &Asked) -> &[u8] {
     }
 }
 
-// What a context of the export of an option is found by.
-fn key_of(asked: &Asked, context: &[u8], notes: &mut Notes) -> Vec<u8> {
+// What a context of the export of this number is found by; the export by no context.
+fn key_of(number: u64, context: &[u8], notes: &mut Notes) -> Vec<u8> {
     let mut key = Vec::new(notes.alloc);
-    notes.keep(key.extend_from_slice(export_of(asked)));
+    notes.keep(key.extend_from_slice(&number.to_be_bytes()));
     notes.keep(key.extend_from_slice(context));
     key
 }
