@@ -19,6 +19,8 @@ WIRE = {
     "out-of-turn-behind-export-name": Session([*FLAGS, option(1, b"disk"), read(1, 0, 1)]),
     "out-of-turn-after-disc-behind-export-name": Session(
         [*FLAGS, option(1, b"disk"), (SERVER, (8).to_bytes(8, "big") + b"\0\1"), request(DISC, 0, 0, 0), read(1, 0, 1)]),
+    "out-of-turn-behind-export-name-with-an-extended-header": Session(
+        [*FLAGS, option(11), answer(11, 1), option(1, b"disk"), extended.reads(1, 0, 1)], profile="wide"),
     "out-of-turn-behind-export-name-with-an-option": Session([*FLAGS, option(1, b"disk"), option(3)]),
     "out-of-turn-after-disc": Session([*begun(), request(DISC, 0, 0, 0), read(1, 0, 4)]),
     "wrong-option": Session([*GO, answer(6, 3, export_info())]),
@@ -79,6 +81,8 @@ WIRE = {
     "bad-content": Session([*CHUNKED, content(1, 0, b"\1\2\3"), content(1, 2, b"\4\5")]),
     "bad-content-twice-under-df": Session(
         [*begun(structured=True, flags=0xED), request(READ, 1, 0, 4, flags=4), content(1, 0, b"\1\2"), content(1, 2, b"\3\4")]),
+    "bad-content-under-df-that-is-not-offered": Session(
+        [*begun(structured=True), request(READ, 1, 0, 8, flags=4), content(1, 0, bytes(4)), content(1, 4, bytes(4)), content(1, 6, b"\5")]),
     "bad-content-of-an-error": Session([*CHUNKED, chunk(1, 0x8002, b"\0\0\0\x05\0\0\0\0\0\0\0\0\0\4", flags=1)]),
     "incomplete-read": Session([*CHUNKED, content(1, 0, b"\1\2\3"), done(1)]),
     "incomplete-read-between-chunks": Session([*CHUNKED, hole(1, 3, 1), chunk(1, 1, bytes(8) + b"\1", flags=1)]),

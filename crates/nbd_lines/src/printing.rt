@@ -3,6 +3,7 @@
 ghost use Rattle.std.specs.Prelude.{◌≡◌, ◌≤◌, ◌++◌, OnOk, OnErr, length};
 ghost use Rattle.nbd_lines.specs.{Line.{end_text, message_line, number_text, numbers_text}, internal.AddsPrefix};
 
+use crate::chunk_writing::write_digits;
 use crate::forms::Field;
 use crate::parts::{MOST_NUMBERS, form_of, numbers_of, payload_of};
 use itoa::Buffer;
@@ -73,7 +74,6 @@ fn append_end(out: &mut Vec<u8>, has_payload: bool, payload: &[u8]) -> Result<()
         return Ok(());
     }
     out.extend_from_slice(b" payload=")?;
-    let digits = hex::encode(*out.allocator(), payload)?;
-    out.extend_from_slice(digits.as_bytes())?;
-    Ok(())
+    out.reserve(payload.len().saturating_mul(2))?;
+    write_digits(out, payload).or(Err(AllocError))
 }
