@@ -65,7 +65,7 @@ def bad_words(tally, room):
         (["--profile", "Wide"], "profile", b"a profile is base or wide\n"),
         (["--steps", "1x"], "limit", b"a limit is a number from 0 to 18446744073709551615\n"),
         (["--steps", "+1"], "limit", b"a limit is a number from 0 to 18446744073709551615\n"),
-        (["--states", "-1"], "limit", b"a limit is a number from 0 to 18446744073709551615\n"),
+        (["--states", ""], "limit", b"a limit is a number from 0 to 18446744073709551615\n"),
     ):
         for command in ("order", "explain"):
             told = f"fault {what}\n".encode()
