@@ -78,6 +78,16 @@ def listings(count):
         yield ack(9)
 
 
+def named(count):
+    """The same twice, of an export whose name has as many bytes as it has contexts."""
+    yield from CHUNKS
+    for _ in range(2):
+        yield option(9, queries(b"x" * count, b"base:"))
+        for number in range(count):
+            yield context(0, b"base:%d" % number, 9)
+        yield ack(9)
+
+
 def selected(count):
     """One SET_META_CONTEXT with many queries, of which each gets its context."""
     yield from CHUNKS
@@ -106,8 +116,8 @@ def told(count):
 
 
 SHAPES = {"served": (250000, served), "failing": (100000, failing), "outstanding": (25000, outstanding), "pieces": (25000, pieces),
-          "options": (25000, options), "listings": (25000, listings), "selected": (25000, selected), "asked": (16000, asked),
-          "told": (10000, told)}
+          "options": (25000, options), "listings": (25000, listings), "named": (25000, named), "selected": (25000, selected),
+          "asked": (16000, asked), "told": (10000, told)}
 
 
 def timed(*words):

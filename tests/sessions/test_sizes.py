@@ -11,7 +11,7 @@ from pathlib import Path
 
 from built import Ended, PROGRAM, Room
 from messages import (
-    ACK, BLOCK_STATUS, CHUNKS, DONE, OFFSET_HOLE, READ, SET_META_CONTEXT, TRIM, WRITE, WRITE_ZEROES, answer, begun, chunk,
+    ACK, BLOCK_STATUS, CHUNKS, DONE, LIST_META_CONTEXT, OFFSET_HOLE, READ, SET_META_CONTEXT, TRIM, WRITE, WRITE_ZEROES, answer, begun, chunk,
     client_flags, content, context, done, extents, go, granted, greeting, one_by_one, option, queries, read, request, simple,
     status, text, write,
 )
@@ -286,6 +286,18 @@ def memory_of_show(tally, room):
     tally.holds("memory of show near its end", now < peak / 3, (now, peak))
 
 
+def contexts_of_a_long_name(tally, room):
+    """20,000 contexts of an export whose name has as many bytes, told twice for `base:`: `lint` does not keep the name with each."""
+    count = 20_000
+    told = [context(0, b"base:%d" % number, LIST_META_CONTEXT) for number in range(count)]
+    asked = [option(LIST_META_CONTEXT, queries(b"x" * count, b"base:")), *told, answer(LIST_META_CONTEXT, ACK)]
+    capture = room.put("named.cap", text([*CHUNKS, *asked, *asked]))
+    _, status, peak = room.measured("lint", capture, "--profile", "wide")
+    # A string of more than 4,096 bytes breaks a must (proto.md, "Conventions").
+    tally.want("lint of contexts of a long name", status, 1)
+    tally.holds("lint of contexts of a long name: memory", peak < 64 * 1024, peak)
+
+
 def scattered(count, size):
     """So many changes at random places, 16 of them outstanding together."""
     dice, asked, records = random.Random("scattered"), [], begun(size=size)
@@ -376,5 +388,5 @@ def long_lines(tally, room):
 def run(tally):
     with Room() as room:
         for part in (long_messages, many_chunks, a_million, costs_of_holes, costs_of_statuses, many_contexts, exports,
-                     memory_of_images, memory_of_show, costs_of_contents, costs_of_texts, long_lines):
+                     memory_of_images, memory_of_show, contexts_of_a_long_name, costs_of_contents, costs_of_texts, long_lines):
             part(tally, room)
