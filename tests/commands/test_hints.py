@@ -73,6 +73,14 @@ def bad_words(tally, room):
             tally.want(f"{command} {words}", room.run(command, good, *words), Ended(2, b"", told))
 
 
+def with_reason(tally, room, name, words, told, reason):
+    """A fault of a malformed line, and behind it the reason on a terminal and with hints, and nowhere else."""
+    told, reason = told.encode() + LF, reason + LF
+    tally.want(f"{name}, on a terminal", on_a_terminal(room, *words), Ended(3, b"", told + reason))
+    tally.want(f"{name}, with hints", room.run(*words, "--hints"), Ended(3, b"", told + reason))
+    tally.want(name, room.run(*words), Ended(3, b"", told))
+
+
 def bad_script_lines(tally, room):
     """What is wrong with the line of a script."""
     other, number = b"another field stands here in this message", b"behind = stands a decimal number"
@@ -101,10 +109,7 @@ def bad_script_lines(tally, room):
         ("no line feed", b"S greeting flags=3", b"no line feed ends the line"),
     ):
         bad = room.put("bad", b"S greeting flags=3\n" + line)
-        wanted = Ended(3, b"", b"fault script line 2\n" + what + LF)
-        tally.want(f"a script, {name}, on a terminal", on_a_terminal(room, "make", bad), wanted)
-        tally.want(f"a script, {name}, with hints", room.run("make", bad, "--hints"), wanted)
-        tally.want(f"a script, {name}", room.run("make", bad), fault("script line 2"))
+        with_reason(tally, room, f"a script, {name}", ["make", bad], "fault script line 2", what)
 
 
 def bad_capture_lines(tally, room):
@@ -127,13 +132,10 @@ def bad_capture_lines(tally, room):
         ("no line feed", b"C 00", b"no line feed ends the line"),
     ):
         bad = room.put("bad", CAPTURE + line)
-        told = f"fault capture line {CAPTURE.count(LF) + 1}\n".encode()
+        told = f"fault capture line {CAPTURE.count(LF) + 1}"
         for words in (["check", bad, order], ["explain", bad], ["order", bad], ["contents", bad], ["order", "--arrival", bad], ["show", bad],
                       ["show", "--names", bad]):
-            name_of = f"{name}: {' '.join(words[:-1])}"
-            tally.want(f"{name_of}, on a terminal", on_a_terminal(room, *words), Ended(3, b"", told + what + LF))
-            tally.want(f"{name_of}, with hints", room.run(*words, "--hints"), Ended(3, b"", told + what + LF))
-            tally.want(name_of, room.run(*words), Ended(3, b"", told))
+            with_reason(tally, room, f"{name}: {' '.join(words[:-1])}", words, told, what)
 
 
 def bad_order_lines(tally, room):
@@ -157,10 +159,7 @@ def bad_order_lines(tally, room):
     ):
         bad = room.put("bad", b"1\n" + line)
         for command in ("check", "explain"):
-            wanted = Ended(3, b"", b"fault order line 2\n" + what + LF)
-            tally.want(f"{command}, {name}, on a terminal", on_a_terminal(room, command, good, bad), wanted)
-            tally.want(f"{command}, {name}, with hints", room.run(command, "--hints", good, bad), wanted)
-            tally.want(f"{command}, {name}", room.run(command, good, bad), fault("order line 2"))
+            with_reason(tally, room, f"{command}, {name}", [command, good, bad], "fault order line 2", what)
     for line in (b"no content request 1 offset 0 in any order\n", b"gave up: too many steps at request 1 offset 0\n"):
         bad = room.put("bad", line)
         for command in ("check", "explain"):
@@ -215,12 +214,9 @@ def bad_contents_lines(tally, room):
         ("no line feed", 2, b"size 8\nzero 0 8", b"no line feed ends the line"),
     ):
         start = ["--start", f"contents:{room.put('bad', text)}"]
-        told = f"fault contents line {number}\n".encode()
-        for command in (["check", good, order], ["explain", good], ["order", good], ["contents", good]):
-            name_of = f"contents, {name}: {command[0]}"
-            tally.want(f"{name_of}, on a terminal", on_a_terminal(room, *command, *start), Ended(3, b"", told + what + LF))
-            tally.want(f"{name_of}, with hints", room.run(*command, *start, "--hints"), Ended(3, b"", told + what + LF))
-            tally.want(name_of, room.run(*command, *start), Ended(3, b"", told))
+        for words in (["check", good, order], ["explain", good], ["order", good], ["contents", good]):
+            told = f"fault contents line {number}"
+            with_reason(tally, room, f"contents, {name}: {words[0]}", [*words, *start], told, what)
 
 
 def looks_of_captures(tally, room):

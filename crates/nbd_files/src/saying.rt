@@ -1,6 +1,7 @@
 //! What is said on standard error.
 
 ghost use Rattle.std.specs.Prelude.{◌≡◌};
+ghost use Rattle.nbd_files.specs.CommandLine.{words_status};
 
 use std::fmt::Display;
 use std::io::{ErrorKind, IsTerminal, Stderr};
@@ -20,7 +21,9 @@ pub fn complain<D: Display + Drop>(rt: &HostRuntime, text: D, status: u8) -> u8
 
 /// Says why the words that the program was called with could not be had, and answers the exit status: 4 of out of memory, and 2 of
 /// a word that is not UTF-8.
-pub fn refuse_words(rt: &HostRuntime, kind: ErrorKind) -> u8 {
+pub fn refuse_words(rt: &HostRuntime, kind: ErrorKind) -> u8
+    ensures { result ≡ words_status kind }
+{
     if kind == ErrorKind::OutOfMemory {
         complain(rt, "fault memory", MEMORY)
     } else {

@@ -76,10 +76,7 @@ pub fn byte_got(transcript: &Transcript, k: u64, offset: u64) -> Option<u8>
 pub fn is_other(transcript: &Transcript, k: u64, offset: u64, byte: Option<u8>) -> bool
     ensures { IsTrue result → IsOther transcript.now offset k byte }
 {
-    match transcript.asked(k) {
-        Some(one) => differs(byte, byte_read(&one.pieces, offset)),
-        None => false,
-    }
+    differs(byte, byte_got(transcript, k, offset))
 }
 
 /// Whether each entry that serves the offset of request `j` surely stands before each of request `k`. Its messages are gone through

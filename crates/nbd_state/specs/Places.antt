@@ -24,21 +24,24 @@ abbrev pub chunk_with : (at : Option ℕ) → (flags kind cookie : ℕ) → List
 chunk_with None flags kind cookie payload = Chunk flags kind cookie payload
 chunk_with (Some offset) flags kind cookie payload = ExtendedChunk flags kind cookie offset payload
 
+-- the chunk with the fields of this head, and its payload
 abbrev pub chunk_of : ChunkHead → List ℕ → Message
 chunk_of head payload = chunk_with head.at head.flags head.kind head.cookie payload
 
--- a chunk, by whichever header
+-- a chunk, by whichever header (proto.md, "Structured reply chunk message")
 abbrev pub is_chunk : Message → Bool
 is_chunk (Chunk flags kind cookie payload) = true
 is_chunk (ExtendedChunk flags kind cookie offset payload) = true
 is_chunk message = false
 
--- a request with these fields, by whether its header is extended
+-- a request with these fields, by whether its header is extended (proto.md, "Request
+-- message"; docs/PROFILE.md, "Extended headers")
 abbrev pub request_with : (extended : Bool) → (flags command cookie offset length : ℕ) → List ℕ → Message
 request_with false flags command cookie offset length payload = Request flags command cookie offset length payload
 request_with true flags command cookie offset length payload =
     ExtendedRequest flags command cookie offset length payload
 
+-- the request with the fields of this head, and what stands behind it
 abbrev pub request_of : RequestHead → List ℕ → Message
 request_of head payload =
     request_with head.extended head.flags head.command head.cookie head.offset head.length payload
